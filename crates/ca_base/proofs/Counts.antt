@@ -1,10 +1,11 @@
 -- What calls count, one after another.
-use Rattle.std.proofs.Common.{◌≡◌, ℕ, ◌+◌, ◌≤◌, Err, ap, refl, ◌∙◌, arith, vec_len}
+use Rattle.std.proofs.Common.{◌≡◌, ℕ, ◌+◌, ◌≤◌, List, [], ◌++◌, length, Bool, true, false, Ok, Err, ap, sym, refl, ◌∙◌, arith, vec_len, append_assoc, length-append}
 use Rattle.ca_model.specs.declared.outcome.Spent.{Spent}
 use Rattle.ca_node.specs.Told.{MyTree}
 use Rattle.ca_base.specs.declared.taking.NoRow.{NoRow}
 use Rattle.ca_base.specs.declared.taking.NoRow.TheVariants as why
-use Rattle.ca_base.specs.Counting.{losses, IsSpent, HasFound, HasMet, HasPutBack, PutsBack}
+use Rattle.ca_base.specs.Counting.{losses, IsSpent, HasCleared, HasFound, HasMet, HasPutBack, PutsBack, TakesKept}
+use Rattle.ca_rows.specs.declared.kept.Kept.{Kept}
 use Rattle.ca_rows.specs.declared.kept.KeptRows.{KeptRows}
 
 -- Two calls, one after the other.
@@ -27,40 +28,68 @@ pub met_both : (a b c d : ℕ) (k m n : MyTree) → HasMet a b k m → HasMet c 
 met_both a b c d k m n x y = let e = x.0 in let w = x.1 in let e' = y.0 in let w' = y.1 in
     (omega arith, omega arith)
 
+-- The oldest rows were taken, and then the oldest ones of those that were left.
+pub takes_both : (these those : List Kept) (kept kept' kept'' : KeptRows)
+    → TakesKept these kept kept' → TakesKept those kept' kept'' → TakesKept (these ++ those) kept kept''
+takes_both these those kept kept' kept'' one two =
+    one ∙ (ap (λ ks. these ++ ks) two ∙ sym (append_assoc these those kept''.rows.items))
+
+-- None was taken.
+pub takes_none : (kept kept' : KeptRows) → kept' ≡ kept → TakesKept [] kept kept'
+takes_none kept kept' same = ap (λ (k : KeptRows). k.rows.items) (sym same)
+
 -- Rows were put back twice.
 pub back_both : (a b : ℕ) (k m l : MyTree) (kept kept' kept'' : KeptRows) → losses k + a ≤ losses m
     → losses m + b ≤ losses l
     → PutsBack a k m kept kept' → PutsBack b m l kept' kept'' → PutsBack (a + b) k l kept kept''
-back_both a b k m l kept kept' kept'' more more' one two = let first = one.0 in let last = two.0 in
-    (omega arith, λ less. two.1 (omega arith) ∙ one.1 (omega arith))
+back_both a b k m l kept kept' kept'' more more' one two = let first = one.1 in let last = two.1 in
+    let long = length-append one.0 two.0 in (
+      one.0 ++ two.0,
+      omega arith,
+      λ less. takes_both one.0 two.0 kept kept' kept'' (one.2 (omega arith)) (two.2 (omega arith)),
+    )
 
 -- Nothing was put back, and so many exchanges were lost by something else.
 pub none_back : (else : ℕ) (m m' : MyTree) (kept kept' : KeptRows) → losses m' ≡ losses m + else
     → kept' ≡ kept → PutsBack else m m' kept kept'
 none_back else m m' kept kept' lost same =
-    (let as_many = ap (λ (k : KeptRows). vec_len k.rows) same in omega arith, λ _. same)
+    let as_many = ap (λ (k : KeptRows). vec_len k.rows) same in
+    ([], omega arith, λ _. takes_none kept kept' same)
 
 -- Nothing was lost until these rows were to be put back.
 as_begun : (else : ℕ) (k m l : MyTree) (kept kept0 kept' : KeptRows) → losses m ≡ losses k
-    → kept0 ≡ kept → PutsBack else m l kept0 kept'
+    → ((these : List Kept) × TakesKept these kept kept0) → PutsBack else m l kept0 kept'
     → PutsBack else k l kept kept'
-as_begun else k m l kept kept0 kept' same list h = let sum = h.0 in
-    let as_many = ap (λ (x : KeptRows). vec_len x.rows) list in
-    (omega arith, λ less. h.1 (omega arith) ∙ list)
+as_begun else k m l kept kept0 kept' same first h = let sum = h.1 in
+    let as_many = ap length first.1 ∙ length-append first.0 kept0.rows.items in
+    let long = length-append first.0 h.0 in (
+      first.0 ++ h.0,
+      omega arith,
+      λ less. takes_both first.0 h.0 kept kept0 kept' first.1 (h.2 (omega arith)),
+    )
 
 -- No row was taken, and those that were taken before are put back.
 pub back_after : (S T : Type 0) (reason : NoRow) (k m0 m l : MyTree)
-    (kept kept0 kept' kept'' : KeptRows) → losses m0 ≡ losses k → kept0 ≡ kept
-    → HasFound {T = S} (Err reason) m0 m → losses m0 ≤ losses m
+    (kept kept0 kept' kept'' : KeptRows) → losses m0 ≡ losses k
+    → ((these : List Kept) × TakesKept these kept kept0) → HasFound {T = S} (Err reason) m0 m → losses m0 ≤ losses m
     → HasPutBack {T = S} (Err reason) m0 m kept0 kept' → losses m ≤ losses l
     → PutsBack 0 m l kept' kept'' → HasPutBack {T = T} (Err reason) k l kept kept''
-back_after S T why.Empty k m0 m l kept kept0 kept' kept'' same list found more one more' two =
-    as_begun 0 k m0 l kept kept0 kept'' same list
+back_after S T why.Empty k m0 m l kept kept0 kept' kept'' same first found more one more' two =
+    as_begun 0 k m0 l kept kept0 kept'' same first
     (back_both 0 0 m0 m l kept0 kept' kept'' (omega arith) (omega arith) one two)
-back_after S T why.Lost k m0 m l kept kept0 kept' kept'' same list found more one more' two =
+back_after S T why.Lost k m0 m l kept kept0 kept' kept'' same first found more one more' two =
     let lost = found.0 in
-    as_begun 1 k m0 l kept kept0 kept'' same list
+    as_begun 1 k m0 l kept kept0 kept'' same first
     (back_both 1 0 m0 m l kept0 kept' kept'' (omega arith) (omega arith) one two)
-back_after S T why.Worn k m0 m l kept kept0 kept' kept'' same list found more one more' two =
-    as_begun 0 k m0 l kept kept0 kept'' same list
+back_after S T why.Worn k m0 m l kept kept0 kept' kept'' same first found more one more' two =
+    as_begun 0 k m0 l kept kept0 kept'' same first
     (back_both 0 0 m0 m l kept0 kept' kept'' (omega arith) (omega arith) one two)
+
+-- Nothing was put back until a base was to be exchanged.
+pub cleared_after : (won : Bool) (k m l : MyTree) (kept kept0 kept1 kept' : KeptRows)
+    → losses m ≡ losses k → ((these : List Kept) × TakesKept these kept kept0) → kept1 ≡ kept0
+    → HasCleared (Ok won) m l kept1 kept' → HasCleared (Ok won) k l kept kept'
+cleared_after true k m l kept kept0 kept1 kept' same first list h = tt
+cleared_after false k m l kept kept0 kept1 kept' same first list h =
+    as_begun 1 k m l kept kept1 kept' same
+    (first.0, first.1 ∙ ap (λ (x : KeptRows). first.0 ++ x.rows.items) (sym list)) h

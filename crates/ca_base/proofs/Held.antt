@@ -1,6 +1,7 @@
 -- The rows that a pass holds, as it takes, writes, puts back and retires.
 use Rattle.std.proofs.Common.{◌≡◌, ◌≢◌, ℕ, true, false, ◌<◌, ◌≤◌, List, [], ◌∷◌, length, Vec, sym, refl, ap, ◌∙◌, subst, inl, inr, ⊎_elim, arith}
 use Rattle.std.specs.Global.{Global}
+use Rattle.std.specs.declared.option.Option.TheVariants as again
 use mathlib.Core.Logic.{dite}
 use mathlib.Core.Option.{some, none, some-injective, some-ne-none}
 use native.Mathlib.Decide.{ℕ_discrete}
@@ -21,10 +22,11 @@ use Rattle.ca_rows.specs.declared.kept.KeptRows.{KeptRows}
 use Rattle.ca_rows.specs.declared.taken.Taken.TheVariants.{Row}
 use Rattle.ca_rows.specs.Calls.{TakesRow, PutsRow}
 use Rattle.ca_rows.specs.Claims.{claim_of, claimed, dropped}
-use Rattle.ca_rows.specs.Kept.{AreKept}
+use Rattle.ca_rows.specs.Kept.{kept_of, AreKept}
+use Rattle.ca_rows.specs.Reclaiming.{Reuses}
 use Rattle.ca_rows.proofs.Claiming.{claimed_here, claimed_else, dropped_here, dropped_else}
-use Rattle.ca_rows.proofs.HeldCount.{taken_one_more, dropped_one_less, written_no_more, claimed_one_less}
-use Rattle.ca_rows.proofs.Keeping.{claimed_too, dropped_too, kept_as}
+use Rattle.ca_rows.proofs.HeldCount.{dropped_no_more, taken_one_more, dropped_one_less, written_no_more, claimed_one_less}
+use Rattle.ca_rows.proofs.Keeping.{here_is, claimed_too, dropped_too, kept_as}
 use Rattle.ca_rows.specs.Layout.{row_words}
 
 not_kept : (claims : List Claimed) (row : ℕ) (its : List ℕ) (t : ℕ)
@@ -45,45 +47,56 @@ kept_still rows kept claims claims' row its new k was now others =
     (λ n. sym (others r n) ∙ e))
     (λ r t e. others r (λ f. not_kept claims row its t was (ap (claim_of claims) (sym f) ∙ e)) ∙ e)
 
+-- A row that wasn't held is.
+holds_too : (rows : ℕ) (kept kept' : Vec Kept Global) (claims : List Claimed) (held : List ℕ)
+    (row : ℕ) (its : List ℕ) → HasHeld rows kept claims held
+    → ((x : List ℕ) → claim_of claims row ≢ some (Holds x)) → 0 < row → row ≤ rows
+    → length its ≡ row_words → AreKept rows (claimed row (Holds its) claims) kept'
+    → (¬ IsIn row held) × HasHeld rows kept' (claimed row (Holds its) claims) (row ∷ held)
+holds_too rows kept kept' claims held row its h unheld lo hi long list = (
+  new,
+  record {
+    are_kept = list;
+    only = λ r c e. dite (ℕ_discrete r row) (λ (f : r ≡ row). inr (0, ap some (sym f)))
+        (λ n. ⊎_elim (λ k. inl k)
+        (λ i. inr (in_rest r row held i))
+        (h.only r c (sym (claimed_else claims row r (Holds its) n) ∙ e)));
+    each = λ r i. ⊎_elim
+        (λ (f : row ≡ r). subst (λ (y : ℕ). (0 < y) × (y ≤ rows)
+        × ((x : List ℕ) × (length x ≡ row_words)
+        × (claim_of (claimed row (Holds its) claims) y ≡ some (Holds x)))) f (
+          lo,
+          hi,
+          (its, long, claimed_here claims row (Holds its)),
+        ))
+        (λ (j : IsIn r held). let w = h.each r j in (
+          w.0,
+          w.1,
+          (
+            w.2.0,
+            w.2.1,
+            claimed_else claims row r (Holds its) (λ f. new (subst (λ (y : ℕ). IsIn y held) f j))
+                ∙ w.2.2,
+          ),
+        ))
+        (in_more row r held i);
+  },
+)
+  where
+    new : ¬ IsIn row held
+    new i = let w = h.each row i in unheld w.2.0 w.2.2
+
 module _ (rows : ℕ) (kept : Vec Kept Global) where
   -- A row that nobody claimed was taken.
   pub took : (claims : List Claimed) (held : List ℕ) (row : ℕ) (its : List ℕ)
       → HasHeld rows kept claims held → claim_of claims row ≡ none → 0 < row
       → row ≤ rows → length its ≡ row_words → (¬ IsIn row held)
       × HasHeld rows kept (claimed row (Holds its) claims) (row ∷ held)
-  took claims held row its h free lo hi long = (
-    new,
-    record {
-      are_kept = claimed_too rows claims kept h.are_kept row (Holds its) (λ t e. cc)
-          (λ t e. some-ne-none (Keeps t) (sym e ∙ free));
-      only = λ r c e. dite (ℕ_discrete r row) (λ (f : r ≡ row). inr (0, ap some (sym f)))
-          (λ n. ⊎_elim (λ k. inl k)
-          (λ i. inr (in_rest r row held i))
-          (h.only r c (sym (claimed_else claims row r (Holds its) n) ∙ e)));
-      each = λ r i. ⊎_elim
-          (λ (f : row ≡ r). subst (λ (y : ℕ). (0 < y) × (y ≤ rows)
-          × ((x : List ℕ) × (length x ≡ row_words)
-          × (claim_of (claimed row (Holds its) claims) y ≡ some (Holds x)))) f (
-            lo,
-            hi,
-            (its, long, claimed_here claims row (Holds its)),
-          ))
-          (λ (j : IsIn r held). let w = h.each r j in (
-            w.0,
-            w.1,
-            (
-              w.2.0,
-              w.2.1,
-              claimed_else claims row r (Holds its) (λ f. new (subst (λ (y : ℕ). IsIn y held) f j))
-                  ∙ w.2.2,
-            ),
-          ))
-          (in_more row r held i);
-    },
-  )
-    where
-      new : ¬ IsIn row held
-      new i = let w = h.each row i in some-ne-none (Holds w.2.0) (sym w.2.2 ∙ free)
+  took claims held row its h free lo hi long =
+      holds_too rows kept kept claims held row its h
+      (λ x e. some-ne-none (Holds x) (sym e ∙ free)) lo hi long
+      (claimed_too rows claims kept h.are_kept row (Holds its) (λ t e. cc)
+      (λ t e. some-ne-none (Keeps t) (sym e ∙ free)))
 
   -- A row that was held was put back.
   pub put_back : (claims : List Claimed) (held : List ℕ) (row : ℕ) → ¬ IsIn row held
@@ -190,6 +203,26 @@ took_row rows kept kept' m m' row size told same held few h = let lo = told.0 in
       t.0,
       subst (λ (x : MyTree × KeptRows). AreHeld rows x.1.rows x.0.0 (row ∷ held))
           (λ i. (sym told.3.2 i, sym same i))
+          (t.1, record { now = omega arith; ever = omega arith }),
+    )
+
+-- By what taking a kept row again told.
+pub reused_row : (rows : ℕ) (kept kept' : KeptRows) (m m' : MyTree) (row : ℕ)
+    → Reuses (again.Some row) m m' kept kept'
+    → AreKept rows m'.0.claims kept'.rows → (held : List ℕ)
+    → length held < 8 → AreHeld rows kept.rows m.0 held → (¬ IsIn row held)
+    × AreHeld rows kept'.rows m'.0 (row ∷ held)
+reused_row rows kept kept' m m' row told list held few h = let its : List ℕ = told.3.0 in
+    let claims : List Claimed = claimed row (Holds its) m.0.claims in
+    let own = h.0.are_kept.are.are_claimed row told.0
+    (ap (λ (ks : List Kept). kept_of ks row) told.2
+    ∙ here_is (record { row = row; at = told.0 }) kept'.rows.items row refl) in
+    let t = holds_too rows kept.rows kept'.rows m.0.claims held row its h.0
+    (λ x e. not_kept m.0.claims row x told.0 e own.2) own.0 own.1 told.3.1
+    (subst (λ (x : MyTree). AreKept rows x.0.claims kept'.rows) told.3.2 list) in
+    let less = dropped_no_more row m.0.claims in let now = h.1.now in let ever = h.1.ever in (
+      t.0,
+      subst (λ (x : MyTree). AreHeld rows kept'.rows x.0 (row ∷ held)) (sym told.3.2)
           (t.1, record { now = omega arith; ever = omega arith }),
     )
 

@@ -1,9 +1,10 @@
 -- What calls count: the exchanges that they lost, and how often they found the pool's head empty or worn.
-use Rattle.std.specs.Prelude.{◌≡◌, ℕ, ◌+◌, ◌-◌, ◌<◌, ◌≤◌, min, Bool, true, false, Result, Ok, Err, vec_len}
+use Rattle.std.specs.Prelude.{◌≡◌, ℕ, ◌+◌, ◌-◌, ◌<◌, ◌≤◌, ◌++◌, min, List, length, Bool, true, false, Result, Ok, Err, vec_len}
 use Rattle.ca_model.specs.declared.outcome.Spent.{Spent}
 use Rattle.ca_node.specs.Told.{MyTree}
 use Rattle.ca_base.specs.declared.taking.NoRow.{NoRow}
 use Rattle.ca_base.specs.declared.taking.NoRow.TheVariants as why
+use Rattle.ca_rows.specs.declared.kept.Kept.{Kept}
 use Rattle.ca_rows.specs.declared.kept.KeptRows.{KeptRows}
 
 -- how many exchanges a seat lost: of the pool's head, and of a link
@@ -34,14 +35,19 @@ HasEnded (Ok true) m m' = HasMet 0 0 m m' × (losses m' ≡ losses m)
 HasEnded (Ok false) m m' = (losses m < losses m') × HasMet 0 0 m m'
 HasEnded (Err why) m m' = HasFound {T = Bool} (Err why) m m'
 
--- Rows that were held were put back: each exchange that was lost by it is that of one row, which is kept now; where none was, the same rows are kept
--- as before. So many exchanges were lost by something else.
+-- These rows were kept before, the oldest ones, and are taken; the others are kept still, and no more are.
+abbrev pub TakesKept : List Kept → KeptRows → KeptRows → Type 0
+TakesKept these kept kept' = kept.rows.items ≡ these ++ kept'.rows.items
+
+-- Rows that were held were put back, some of which had been kept before: each exchange that was lost by it is that of one row, which is kept now; where
+-- none was, the others are kept still, and no more are. So many exchanges were lost by something else.
 abbrev pub PutsBack : ℕ → MyTree → MyTree → KeptRows → KeptRows → Type 0
-PutsBack else m m' kept kept' = (vec_len kept'.rows + losses m + else ≡ vec_len kept.rows + losses m') × (losses m' ≤ losses m + else → kept' ≡ kept)
+PutsBack else m m' kept kept' = (these : List Kept) × (vec_len kept'.rows + length these + losses m + else ≡ vec_len kept.rows + losses m')
+    × (losses m' ≤ losses m + else → TakesKept these kept kept')
 
 -- The same of a call that takes rows, where one exchange may have been lost by taking.
 abbrev pub HasPutBack : {T : Type 0} → Result T NoRow → MyTree → MyTree → KeptRows → KeptRows → Type 0
-HasPutBack (Ok x) m m' kept kept' = kept' ≡ kept
+HasPutBack (Ok x) m m' kept kept' = (these : List Kept) × TakesKept these kept kept'
 HasPutBack (Err why.Empty) m m' kept kept' = PutsBack 0 m m' kept kept'
 HasPutBack (Err why.Lost) m m' kept kept' = PutsBack 1 m m' kept kept'
 HasPutBack (Err why.Worn) m m' kept kept' = PutsBack 0 m m' kept kept'

@@ -6,7 +6,7 @@ use Rattle.ca_base.specs.Putting.{first_note}
 use Rattle.ca_base.specs.Taking.{AreHeld}
 use Rattle.ca_rows.specs.declared.space.Pass.{Pass}
 use Rattle.ca_rows.specs.declared.space.Space.{Space}
-use Rattle.ca_rows.specs.Calls.{IsSame}
+use Rattle.ca_rows.specs.Calls.{IsNumbered, IsSame}
 use Rattle.ca_rows.specs.Passes.{IsOn}
 
 module _ {R : Type 0} where
@@ -14,9 +14,10 @@ module _ {R : Type 0} where
   abbrev pub shown_last : Pass R TreeView → Note
   shown_last pass = first_note pass.seat.me.0.upper.notes
 
-  -- The pass is one of this space. It is pinned, and holds no row.
+  -- The pass is one of this space, and has its number. It is pinned, and holds no row.
   pub record IsReady (space : Space R TreeView) (pass : Pass R TreeView) : Type 0 where
     pub own : IsOn space pass
+    pub numbered : IsNumbered pass.number pass.seat.me.0.pin
     pub pinned : pass.seat.me.0.pin.pinned ≡ true
     pub number : 0 < pass.seat.me.0.upper.number
     pub none : AreHeld space.table.shared.key.rows pass.kept.rows pass.seat.me.0 []

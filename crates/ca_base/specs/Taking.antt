@@ -6,13 +6,17 @@ use Rattle.ca_node.specs.Links.{IsIn}
 use Rattle.ca_node.specs.TreeView.{TreeView}
 use Rattle.ca_base.specs.declared.taking.NoRow.{NoRow}
 use Rattle.ca_rows.specs.declared.kept.Kept.{Kept}
+use Rattle.ca_rows.specs.declared.space.Pass.{Pass}
+use Rattle.ca_rows.specs.declared.space.Space.{Space}
 use Rattle.ca_rows.specs.declared.view.Claim.{Claim}
 use Rattle.ca_rows.specs.declared.view.Claim.TheVariants.{Holds, Unlinked, Keeps}
 use Rattle.ca_rows.specs.declared.view.Claimed.{Claimed}
 use Rattle.ca_rows.specs.declared.view.View.{View}
+use Rattle.ca_rows.specs.Calls.{IsNumbered}
 use Rattle.ca_rows.specs.Claims.{claim_of, held_count}
 use Rattle.ca_rows.specs.Kept.{AreKept}
 use Rattle.ca_rows.specs.Layout.{row_words}
+use Rattle.ca_rows.specs.Passes.{IsReading}
 
 -- By these claims a seat holds these rows, and has no others but those that it keeps, which are those of the list.
 pub record HasHeld (rows : ℕ) (kept : Vec Kept Global) (claims : List Claimed) (held : List ℕ) : Type 0 where
@@ -28,6 +32,12 @@ pub record HoldsFew (count : ℕ) (view : View TreeView) : Type 0 where
 -- A seat holds these rows, each once, and has no others but those that it keeps.
 abbrev pub AreHeld : ℕ → Vec Kept Global → View TreeView → List ℕ → Type 0
 AreHeld rows kept view held = HasHeld rows kept view.claims held × HoldsFew (length held) view
+
+-- The pass may take rows: it is pinned, has its number, and its list is that of the rows that it keeps.
+pub record MayTake {R : Type 0} (space : Space R TreeView) (pass : Pass R TreeView) : Type 0 where
+  pub reading : IsReading space pass
+  pub numbered : IsNumbered pass.number pass.seat.me.0.pin
+  pub list : AreKept space.table.shared.key.rows pass.seat.me.0.claims pass.kept.rows
 
 -- One row more is held, or none.
 abbrev pub HasTaken : Result ℕ NoRow → List ℕ → (List ℕ → Type 0) → Type 0

@@ -10,7 +10,7 @@ ghost use Rattle.ca_node.specs.Links.{AreApart};
 ghost use Rattle.ca_base.specs.Counting.{IsSpent, HasCleared, HasEnded, HasFound, HasPutBack};
 ghost use Rattle.ca_base.specs.Targets.{IsTarget};
 ghost use Rattle.ca_base.specs.Splitting.{HasTakenThree, HasSplit, IsHalving};
-ghost use Rattle.ca_base.specs.Taking.{AreHeld};
+ghost use Rattle.ca_base.specs.Taking.{AreHeld, MayTake};
 ghost use Rattle.ca_rows.specs.Passes.{IsOn, IsStillPass, sizes, known, view};
 ghost use Rattle.ca_node.specs.TreePasses.{tree_of};
 ghost use Rattle.ca_base.specs.Readiness.{IsReady, StaysReady, shown_last};
@@ -83,13 +83,13 @@ pub fn split_at(
     Ok(divide_in::<Brand>(space, pass, cursor, fork, halving, spent))
 }
 
-// Takes three free rows. Where it finds fewer, they are put back.
+// Takes three rows. Where it finds fewer, they are put back.
 fn take_three(
     space: &TreeSpace,
     pass: &mut TreePass,
     spent: &mut Spent,
 ) -> Result<(u32, u32, u32), NoRow>
-    requires own { IsOn space.now pass.old }
+    requires may { MayTake space.now pass.old }
     requires none { AreHeld (sizes space.now).rows pass.old.kept.rows (view pass.old) [] }
     ensures frame { IsStillPass pass.old pass.new }
     ensures taken { HasTakenThree result (AreHeld (sizes space.now).rows pass.new.kept.rows (view pass.new)) }

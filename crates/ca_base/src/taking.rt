@@ -1,8 +1,11 @@
 //! Rows are taken for a call, and put back.
-ghost use Rattle.std.specs.Prelude.{◌<◌, ℕ, List, [], ◌∷◌, length};
+ghost use Rattle.std.specs.Prelude.{◌≡◌, ◌+◌, ◌<◌, ℕ, List, [], ◌∷◌, length};
+ghost use mathlib.Core.Option.{some};
 ghost use Rattle.ca_node.specs.Links.{IsIn};
 ghost use Rattle.ca_base.specs.Counting.{IsSpent, HasFound, HasMet, HasPutBack, PutsBack};
-ghost use Rattle.ca_base.specs.Taking.{AreHeld, HasTaken, HasTakenTwo};
+ghost use Rattle.ca_base.specs.Taking.{AreHeld, HasTaken, HasTakenTwo, MayTake};
+ghost use Rattle.ca_rows.specs.declared.view.Claim.TheVariants.{Keeps as IsKept};
+ghost use Rattle.ca_rows.specs.Claims.{claim_of};
 ghost use Rattle.ca_rows.specs.Passes.{IsOn, IsStillPass, StillKeepsList, sizes, known, view};
 
 use crate::spending::lose;
@@ -21,9 +24,26 @@ pub enum NoRow {
     Worn,
 }
 
-/// Takes a free row.
+/// Takes a row: the one that the pass keeps for longest, where nobody can have a note on it any more, else a free one.
 pub fn take(space: &TreeSpace, pass: &mut TreePass, spent: &mut Spent) -> Result<u32, NoRow>
+    requires may { MayTake space.now pass.old }
+    ensures frame { IsStillPass pass.old pass.new }
+    ensures taken { (held : List ℕ) → length held < 8 → AreHeld (sizes space.now).rows pass.old.kept.rows (view pass.old) held
+        → HasTaken result held (AreHeld (sizes space.now).rows pass.new.kept.rows (view pass.new)) }
+    ensures counted { IsSpent spent.old spent.new (known pass.old) (known pass.new) }
+    ensures found { HasFound result (known pass.old) (known pass.new) }
+    ensures back { HasPutBack result (known pass.old) (known pass.new) pass.old.kept pass.new.kept }
+{
+    match space.reuse_row(pass) {
+        Some(row) => Ok(row),
+        None => take_free(space, pass, spent),
+    }
+}
+
+// Takes a free row, where the pass keeps none that it may hold again.
+fn take_free(space: &TreeSpace, pass: &mut TreePass, spent: &mut Spent) -> Result<u32, NoRow>
     requires own { IsOn space.now pass.old }
+    requires young { (row t : ℕ) → claim_of (view pass.old).claims row ≡ some (IsKept t) → (view pass.old).pin.told < t + 2 }
     ensures frame { StillKeepsList pass.old pass.new }
     ensures taken { (held : List ℕ) → length held < 8 → AreHeld (sizes space.now).rows pass.old.kept.rows (view pass.old) held
         → HasTaken result held (AreHeld (sizes space.now).rows pass.new.kept.rows (view pass.new)) }
@@ -42,13 +62,13 @@ pub fn take(space: &TreeSpace, pass: &mut TreePass, spent: &mut Spent) -> Result
     }
 }
 
-/// Takes two free rows: the one that was put back last, and the one below it. Where it finds but one, that one is put back.
+/// Takes two rows. Where it finds but one, that one is put back.
 pub fn take_two(
     space: &TreeSpace,
     pass: &mut TreePass,
     spent: &mut Spent,
 ) -> Result<(u32, u32), NoRow>
-    requires own { IsOn space.now pass.old }
+    requires may { MayTake space.now pass.old }
     requires none { AreHeld (sizes space.now).rows pass.old.kept.rows (view pass.old) [] }
     ensures frame { IsStillPass pass.old pass.new }
     ensures taken { HasTakenTwo result (AreHeld (sizes space.now).rows pass.new.kept.rows (view pass.new)) }

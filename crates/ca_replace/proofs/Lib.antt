@@ -9,6 +9,7 @@ pub mod FullBases
 pub mod GoingOn
 pub mod Growing
 pub mod Meeting
+pub mod Numbering
 pub mod OneHand
 pub mod Pinning
 pub mod Reclaiming

@@ -12,12 +12,16 @@ use ca_node::TreePass;
 use ca_rows::Reclaimed;
 
 // From so many kept rows on a call gives rows back as it ends.
-const MANY: u32 = 48;
+const MANY: u32 = 60;
+
+// From so many on the epoch is moved as a call ends, where no kept row can be taken again yet.
+const SOME: u32 = 16;
 
 // The last value of the epoch.
 const LAST_EPOCH: u64 = 1 << 62;
 
-/// Gives rows back where the pass keeps many, and answers how many exchanges it lost by that.
+/// Sees to it that kept rows can be taken again, where the pass keeps some, and gives rows back, where it keeps many. It answers how many exchanges it
+/// lost by that.
 pub(crate) fn keep_few(tree: &Tree, pass: &mut TreePass) -> u32
     requires resting { IsAtRest tree.now.space pass.old }
     ensures frame { StaysAtRest tree.now.space pass.old pass.new }
@@ -26,10 +30,23 @@ pub(crate) fn keep_few(tree: &Tree, pass: &mut TreePass) -> u32
     ensures lost { (view pass.new).lost ≡ (view pass.old).lost + result }
     ensures left { (view pass.new).pin.left ≡ (view pass.old).pin.left }
 {
-    if pass.kept() < MANY {
-        return 0;
+    match pass.kept() {
+        0..SOME => 0,
+        SOME..MANY => grow_old(tree, pass),
+        _ => give_back_kept(tree, pass).losses,
     }
-    give_back_kept(tree, pass).losses
+}
+
+// Moves the epoch, where no kept row can be taken again yet, and answers how many exchanges were lost by that.
+fn grow_old(tree: &Tree, pass: &mut TreePass) -> u32
+    requires resting { IsAtRest tree.now.space pass.old }
+    ensures frame { StaysAtRest tree.now.space pass.old pass.new }
+    ensures gave { GaveBack (known pass.old) (known pass.new) }
+    ensures fewer { vec_len pass.new.kept.rows ≤ vec_len pass.old.kept.rows }
+    ensures lost { (view pass.new).lost ≡ (view pass.old).lost + result }
+    ensures left { (view pass.new).pin.left ≡ (view pass.old).pin.left }
+{
+    tree.space.advance(pass)
 }
 
 /// What becomes of a call whose attempt found no free row, and began with so many rows kept: rows are given back, and another attempt

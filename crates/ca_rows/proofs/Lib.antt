@@ -9,6 +9,7 @@ pub mod HeldCount
 pub mod Keeping
 mod Listing
 pub mod Making
+pub mod NoneOld
 pub mod OwnWords
 mod PinSteps
 mod Pinned

@@ -16,6 +16,7 @@ use Rattle.ca_rows.specs.Told.{Mine, Regained}
 use Rattle.ca_rows.proofs.Claiming.{claim_mine, claim_others, claimed_here, claimed_else}
 use Rattle.ca_rows.proofs.Rules.{St, Rule, uppers, Is, alone_now, keeps_rule}
 use Rattle.ca_rows.proofs.Steps.{owned, row_of, row_of_long, row_of_spells}
+use Rattle.ca_rows.specs.Words.{epoch}
 
 module _ {U : Type 0} (linked lent : List ℕ → ℕ → Type 0) (noted : List ℕ → U → ℕ → Type 0)
     (fact : Sizes → ℕ → List ℕ → List U → Type 0)
@@ -31,7 +32,7 @@ module _ {U : Type 0} (linked lent : List ℕ → ℕ → Type 0) (noted : List 
 
   module _ (s : S) (r : R s) (id : ℕ) (d : View U) (at : get_elem? s.views id ≡ some d) (q t : ℕ)
       (kept : claim_of d.claims q ≡ some (Keeps t))
-      (old : t + 2 ≤ d.pin.scan) where
+      (epoch_then : ℕ) (old : t + 2 ≤ epoch_then) (past : epoch_then ≤ epoch s.words) where
     -- Who has a note on it was pinned no later than its age, and the epoch moves at most once while
     -- a pass is pinned.
     unnoted : (m : ℕ) → ¬ NotedAt noted s.words s.views m q
@@ -40,7 +41,6 @@ module _ {U : Type 0} (linked lent : List ℕ → ℕ → Type 0) (noted : List 
         let pinned = (r.seat n.seat n.d n.here).noted_pinned q n.note in
         let pin = (r.pins.each n.seat n.d.pin (at_map pin_of s.views n.seat n.d n.here)).pinned_at
         pinned in
-        let past = (r.pins.each id d.pin (at_map pin_of s.views id d at)).scan_past in
         let young = claim.1 in
         let before = claim.3.2 m n in
         let is = n.at in
@@ -54,17 +54,17 @@ module _ {U : Type 0} (linked lent : List ℕ → ℕ → Type 0) (noted : List 
     holding = let xs = claimed q (Holds (row_of s.words q)) d.claims in
         record d { claims = xs; most = max d.most (held_count xs) }
 
-    regain_step : R record {
+    regain_step : (i : ℕ) → R record {
       words =
-          set s.words 1 (get_or s.words 1 0);
+          set s.words i (get_or s.words i 0);
       homes = s.homes;
       views = set s.views id holding;
     }
-    regain_step = let o = owned linked lent noted fact frames z s r id d at q (Keeps t) kept in
+    regain_step i = let o = owned linked lent noted fact frames z s r id d at q (Keeps t) kept in
         let w : View U = holding in
         let agrees = same (uppers linked lent noted fact frames z s) s.words in
         subst (λ (ws : List ℕ). R record { words = ws; homes = s.homes; views = set s.views id w })
-        (sym (set-get_or s.words 1 0))
+        (sym (set-get_or s.words i 0))
         (keeps_rule linked lent noted fact frames z s r id d w at refl refl s.words agrees
         refl (λ _ _ _. refl) refl refl q
         r.owner r.count r.chain
@@ -91,14 +91,29 @@ module _ {U : Type 0} (linked lent : List ℕ → ℕ → Type 0) (noted : List 
         (λ _ _. (o.0, o.1)) (λ c' n. claimed_else d.claims q c' _ n)
         (λ _ k. k) (r.seat id d at).stage_is)
 
+  -- A load after which the seat holds a row that it kept for two epochs before one that is past.
+  holds_again : (slots id : ℕ) (me : Mine U) (i q t then : ℕ) → claim_of me.0.claims q ≡ some (Keeps t)
+      → t + 2 ≤ then → ((s : S) (r : R s) → get_elem? s.views id ≡ some me.0 → then ≤ epoch s.words)
+      → Allows R slots id me i (λ x. x) (Regained q (step slots i 0 0 none) me)
+  holds_again slots id me i q t then kept old past s r _ at _ =
+      let o = owned linked lent noted fact frames z s r id me.0 at q (Keeps t) kept in (
+        holding s r id me.0 at q t kept then old (past s r at),
+        keeps,
+        tt,
+        regain_step s r id me.0 at q t kept then old (past s r at) i,
+        (row_of s.words q, row_of_long s.words z.rows q r.wide o.1, refl),
+      )
+
+  -- It was kept for two epochs before that of the last look at the others.
   pub regains : (slots id : ℕ) (me : Mine U) (q t : ℕ) → claim_of me.0.claims q ≡ some (Keeps t)
       → t + 2 ≤ me.0.pin.scan
       → Allows R slots id me 1 (λ x. x) (Regained q (step slots 1 0 0 none) me)
-  regains slots id me q t kept old s r _ at _ =
-      let o = owned linked lent noted fact frames z s r id me.0 at q (Keeps t) kept in (
-        holding s r id me.0 at q t kept old,
-        keeps,
-        tt,
-        regain_step s r id me.0 at q t kept old,
-        (row_of s.words q, row_of_long s.words z.rows q r.wide o.1, refl),
-      )
+  regains slots id me q t kept old = holds_again slots id me 1 q t me.0.pin.scan kept old
+      (λ s r at. (r.pins.each id me.0.pin (at_map pin_of s.views id me.0 at)).scan_past)
+
+  -- It was kept for two epochs before the one that the pass announced.
+  pub reuses : (slots id : ℕ) (me : Mine U) (i q t : ℕ) → claim_of me.0.claims q ≡ some (Keeps t)
+      → t + 2 ≤ me.0.pin.told
+      → Allows R slots id me i (λ x. x) (Regained q (step slots i 0 0 none) me)
+  reuses slots id me i q t kept old = holds_again slots id me i q t me.0.pin.told kept old
+      (λ s r at. (r.pins.each id me.0.pin (at_map pin_of s.views id me.0 at)).told_past)

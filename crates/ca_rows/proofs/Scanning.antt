@@ -16,7 +16,7 @@ use Rattle.ca_rows.specs.declared.view.View.{View}
 use Rattle.ca_rows.specs.Laws.{Frames}
 use Rattle.ca_rows.specs.Pins.{IsPin, ArePins}
 use Rattle.ca_rows.specs.Rule.{upper_of, pin_of, Ruled}
-use Rattle.ca_rows.specs.Told.{Mine, Began, Scanned, Moved}
+use Rattle.ca_rows.specs.Told.{Mine, Began, Scanned, Moved, Reread}
 use Rattle.ca_rows.specs.Layout.{row_words, pass_words}
 use Rattle.ca_rows.specs.Words.{epoch, announced}
 use Rattle.ca_rows.proofs.OwnWords.{own_is, announced_else}
@@ -321,3 +321,22 @@ module _ {U : Type 0} (linked lent : List ℕ → ℕ → Type 0) (noted : List 
             refl refl),
         (sym is, (λ hit. absurd (miss hit)), λ _. refl),
       ))
+
+  -- The pass's own announcement is loaded.
+  pub rereads : (slots id : ℕ) (me : Mine U) (i : ℕ)
+      → i + pass_words ≡ row_words * z.rows + row_words + pass_words * me.0.pin.number
+      → 0 < me.0.pin.number
+      → Allows R slots id me i (λ x. x) (Reread (step slots i 0 0 none) me)
+  rereads slots id me i is lo s r _ at _ = let d = me.0 in (
+    d,
+    keeps,
+    tt,
+    loaded s r id d at i d.pin d.lost (subst (ArePins r.made s.words)
+        (sym (set_again (map pin_of s.views) id d.pin (here s r id d at))) r.pins) refl refl,
+    (
+      refl,
+      λ pinned. ap (λ (j : ℕ). get_or s.words j 0)
+          (let own = own_is z.rows d.pin.number s.words r.wide lo in omega arith)
+          ∙ (mine s r id d at).present pinned,
+    ),
+  )

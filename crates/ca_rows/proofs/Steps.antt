@@ -15,7 +15,7 @@ use Rattle.ca_rows.specs.declared.view.Stage.TheVariants.{Idle, Saw, Knew}
 use Rattle.ca_rows.specs.declared.view.View.{View}
 use Rattle.ca_rows.specs.Account.{IsClaim, IsRow}
 use Rattle.ca_rows.specs.Chain.{Owner, Free, Linked, Of, IsTop, IsStage}
-use Rattle.ca_rows.specs.Claims.{claim_of, claimed, dropped, held_count, claim_at}
+use Rattle.ca_rows.specs.Claims.{claim_of, claimed, dropped, held_count, claim_at, none_old}
 use Rattle.ca_rows.specs.Laws.{IsNoted, Agrees, Frames}
 use Rattle.ca_rows.specs.Rule.{upper_of, NotedAt}
 use Rattle.ca_rows.specs.Told.{Expects, Mine, with_stage, with_claims, with_most, Looked, Glanced, Peeked, Took, Recalled, Wrote, Gave}
@@ -119,10 +119,10 @@ module _ {U : Type 0} (linked lent : List ℕ → ℕ → Type 0) (noted : List 
   looks slots id me s r _ at small = let t : ℕ = head_tag s.words in let q : ℕ = head_row s.words in
       let d = me.0 in dite (ℕ_discrete q 0)
       (λ (none_free : q ≡ 0). (
-        record d { stage = Saw t 0; empty = d.empty + 1 },
+        record d { stage = Saw t 0; empty = d.empty + none_old d.claims d.claims d.pin.told },
         keeps,
         tt,
-        loaded s r 0 id d (Saw t 0) d.lost (d.empty + 1) d.worn at (subst
+        loaded s r 0 id d (Saw t 0) d.lost (d.empty + none_old d.claims d.claims d.pin.told) d.worn at (subst
             (λ (y : ℕ). IsStage z.rows r.owner s.words (Saw t y)) none_free (saw_head s r)),
         (
           row_inside s r id d at,

@@ -1,5 +1,5 @@
 -- Which rows are a seat's, and why.
-use Rattle.std.specs.Prelude.{◌==◌, ℕ, ◌+◌, cond, List, [], ◌∷◌}
+use Rattle.std.specs.Prelude.{◌==◌, ℕ, ◌+◌, cond, Bool, false, leb, List, [], ◌∷◌}
 use mathlib.Core.Option.{Option, some, none}
 use lib.ListN.{get_elem?}
 use Rattle.ca_rows.specs.declared.view.Claim.{Claim}
@@ -33,6 +33,20 @@ is_held (Returns t its) = 0
 abbrev pub held_count : List Claimed → ℕ
 held_count [] = 0
 held_count (x ∷ xs) = is_held x.claim + held_count xs
+
+-- whether the seat that keeps a row by this claim may hold it again, where it announced this epoch
+abbrev pub may_reuse : Option Claim → ℕ → Bool
+may_reuse none told = false
+may_reuse (some (Holds its)) told = false
+may_reuse (some Lends) told = false
+may_reuse (some Unlinked) told = false
+may_reuse (some (Keeps t)) told = leb (t + 2) told
+may_reuse (some (Returns t its)) told = false
+
+-- 0 where it may hold one of these rows again, else 1
+abbrev pub none_old : List Claimed → List Claimed → ℕ → ℕ
+none_old all [] told = 1
+none_old all (x ∷ xs) told = cond (may_reuse (claim_of all x.row) told) 0 (none_old all xs told)
 
 module _ {U : Type 0} where
   abbrev pub claim_from : Option (View U) → ℕ → Option Claim

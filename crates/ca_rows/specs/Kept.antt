@@ -1,5 +1,5 @@
 -- The rows that a pass keeps, until nobody can have a note on them.
-use Rattle.std.specs.Prelude.{◌≡◌, ◌==◌, ℕ, ◌<◌, ◌≤◌, cond, List, [], ◌∷◌, ◌++◌, take, drop, Vec, vec_capacity}
+use Rattle.std.specs.Prelude.{◌≡◌, ◌==◌, ◌⊎◌, ℕ, ◌+◌, ◌-◌, ◌<◌, ◌≤◌, cond, List, [], ◌∷◌, ◌++◌, length, slice_index_or, take, drop, Vec, vec_capacity}
 use Rattle.std.specs.Global.{Global}
 use mathlib.Core.Option.{Option, some, none}
 use lib.ListN.{get_elem?}
@@ -32,6 +32,10 @@ pub record AreListed (rows : ℕ) (claims : List Claimed) (ks : List Kept) : Typ
   pub rising : Rises ks
   pub are_listed : (r t : ℕ) → claim_of claims r ≡ some (Keeps t) → kept_of ks r ≡ some t
   pub are_claimed : (r t : ℕ) → kept_of ks r ≡ some t → (0 < r) × (r ≤ rows) × (claim_of claims r ≡ some (Keeps t))
+
+-- The first row was retired two epochs before the last one, or there is none.
+abbrev pub HasAged : List Kept → Type 0
+HasAged ks = (length ks ≡ 0) ⊎ ((slice_index_or ks 0 (record { row = 0; at = 0 })).at + 2 ≤ (slice_index_or ks (length ks - 1) (record { row = 0; at = 0 })).at)
 
 -- So is this one, and all rows have room in it.
 pub record AreKept (rows : ℕ) (claims : List Claimed) (kept : Vec Kept Global) : Type 0 where

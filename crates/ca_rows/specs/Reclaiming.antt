@@ -5,13 +5,14 @@ use Rattle.std.specs.declared.option.Option.{Option as Answer}
 use Rattle.std.specs.declared.option.Option.TheVariants.{None, Some}
 use mathlib.Core.Option.{some, none}
 use Rattle.ca_rows.specs.declared.kept.Kept.{Kept}
+use Rattle.ca_rows.specs.declared.kept.KeptRows.{KeptRows}
 use Rattle.ca_rows.specs.declared.reclaimed.Reclaimed.{Reclaimed}
 use Rattle.ca_rows.specs.declared.reclaimed.Round.{Round}
 use Rattle.ca_rows.specs.declared.view.Claim.TheVariants.{Keeps}
 use Rattle.ca_rows.specs.declared.view.Pin.{Pin}
 use Rattle.ca_rows.specs.Claims.{claim_of, held_count}
 use Rattle.ca_rows.specs.Kept.{kept_of}
-use Rattle.ca_rows.specs.Told.{Mine, with_pin}
+use Rattle.ca_rows.specs.Told.{Mine, HoldsAgain, with_pin}
 
 module _ {U : Type 0} where
   -- Kept rows were given back. Nothing else of the pass changed but what it saw of the pool and of the epoch.
@@ -41,6 +42,13 @@ module _ {U : Type 0} where
     -- A row that was given back was kept for two epochs at least; one that is kept still is kept as before, unless an exchange lost.
     pub kept : (r t : ℕ) → claim_of m.0.claims r ≡ some (Keeps t) → (claim_of m'.0.claims r ≡ none) × (t + 2 ≤ m'.0.pin.scan)
         ⊎ ((t' : ℕ) × (t ≤ t') × (claim_of m'.0.claims r ≡ some (Keeps t')) × (m'.0.lost ≡ m.0.lost → t' ≡ t))
+
+-- The row that the pass kept first of all is held again, since it was kept for two epochs before the one that the pass announced; or no row was, and nothing
+-- changed.
+abbrev pub Reuses : {U : Type 0} → Answer ℕ → Mine U → Mine U → KeptRows → KeptRows → Type 0
+Reuses None m m' kept kept' = (m' ≡ m) × (kept' ≡ kept) × ((r t : ℕ) → kept_of kept.rows.items r ≡ some t → m.0.pin.told < t + 2)
+Reuses (Some row) m m' kept kept' = (at : ℕ) × (at + 2 ≤ m.0.pin.told) × (kept.rows.items ≡ record { row = row; at = at } ∷ kept'.rows.items)
+    × HoldsAgain row m m'
 
 -- The row at this place of the list was given back, and the list stays; or the exchange lost, those behind it were taken out up to the end, and it is kept
 -- since another epoch, which isn't below that of the look, behind the others.

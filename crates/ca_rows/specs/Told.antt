@@ -9,7 +9,7 @@ use Rattle.ca_rows.specs.declared.view.Stage.{Stage}
 use Rattle.ca_rows.specs.declared.view.Stage.TheVariants.{Idle, Saw, Knew}
 use Rattle.ca_rows.specs.declared.view.Claimed.{Claimed}
 use Rattle.ca_rows.specs.declared.view.View.{View}
-use Rattle.ca_rows.specs.Claims.{claim_of, claimed, dropped, held_count}
+use Rattle.ca_rows.specs.Claims.{claim_of, claimed, dropped, held_count, none_old}
 use Rattle.ca_rows.specs.Layout.{row_words, row_limit, last_tag}
 
 abbrev pub Mine : Type 0 → Type 0
@@ -32,9 +32,9 @@ module _ {U : Type 0} where
   abbrev pub missed : Mine U → Mine U
   missed m = (record m.0 { stage = Idle; lost = m.0.lost + 1 }, m.1)
 
-  -- The head was empty as a row was to be taken, and had this tag.
+  -- The head was empty as a row was to be taken, and had this tag. That is counted where the seat keeps no row that it may hold again.
   abbrev pub found_empty : Mine U → ℕ → Mine U
-  found_empty m t = (record m.0 { stage = Saw t 0; empty = m.0.empty + 1 }, m.1)
+  found_empty m t = (record m.0 { stage = Saw t 0; empty = m.0.empty + none_old m.0.claims m.0.claims m.0.pin.told }, m.1)
 
   -- It had this row, but its tag was at the last value.
   abbrev pub found_worn : Mine U → ℕ → Mine U
@@ -143,6 +143,10 @@ module _ {U : Type 0} where
   abbrev pub Moved : Step (Unit {0}) → Mine U → ℕ → Mine U → Type 0
   Moved st m n m' = (st.first ≡ m.0.pin.scan) × (n ≡ st.first → m' ≡ with_pin m (record m.0.pin { scan = st.second; upto = 0 }))
       × (n ≢ st.first → m' ≡ (record m.0 { lost = m.0.lost + 1 }, m.1))
+
+  -- The pass's own announcement was loaded: while it is pinned, that is one more than the epoch which it told.
+  abbrev pub Reread : Step (Unit {0}) → Mine U → ℕ → Mine U → Type 0
+  Reread st m n m' = (m' ≡ m) × (m.0.pin.pinned ≡ true → n ≡ m.0.pin.told + 1)
 
   -- The pass holds a row that it kept.
   abbrev pub HoldsAgain : ℕ → Mine U → Mine U → Type 0

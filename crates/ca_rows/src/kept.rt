@@ -1,5 +1,6 @@
 //! The rows that a pass keeps.
 ghost use Rattle.std.specs.Prelude.{◌≡◌, ◌↔◌, IsTrue, ℕ, ◌<◌, ◌≤◌, ◌+◌, ◌++◌, ◌∷◌, [], take, drop, slice_index_or, vec_len, vec_capacity, IfOk};
+ghost use Rattle.ca_rows.specs.Kept.{HasAged};
 ghost use Rattle.ca_rows.specs.Layout.{row_limit};
 
 use std::alloc::{AllocError, Global};
@@ -59,6 +60,14 @@ impl KeptRows {
             count += 1;
         }
         count
+    }
+
+    // Whether the first row had been kept for two epochs as the last one was retired, or there is none.
+    pub(crate) fn has_aged(&self) -> bool
+        ensures { IsTrue result ↔ HasAged self.now.rows.items }
+    {
+        let len = self.len();
+        len == 0 || self.is_old(0, self.rows[len as usize - 1].at)
     }
 
     // The row at a place.

@@ -15,6 +15,7 @@ mod reclaim;
 mod reclaimed;
 mod rest;
 mod retire;
+mod reuse;
 mod rule;
 mod sizes;
 mod space;

@@ -3,7 +3,7 @@ ghost use Rattle.std.specs.Prelude.{ℕ, ◌+◌};
 ghost use Rattle.ca_rows.specs.Calls.{Raises, Relinks};
 ghost use Rattle.ca_rows.specs.Closed.{joined};
 ghost use Rattle.ca_rows.specs.Rule.{fresh, no_sizes};
-ghost use Rattle.ca_rows.specs.Told.{Looked, Glanced, Peeked, Took, Recalled, Wrote, Gave, Asked, Announced, Left, Retired, Regained, Began, Scanned, Moved};
+ghost use Rattle.ca_rows.specs.Told.{Looked, Glanced, Peeked, Took, Recalled, Wrote, Gave, Asked, Announced, Left, Retired, Regained, Reread as Told, Began, Scanned, Moved};
 
 use crate::rule::RowRule;
 use crate::view::View;
@@ -120,6 +120,13 @@ pub struct Regain<K> {
 
 impl<K: Named, U> Play<(), View<U>> for Regain<K> {
     ghost then = { λ st m n m'. Regained K.about st m n m' };
+}
+
+/// The load of the pass's own announcement.
+pub struct Reread;
+
+impl<U> Play<(), View<U>> for Reread {
+    ghost then = { Told };
 }
 
 /// The load of the epoch that begins a look at the others.

@@ -78,7 +78,7 @@ pub struct View<U> {
     pub lost: u64,
     /// Kept rows that were given back.
     pub back: u64,
-    /// How often it found the pool's head empty as it was to take a row.
+    /// How often it found the pool's head empty as it was to take a row, and kept no row that it might hold again.
     pub empty: u64,
     /// How often it found, as it was to take a row, a free one at the head, but the head's tag at its last value.
     pub worn: u64,

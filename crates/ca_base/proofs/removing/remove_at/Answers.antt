@@ -6,7 +6,9 @@ use Rattle.ca_node.specs.TreeView.{TreeView}
 use Rattle.ca_base.specs.Finding.{IsAtCursor}
 use Rattle.ca_base.specs.Putting.{gone, IsShownLast, first_note, last_items, last_words}
 use Rattle.ca_rows.specs.Told.{met_of}
+use Rattle.ca_base.specs.Counting.{losses}
 use Rattle.ca_base.proofs.Alone.{won_then}
+use Rattle.ca_base.proofs.Counts.{cleared_after}
 use Rattle.ca_base.proofs.Readying.{place_in, many_are, few_are, spells_there}
 use Rattle.ca_base.proofs.TakingOut.{ready_without, removed, renewed_without}
 use Rattle.ca_base.proofs.Unlinking.{written_row}
@@ -170,3 +172,11 @@ swap_in-requires-clause-own c = (
   c.write_base_without-old.ensures.frame.same.2
       ∙ (c.take.ensures.frame.same.2 ∙ c.requires.ready.own.1),
 )
+
+pub returns-clause-back : goal.returns-clause-back
+returns-clause-back c =
+    cleared_after c.swap_in.result c.args.pass.now.seat.me
+    c.write_base_without-old.new.pass.seat.me c.swap_in.new.pass.seat.me c.args.pass.now.kept
+    c.take.new.pass.kept c.write_base_without-old.new.pass.kept c.swap_in.new.pass.kept
+    (ap losses c.write_base_without-old.ensures.written.2.only ∙ c.in-Ok.ensures.found.1)
+    c.in-Ok.ensures.back c.write_base_without-old.ensures.frame.kept c.swap_in.ensures.back

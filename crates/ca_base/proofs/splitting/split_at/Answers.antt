@@ -6,7 +6,9 @@ use Rattle.ca_base.specs.Putting.{first_note, last_words}
 use Rattle.ca_base.specs.Splitting.{SpellsRoute}
 use Rattle.ca_base.specs.Taking.{AreHeld}
 use Rattle.ca_base.specs.Writing.{IsRewritten, SpellsBase}
+use Rattle.ca_base.specs.Counting.{losses}
 use Rattle.ca_base.proofs.Alone.{won_then}
+use Rattle.ca_base.proofs.Counts.{cleared_after}
 use Rattle.ca_base.proofs.Divisions.{three_apart, last_readable, divides_of}
 use Rattle.ca_base.proofs.SplitKeys.{short_key}
 use Rattle.ca_base.proofs.Unlinking.{written_row}
@@ -291,3 +293,18 @@ divide_in-requires-clause-own c = (
       ∙ (c.write_half.ensures.frame.same.2
       ∙ (c.take_three.ensures.frame.same.2 ∙ c.requires.ready.own.1))))),
 )
+
+pub returns-clause-back : goal.returns-clause-back
+returns-clause-back c =
+    let still = c.copy_key.ensures.frame.still ∙ c.item-first.ensures.frame.still in
+    cleared_after c.divide_in.result c.args.pass.now.seat.me
+    c.write_route.new.pass.seat.me c.divide_in.new.pass.seat.me c.args.pass.now.kept
+    c.take_three.new.pass.kept c.write_route.new.pass.kept c.divide_in.new.pass.kept
+    (ap losses c.write_route.ensures.written.2.only ∙ (ap losses still
+    ∙ (ap losses c.write_half-2.ensures.written.2.only
+    ∙ (ap losses c.write_half.ensures.written.2.only ∙ c.in-Ok.ensures.found.1))))
+    c.in-Ok.ensures.back
+    (c.write_route.ensures.frame.kept ∙ (c.copy_key.ensures.frame.kept
+    ∙ (c.item-first.ensures.frame.kept
+    ∙ (c.write_half-2.ensures.frame.kept ∙ c.write_half.ensures.frame.kept))))
+    c.divide_in.ensures.back

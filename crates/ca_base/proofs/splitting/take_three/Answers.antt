@@ -1,6 +1,6 @@
-use Rattle.std.proofs.Common.{ℕ, [], ◌∷◌, arith}
+use Rattle.std.proofs.Common.{ℕ, [], ◌∷◌, ◌++◌, arith}
 use Rattle.ca_base.proofs.Rest.{two_apart}
-use Rattle.ca_base.proofs.Counts.{back_after}
+use Rattle.ca_base.proofs.Counts.{back_after, takes_both}
 use Rattle.ca_base.proofs.splitting.take_three.Goals as goal
 
 pub returns-in-Ok-take-clause-taken : goal.returns-in-Ok-take-clause-taken
@@ -25,3 +25,11 @@ returns-in-Err-take-clause-back c = let one = c.in-Ok.ensures in let two = c.in-
     c.args.pass.now.kept c.take_two.new.pass.kept c.take.new.pass.kept c.give_back_all.new.pass.kept
     one.found.1 one.back two.found two.counted.more two.back
     c.give_back_all.ensures.counted.more c.give_back_all.ensures.back
+
+pub returns-in-Ok-take-clause-back : goal.returns-in-Ok-take-clause-back
+returns-in-Ok-take-clause-back c = let one = c.in-Ok.ensures.back in
+    let two = c.in-Ok-take.ensures.back in (
+      one.0 ++ two.0,
+      takes_both one.0 two.0 c.args.pass.now.kept c.take_two.new.pass.kept c.take.new.pass.kept one.1
+          two.1,
+    )

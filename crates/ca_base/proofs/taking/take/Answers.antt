@@ -1,47 +1,28 @@
-use Rattle.std.proofs.Common.{ap, arith}
+use Rattle.std.proofs.Common.{◌+◌, ◌<◌, [], ◌∷◌, ap, sym, ◌∙◌, subst}
+use Rattle.ca_node.specs.Told.{MyTree}
 use Rattle.ca_base.specs.Counting.{losses}
-use Rattle.ca_base.proofs.Counts.{none_back, none_spent}
-use Rattle.ca_base.proofs.Held.{took_row}
-use Rattle.ca_rows.specs.declared.sizes.Sizes.{Sizes}
+use Rattle.ca_base.proofs.Counts.{none_spent}
+use Rattle.ca_base.proofs.Held.{reused_row}
+use Rattle.ca_rows.specs.Claims.{claim_of}
 use Rattle.ca_base.proofs.taking.take.Goals as goal
 
-pub returns-in-Row-clause-taken : goal.returns-in-Row-clause-taken
-returns-in-Row-clause-taken c held few h =
-    took_row c.args.space.now.table.shared.key.rows c.args.pass.now.kept c.take_row.new.pass.kept
-    c.args.pass.now.seat.me
-    c.take_row.new.pass.seat.me c.in-Row.row (ap
-    (λ (z : Sizes). z.rows) c.requires.own.1) c.in-Row.ensures.row c.take_row.ensures.frame.kept
-    held few h
+pub returns-in-Some-clause-taken : goal.returns-in-Some-clause-taken
+returns-in-Some-clause-taken c held few h =
+    reused_row c.args.space.now.table.shared.key.rows c.args.pass.now.kept
+    c.reuse_row.new.pass.kept c.args.pass.now.seat.me c.reuse_row.new.pass.seat.me c.in-Some.row
+    c.in-Some.ensures.reused c.reuse_row.ensures.list held few h
 
-pub returns-in-Row-clause-counted : goal.returns-in-Row-clause-counted
-returns-in-Row-clause-counted c =
-    none_spent c.args.spent.now c.args.pass.now.seat.me c.take_row.new.pass.seat.me
-    (ap losses c.in-Row.ensures.row.3.2)
+pub returns-in-Some-clause-back : goal.returns-in-Some-clause-back
+returns-in-Some-clause-back c = let told = c.in-Some.ensures.reused in
+    (record { row = c.in-Some.row; at = told.0 } ∷ [], told.2)
 
-pub returns-in-Empty-clause-counted : goal.returns-in-Empty-clause-counted
-returns-in-Empty-clause-counted c =
-    none_spent c.args.spent.now c.args.pass.now.seat.me c.take_row.new.pass.seat.me
-    (ap losses c.in-Empty.ensures.row.1)
+pub returns-in-Some-clause-counted : goal.returns-in-Some-clause-counted
+returns-in-Some-clause-counted c =
+    none_spent c.args.spent.now c.args.pass.now.seat.me c.reuse_row.new.pass.seat.me
+    (ap losses c.in-Some.ensures.reused.3.2)
 
-pub returns-in-Worn-clause-counted : goal.returns-in-Worn-clause-counted
-returns-in-Worn-clause-counted c =
-    none_spent c.args.spent.now c.args.pass.now.seat.me c.take_row.new.pass.seat.me
-    (ap losses c.in-Worn.ensures.row.2)
-
-pub returns-in-Empty-clause-back : goal.returns-in-Empty-clause-back
-returns-in-Empty-clause-back c =
-    none_back 0 c.args.pass.now.seat.me c.take_row.new.pass.seat.me c.args.pass.now.kept
-    c.take_row.new.pass.kept
-    (let same = ap losses c.in-Empty.ensures.row.1 in omega arith) c.take_row.ensures.frame.kept
-
-pub returns-in-Lost-clause-back : goal.returns-in-Lost-clause-back
-returns-in-Lost-clause-back c =
-    none_back 1 c.args.pass.now.seat.me c.take_row.new.pass.seat.me c.args.pass.now.kept
-    c.take_row.new.pass.kept
-    (let same = ap losses c.in-Lost.ensures.row in omega arith) c.take_row.ensures.frame.kept
-
-pub returns-in-Worn-clause-back : goal.returns-in-Worn-clause-back
-returns-in-Worn-clause-back c =
-    none_back 0 c.args.pass.now.seat.me c.take_row.new.pass.seat.me c.args.pass.now.kept
-    c.take_row.new.pass.kept
-    (let same = ap losses c.in-Worn.ensures.row.2 in omega arith) c.take_row.ensures.frame.kept
+pub take_free-requires-clause-young : goal.take_free-requires-clause-young
+take_free-requires-clause-young c row t e = let none = c.in-None.ensures.reused in
+    subst (λ (m : MyTree). m.0.pin.told < t + 2) (sym none.0)
+    (none.2 row t (c.requires.may.list.are.are_listed row t
+    (ap (λ (m : MyTree). claim_of m.0.claims row) (sym none.0) ∙ e)))

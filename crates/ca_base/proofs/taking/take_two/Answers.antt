@@ -1,7 +1,7 @@
-use Rattle.std.proofs.Common.{ℕ, [], ◌∷◌, ap, refl, arith}
+use Rattle.std.proofs.Common.{ℕ, [], ◌∷◌, ◌++◌, ap, refl, arith}
 use mathlib.Core.Option.{some}
 use Rattle.ca_node.specs.Laws.{in_nothing}
-use Rattle.ca_base.proofs.Counts.{back_after}
+use Rattle.ca_base.proofs.Counts.{back_after, takes_both}
 use Rattle.ca_base.proofs.Held.{either_first}
 use Rattle.ca_base.proofs.taking.take_two.Goals as goal
 
@@ -37,5 +37,13 @@ returns-in-Err-take-clause-back c = let one = c.in-Ok.ensures in let two = c.in-
     × ℕ) c.in-Err-take.why c.args.pass.now.seat.me c.take.new.pass.seat.me
     c.take-2.new.pass.seat.me c.give_back.new.pass.seat.me
     c.args.pass.now.kept c.take.new.pass.kept c.take-2.new.pass.kept c.give_back.new.pass.kept
-    one.found.1 one.frame.kept two.found two.counted.more two.back
+    one.found.1 one.back two.found two.counted.more two.back
     c.give_back.ensures.counted.more c.give_back.ensures.back
+
+pub returns-in-Ok-take-clause-back : goal.returns-in-Ok-take-clause-back
+returns-in-Ok-take-clause-back c = let one = c.in-Ok.ensures.back in
+    let two = c.in-Ok-take.ensures.back in (
+      one.0 ++ two.0,
+      takes_both one.0 two.0 c.args.pass.now.kept c.take.new.pass.kept c.take-2.new.pass.kept one.1
+          two.1,
+    )

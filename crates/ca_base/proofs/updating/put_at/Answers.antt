@@ -6,7 +6,9 @@ use Rattle.ca_node.specs.TreeView.{TreeView}
 use Rattle.ca_base.specs.Finding.{IsAtCursor}
 use Rattle.ca_base.specs.Putting.{put_in, gone, IsRoom, IsShownLast, first_note, last_items, last_words}
 use Rattle.ca_rows.specs.Told.{met_of}
+use Rattle.ca_base.specs.Counting.{losses}
 use Rattle.ca_base.proofs.Alone.{won_then}
+use Rattle.ca_base.proofs.Counts.{cleared_after}
 use Rattle.ca_base.proofs.Readying.{finds_place, place_in, many_are, few_are, spells_there, ready, tried, renewed_so}
 use Rattle.ca_base.proofs.Rest.{two_apart, gone_apart, gone_few}
 use Rattle.ca_base.proofs.Unlinking.{written_row}
@@ -239,3 +241,14 @@ word_of_item-word-requires c = let few = c.args.space.now.few.1 in
     let each = c.in-Ok.ensures.taken.1.0.each c.in-Ok.rows.1
     (in_rest c.in-Ok.rows.1 c.in-Ok.rows.0 (c.in-Ok.rows.1 ∷ []) (in_first c.in-Ok.rows.1 [])) in
     let inside = each.1 in omega arith
+
+pub returns-clause-back : goal.returns-clause-back
+returns-clause-back c =
+    cleared_after c.swap_in.result c.args.pass.now.seat.me
+    c.write_base_with-old.new.pass.seat.me c.swap_in.new.pass.seat.me c.args.pass.now.kept
+    c.take_two.new.pass.kept c.write_base_with-old.new.pass.kept c.swap_in.new.pass.kept
+    (ap losses c.write_base_with-old.ensures.written.2.only
+    ∙ (ap losses c.write_object.ensures.written.2.only ∙ c.in-Ok.ensures.found.1))
+    c.in-Ok.ensures.back
+    (c.write_base_with-old.ensures.frame.kept ∙ c.write_object.ensures.frame.kept)
+    c.swap_in.ensures.back

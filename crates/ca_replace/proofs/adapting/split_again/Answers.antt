@@ -1,4 +1,4 @@
-use Rattle.std.proofs.Common.{[], refl, inl, arith, rules}
+use Rattle.std.proofs.Common.{[], ap, refl, inl, arith, rules}
 use Rattle.ca_base.specs.Putting.{first_note}
 use Rattle.ca_node.specs.declared.cursor.Spot.TheVariants as spot
 use Rattle.ca_replace.proofs.Tuning.{tuned_on}
@@ -11,6 +11,8 @@ use Rattle.ca_replace.proofs.DueCauses.{split_met}
 use Rattle.ca_replace.proofs.Growing.{alone_on, due_grows}
 use Rattle.ca_replace.proofs.Cutting.{due_there}
 use Rattle.ca_replace.proofs.Winning.{comes_there, due_won}
+use Rattle.ca_node.specs.Told.{MyTree}
+use Rattle.ca_replace.proofs.Numbering.{numbered_as}
 use Rattle.ca_replace.proofs.adapting.split_again.Goals as goal
 
 pub try_split-adapted-requires-clause-readable : goal.try_split-adapted-requires-clause-readable
@@ -31,6 +33,10 @@ try_split-adapted-requires-clause-at c = let most = (tuned_on c.args.tree.now).a
 pub try_split-adapted-requires-clause-ready : goal.try_split-adapted-requires-clause-ready
 try_split-adapted-requires-clause-ready c = record {
   own = search rules;
+  numbered = numbered_as c.args.pass.now.number c.walk-cursor.new.pass.number
+      c.args.pass.now.seat.me.0.pin c.walk-cursor.new.pass.seat.me.0.pin
+      c.walk-cursor.ensures.frame.number (ap (λ (m : MyTree). m.0.pin.number)
+      c.walk-cursor.ensures.walked.now) c.requires.ready.numbered;
   pinned = search rules;
   number = search rules;
   none = held_upper c.args.tree.now.space.table.shared.key.rows c.args.pass.now.kept

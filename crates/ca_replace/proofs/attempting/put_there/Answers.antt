@@ -28,6 +28,7 @@ use Rattle.ca_model.specs.Places.{IsPlace}
 use Rattle.ca_replace.specs.Attempting.{IsLooking}
 use Rattle.ca_rows.specs.declared.view.Pin.{Pin}
 use Rattle.ca_replace.proofs.Entries.{held_looked}
+use Rattle.ca_replace.proofs.Numbering.{numbered_as}
 use Rattle.ca_replace.proofs.attempting.put_there.Goals as goal
 
 no_room : (b : Bool) → b ≡ false → b ≡ true → ⊥
@@ -227,6 +228,11 @@ put_at-tried-requires-clause-ready c = record {
     ap (λ (m : MyTree). m.0.sizes) (c.next_statistic-statistic.ensures.frame.still
         ∙ c.count-many.ensures.frame.still) ∙ c.requires.ready.own.1,
   );
+  numbered = numbered_as c.args.pass.now.number c.next_statistic-statistic.new.pass.number
+      c.args.pass.now.seat.me.0.pin c.next_statistic-statistic.new.pass.seat.me.0.pin
+      (c.next_statistic-statistic.ensures.frame.number ∙ c.count-many.ensures.frame.number)
+      (ap (λ (m : MyTree). m.0.pin.number) (c.next_statistic-statistic.ensures.frame.still
+      ∙ c.count-many.ensures.frame.still)) c.requires.ready.numbered;
   pinned = ap (λ (m : MyTree). m.0.pin.pinned) (c.next_statistic-statistic.ensures.frame.still
       ∙ c.count-many.ensures.frame.still)
       ∙ c.requires.ready.pinned;
@@ -274,6 +280,13 @@ settle-requires-clause-ready c = record {
         ∙ (ap (λ (m : MyTree). m.0.sizes) (c.next_statistic-statistic.ensures.frame.still
         ∙ c.count-many.ensures.frame.still) ∙ c.requires.ready.own.1),
   );
+  numbered = numbered_as c.args.pass.now.number c.put_at-tried.new.pass.number
+      c.args.pass.now.seat.me.0.pin c.put_at-tried.new.pass.seat.me.0.pin
+      (c.put_at-tried.ensures.frame.number
+      ∙ (c.next_statistic-statistic.ensures.frame.number ∙ c.count-many.ensures.frame.number))
+      (ap (λ (p : Pin). p.number) c.put_at-tried.ensures.frame.pin.1
+      ∙ ap (λ (m : MyTree). m.0.pin.number) (c.next_statistic-statistic.ensures.frame.still
+      ∙ c.count-many.ensures.frame.still)) c.requires.ready.numbered;
   pinned = ap (λ (p : Pin). p.pinned) c.put_at-tried.ensures.frame.pin.1
       ∙ (ap (λ (m : MyTree). m.0.pin.pinned) (c.next_statistic-statistic.ensures.frame.still
       ∙ c.count-many.ensures.frame.still) ∙ c.requires.ready.pinned);
@@ -291,6 +304,11 @@ make_room-requires-clause-ready c = record {
     ap (λ (m : MyTree). m.0.sizes) c.count-many.ensures.frame.still
         ∙ c.requires.ready.own.1,
   );
+  numbered = numbered_as c.args.pass.now.number c.count-many.new.pass.number
+      c.args.pass.now.seat.me.0.pin c.count-many.new.pass.seat.me.0.pin
+      c.count-many.ensures.frame.number
+      (ap (λ (m : MyTree). m.0.pin.number) c.count-many.ensures.frame.still)
+      c.requires.ready.numbered;
   pinned = ap (λ (m : MyTree). m.0.pin.pinned) c.count-many.ensures.frame.still
       ∙ c.requires.ready.pinned;
   number = subst

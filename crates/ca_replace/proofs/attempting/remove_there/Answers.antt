@@ -22,6 +22,7 @@ use Rattle.ca_node.specs.Row.{pair}
 use Rattle.ca_model.specs.Places.{IsPlace}
 use Rattle.ca_rows.specs.declared.view.Pin.{Pin}
 use Rattle.ca_replace.proofs.Entries.{held_looked}
+use Rattle.ca_replace.proofs.Numbering.{numbered_as}
 use Rattle.ca_replace.proofs.attempting.remove_there.Goals as goal
 
 pub count-many-requires-clause-readable : goal.count-many-requires-clause-readable
@@ -147,6 +148,11 @@ remove_at-tried-requires-clause-ready c = record {
     ap (λ (m : MyTree). m.0.sizes) (c.next_statistic-statistic.ensures.frame.still
         ∙ c.count-many.ensures.frame.still) ∙ c.requires.ready.own.1,
   );
+  numbered = numbered_as c.args.pass.now.number c.next_statistic-statistic.new.pass.number
+      c.args.pass.now.seat.me.0.pin c.next_statistic-statistic.new.pass.seat.me.0.pin
+      (c.next_statistic-statistic.ensures.frame.number ∙ c.count-many.ensures.frame.number)
+      (ap (λ (m : MyTree). m.0.pin.number) (c.next_statistic-statistic.ensures.frame.still
+      ∙ c.count-many.ensures.frame.still)) c.requires.ready.numbered;
   pinned = ap (λ (m : MyTree). m.0.pin.pinned) (c.next_statistic-statistic.ensures.frame.still
       ∙ c.count-many.ensures.frame.still)
       ∙ c.requires.ready.pinned;
@@ -189,6 +195,13 @@ settle-requires-clause-ready c = record {
         ∙ c.count-many.ensures.frame.still)
         ∙ c.requires.ready.own.1),
   );
+  numbered = numbered_as c.args.pass.now.number c.remove_at-tried.new.pass.number
+      c.args.pass.now.seat.me.0.pin c.remove_at-tried.new.pass.seat.me.0.pin
+      (c.remove_at-tried.ensures.frame.number
+      ∙ (c.next_statistic-statistic.ensures.frame.number ∙ c.count-many.ensures.frame.number))
+      (ap (λ (p : Pin). p.number) c.remove_at-tried.ensures.frame.pin.1
+      ∙ ap (λ (m : MyTree). m.0.pin.number) (c.next_statistic-statistic.ensures.frame.still
+      ∙ c.count-many.ensures.frame.still)) c.requires.ready.numbered;
   pinned = ap (λ (p : Pin). p.pinned) c.remove_at-tried.ensures.frame.pin.1
       ∙ (ap (λ (m : MyTree). m.0.pin.pinned) (c.next_statistic-statistic.ensures.frame.still
       ∙ c.count-many.ensures.frame.still) ∙ c.requires.ready.pinned);

@@ -15,11 +15,15 @@ use Rattle.ca_replace.specs.Cutting.{HasCut}
 use Rattle.ca_replace.proofs.Cutting.{cut_pinned}
 use Rattle.ca_replace.proofs.Winning.{won_pinned}
 use Rattle.ca_replace.specs.Winning.{HasWonInAttempts}
+use Rattle.ca_replace.proofs.Numbering.{numbered_as}
 use Rattle.ca_replace.proofs.calls.once.Goals as goal
 
 pub attempt-tried-requires-clause-ready : goal.attempt-tried-requires-clause-ready
 attempt-tried-requires-clause-ready g c = record {
   own = search rules;
+  numbered = numbered_as c.args.pass.now.number c.pin.new.pass.number
+      c.args.pass.now.seat.me.0.pin c.pin.new.pass.seat.me.0.pin c.pin.ensures.frame.number
+      (ap (λ (m : MyTree). m.0.pin.number) c.pin.ensures.pinned.3) c.requires.resting.numbered;
   pinned = search rules;
   number = let n = c.requires.resting.numbered.1 in
       omega (

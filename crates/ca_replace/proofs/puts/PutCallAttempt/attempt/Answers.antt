@@ -11,6 +11,7 @@ use Rattle.ca_replace.proofs.Winning.{won_behind}
 use Rattle.ca_rows.specs.declared.view.Pin.{Pin}
 use Rattle.ca_replace.proofs.Counted.{stopped_behind}
 use Rattle.ca_replace.proofs.Entries.{held_looked}
+use Rattle.ca_replace.proofs.Numbering.{numbered_as}
 use Rattle.ca_replace.proofs.puts.PutCallAttempt.attempt.Goals as goal
 
 pub returns-clause-tried : goal.returns-clause-tried
@@ -50,6 +51,9 @@ put_there-requires-clause-ready c = record {
     c.find-place.ensures.looked.same.0 ∙ c.requires.ready.own.0,
     c.find-place.ensures.looked.still.0 ∙ c.requires.ready.own.1,
   );
+  numbered = numbered_as c.args.pass.now.number c.find-place.new.pass.number
+      c.args.pass.now.seat.me.0.pin c.find-place.new.pass.seat.me.0.pin c.find-place.ensures.looked.number
+      (ap (λ (p : Pin). p.number) c.find-place.ensures.looked.still.1) c.requires.ready.numbered;
   pinned = ap (λ (p : Pin). p.pinned) c.find-place.ensures.looked.still.1 ∙ c.requires.ready.pinned;
   number = subst
       (λ n. 0 < n) (sym c.find-place.ensures.looked.further.number) c.requires.ready.number;

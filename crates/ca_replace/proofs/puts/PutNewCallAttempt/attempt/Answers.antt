@@ -17,6 +17,7 @@ use Rattle.ca_base.specs.Counting.{losses}
 use Rattle.ca_rows.specs.declared.view.Pin.{Pin}
 use Rattle.ca_replace.proofs.Counted.{none_paid, done_stopped, stop_stopped}
 use Rattle.ca_replace.proofs.Entries.{held_upper, held_looked}
+use Rattle.ca_replace.proofs.Numbering.{numbered_as}
 use Rattle.ca_replace.proofs.puts.PutNewCallAttempt.attempt.Goals as goal
 
 pub enter-requires-clause-answer : goal.enter-requires-clause-answer
@@ -135,6 +136,9 @@ put_there-requires-clause-ready c = record {
     c.find-place.ensures.looked.same.0 ∙ c.requires.ready.own.0,
     c.find-place.ensures.looked.still.0 ∙ c.requires.ready.own.1,
   );
+  numbered = numbered_as c.args.pass.now.number c.find-place.new.pass.number
+      c.args.pass.now.seat.me.0.pin c.find-place.new.pass.seat.me.0.pin c.find-place.ensures.looked.number
+      (ap (λ (p : Pin). p.number) c.find-place.ensures.looked.still.1) c.requires.ready.numbered;
   pinned = ap (λ (p : Pin). p.pinned) c.find-place.ensures.looked.still.1 ∙ c.requires.ready.pinned;
   number = subst
       (λ n. 0 < n) (sym c.find-place.ensures.looked.further.number) c.requires.ready.number;

@@ -19,6 +19,7 @@ use Rattle.ca_replace.proofs.Counted.{none_paid, done_stopped, stop_stopped}
 use Rattle.ca_replace.proofs.Entries.{held_upper, held_looked, read_by}
 use Rattle.ca_replace.proofs.Growing.{alone_on, entered_grown, looked_grown, stop_grown}
 use Rattle.ca_replace.proofs.Winning.{won_on}
+use Rattle.ca_replace.proofs.Numbering.{numbered_as}
 use Rattle.ca_replace.proofs.removing.RemoveCallAttempt.attempt.Goals as goal
 
 pub fetch-place-requires-clause-unanswered : goal.fetch-place-requires-clause-unanswered
@@ -142,6 +143,9 @@ remove_there-requires-clause-ready c = record {
     c.fetch-place.ensures.looked.same.0 ∙ c.requires.ready.own.0,
     c.fetch-place.ensures.looked.still.0 ∙ c.requires.ready.own.1,
   );
+  numbered = numbered_as c.args.pass.now.number c.fetch-place.new.pass.number
+      c.args.pass.now.seat.me.0.pin c.fetch-place.new.pass.seat.me.0.pin c.fetch-place.ensures.looked.number
+      (ap (λ (p : Pin). p.number) c.fetch-place.ensures.looked.still.1) c.requires.ready.numbered;
   pinned = ap (λ (p : Pin). p.pinned) c.fetch-place.ensures.looked.still.1
       ∙ c.requires.ready.pinned;
   number = subst

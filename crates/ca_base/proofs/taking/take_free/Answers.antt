@@ -1,0 +1,56 @@
+use Rattle.std.proofs.Common.{ap, arith}
+use Rattle.ca_node.specs.Told.{MyTree}
+use Rattle.ca_base.specs.Counting.{losses}
+use Rattle.ca_base.proofs.Counts.{none_back, none_spent}
+use Rattle.ca_base.proofs.Held.{took_row}
+use Rattle.ca_rows.specs.declared.sizes.Sizes.{Sizes}
+use Rattle.ca_rows.proofs.NoneOld.{none_is_old}
+use Rattle.ca_base.proofs.taking.take_free.Goals as goal
+
+pub returns-in-Row-clause-taken : goal.returns-in-Row-clause-taken
+returns-in-Row-clause-taken c held few h =
+    took_row c.args.space.now.table.shared.key.rows c.args.pass.now.kept c.take_row.new.pass.kept
+    c.args.pass.now.seat.me
+    c.take_row.new.pass.seat.me c.in-Row.row (ap
+    (λ (z : Sizes). z.rows) c.requires.own.1) c.in-Row.ensures.row c.take_row.ensures.frame.kept
+    held few h
+
+pub returns-in-Row-clause-counted : goal.returns-in-Row-clause-counted
+returns-in-Row-clause-counted c =
+    none_spent c.args.spent.now c.args.pass.now.seat.me c.take_row.new.pass.seat.me
+    (ap losses c.in-Row.ensures.row.3.2)
+
+pub returns-in-Empty-clause-counted : goal.returns-in-Empty-clause-counted
+returns-in-Empty-clause-counted c =
+    none_spent c.args.spent.now c.args.pass.now.seat.me c.take_row.new.pass.seat.me
+    (ap losses c.in-Empty.ensures.row.1)
+
+pub returns-in-Worn-clause-counted : goal.returns-in-Worn-clause-counted
+returns-in-Worn-clause-counted c =
+    none_spent c.args.spent.now c.args.pass.now.seat.me c.take_row.new.pass.seat.me
+    (ap losses c.in-Worn.ensures.row.2)
+
+pub returns-in-Empty-clause-back : goal.returns-in-Empty-clause-back
+returns-in-Empty-clause-back c =
+    none_back 0 c.args.pass.now.seat.me c.take_row.new.pass.seat.me c.args.pass.now.kept
+    c.take_row.new.pass.kept
+    (let same = ap losses c.in-Empty.ensures.row.1 in omega arith) c.take_row.ensures.frame.kept
+
+pub returns-in-Lost-clause-back : goal.returns-in-Lost-clause-back
+returns-in-Lost-clause-back c =
+    none_back 1 c.args.pass.now.seat.me c.take_row.new.pass.seat.me c.args.pass.now.kept
+    c.take_row.new.pass.kept
+    (let same = ap losses c.in-Lost.ensures.row in omega arith) c.take_row.ensures.frame.kept
+
+pub returns-in-Worn-clause-back : goal.returns-in-Worn-clause-back
+returns-in-Worn-clause-back c =
+    none_back 0 c.args.pass.now.seat.me c.take_row.new.pass.seat.me c.args.pass.now.kept
+    c.take_row.new.pass.kept
+    (let same = ap losses c.in-Worn.ensures.row.2 in omega arith) c.take_row.ensures.frame.kept
+
+pub returns-in-Empty-clause-found : goal.returns-in-Empty-clause-found
+returns-in-Empty-clause-found c = let told = c.in-Empty.ensures.row.1 in
+    let one = none_is_old c.args.pass.now.seat.me.0.claims c.args.pass.now.seat.me.0.pin.told
+    c.requires.young in
+    let empty = ap (λ (m : MyTree). m.0.empty) told in
+    let worn = ap (λ (m : MyTree). m.0.worn) told in (omega arith, omega arith)

@@ -1,0 +1,17 @@
+use Rattle.std.proofs.Common.{rules, arith}
+use Rattle.ca_rows.proofs.Scanning.{rereads}
+use Rattle.ca_rows.proofs.space.Space.told.Goals as goal
+
+pub load-requires : goal.load-requires
+load-requires g c =
+    let sized = c.args.self.now.sized in let place = c.own_word-word.ensures in
+    let some_rows = c.args.self.now.few.0 in
+    let number = c.requires.number.0 in
+    let low = c.requires.number.1 in
+    let high = c.requires.number.2 in (
+      search rules,
+      omega arith,
+      rereads g.R.RowRule.linked g.R.RowRule.lent g.R.RowRule.noted g.R.RowRule.fact
+          g.met.R.RowRule.frames
+          c.args.self.now.table.shared.key _ _ _ c.own_word-word.result (omega arith) (omega arith),
+    )

@@ -1,0 +1,61 @@
+//! Pinned passes take rows that they keep, once nobody can have a note on them.
+ghost use Rattle.std.specs.Prelude.{◌≡◌, ℕ, ◌+◌, ◌≤◌, true, vec_len};
+ghost use mathlib.Core.Option.{some};
+ghost use Rattle.ca_rows.specs.declared.view.Claim.TheVariants.{Keeps as IsKept};
+ghost use Rattle.ca_rows.specs.Calls.{IsNumbered};
+ghost use Rattle.ca_rows.specs.Claims.{claim_of};
+ghost use Rattle.ca_rows.specs.Kept.{AreKept};
+ghost use Rattle.ca_rows.specs.Reclaiming.{Reuses};
+ghost use Rattle.ca_rows.specs.Told.{HoldsAgain};
+ghost use Rattle.ca_rows.specs.Passes.{IsOn, IsReading, IsStillPass, KeepsList, OnlyReads, sizes, known, view};
+
+use crate::plays::{Named, Regain, Reread};
+use crate::rule::RowRule;
+use crate::space::{Pass, Space};
+use std::marker::Brand;
+
+impl<R: RowRule> Space<R> {
+    // The epoch that the pass announced.
+    fn told(&self, pass: &mut Pass<R>) -> u64
+        requires reading { IsReading self.now pass.old }
+        requires number { IsNumbered pass.old.number (view pass.old).pin }
+        ensures frame { OnlyReads pass.old pass.new }
+        ensures told { result ≡ (view pass.old).pin.told }
+    {
+        let word = self.own_word(pass.number);
+        self.table.shared.load::<Reread>(&mut pass.seat, word) - 1
+    }
+
+    // The pass holds the row again that K names.
+    fn reuse_as<K: Named>(&self, pass: &mut Pass<R>, _row: u32)
+        requires own { IsOn self.now pass.old }
+        requires old { (t : ℕ) × (claim_of (view pass.old).claims K.about ≡ some (IsKept t)) × (t + 2 ≤ (view pass.old).pin.told) }
+        ensures frame { KeepsList pass.old pass.new }
+        ensures held { HoldsAgain K.about (known pass.old) (known pass.new) }
+    {
+        self.table.shared.load::<Regain<K>>(&mut pass.seat, 1);
+    }
+
+    /// The row that the pass keeps for longest, where it was retired two epochs before the one that the pass announced, or earlier: the pass holds it
+    /// then, and keeps it no more. It loads the pass's own announcement, and takes no step that others may wait for.
+    pub fn reuse_row(&self, pass: &mut Pass<R>) -> Option<u32>
+        requires reading { IsReading self.now pass.old }
+        requires number { IsNumbered pass.old.number (view pass.old).pin }
+        requires list { AreKept (sizes self.now).rows (view pass.old).claims pass.old.kept.rows }
+        ensures frame { IsStillPass pass.old pass.new }
+        ensures list { AreKept (sizes self.now).rows (view pass.new).claims pass.new.kept.rows }
+        ensures reused { Reuses result (known pass.old) (known pass.new) pass.old.kept pass.new.kept }
+    {
+        if pass.kept.len() == 0 {
+            return None;
+        }
+        let told = self.told(pass);
+        if !pass.kept.is_old(0, told) {
+            return None;
+        }
+        let row = pass.kept.row(0);
+        self.reuse_as::<Brand>(pass, row);
+        pass.kept.cut(0, 1);
+        Some(row)
+    }
+}
