@@ -1,5 +1,5 @@
 -- What giving kept rows back comes to.
-use Rattle.std.specs.Prelude.{◌≡◌, ◌≢◌, ◌⊎◌, ℕ, ◌+◌, ◌<◌, ◌≤◌, max, Bool, true, false, List, [], ◌∷◌, ◌++◌, length, take, drop, Vec, vec_len}
+use Rattle.std.specs.Prelude.{◌≡◌, ◌≢◌, ◌⊎◌, ℕ, ◌+◌, ◌<◌, ◌≤◌, max, Bool, true, false, List, [], ◌∷◌, ◌++◌, length, slice_index_or, take, drop, Vec, vec_len}
 use Rattle.std.specs.Global.{Global}
 use Rattle.std.specs.declared.option.Option.{Option as Answer}
 use Rattle.std.specs.declared.option.Option.TheVariants.{None, Some}
@@ -92,6 +92,14 @@ IsLook passes (Some j) m m' = (0 < j) × (j ≤ passes) × (j ≢ m.0.pin.number
 abbrev pub Moves : {U : Type 0} → Bool → ℕ → Mine U → Mine U → Type 0
 Moves true e m m' = m' ≡ with_pin m (record m.0.pin { scan = e + 1; upto = 0 })
 Moves false e m m' = m' ≡ (record m.0 { lost = m.0.lost + 1 }, m.1)
+
+-- A look at the others began, and so many exchanges were lost: the row that was kept first is two epochs older than the epoch; or that is at its last value; or
+-- a pass lags; or the epoch moved by one; or the exchange that was to move it lost.
+module _ {U : Type 0} where
+  pub record EndsLook (losses : ℕ) (m m' : Mine U) (ks : List Kept) : Type 0 where
+    pub looked : m'.0.pin.looks ≡ m.0.pin.looks + 1
+    pub ends : ((slice_index_or ks 0 (record { row = 0; at = 0 })).at + 2 ≤ m'.0.pin.scan) ⊎ (m'.0.pin.scan ≡ 4611686018427387904)
+        ⊎ (m'.0.pin.lags ≡ m.0.pin.lags + 1) ⊎ (m.0.pin.scan < m'.0.pin.scan) ⊎ (losses ≡ 1)
 
 -- One round, by its answer and by the lists of kept rows before and after.
 pub record Rounds {U : Type 0} (passes number : ℕ) (answer : Round) (m m' : Mine U) (ks ks' : List Kept) : Type 0 where

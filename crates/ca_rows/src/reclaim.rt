@@ -6,9 +6,8 @@ ghost use mathlib.Core.Option.{some};
 ghost use Rattle.ca_rows.specs.declared.view.Claim.TheVariants.{Holds as IsHeld, Keeps as IsKept};
 ghost use Rattle.ca_rows.specs.Calls.{IsNumbered};
 ghost use Rattle.ca_rows.specs.Claims.{claim_of, claimed};
-ghost use Rattle.ca_rows.specs.declared.reclaimed.Round.{Round as Shape};
 ghost use Rattle.ca_rows.specs.Kept.{AreKept, AreKeptBut, HasAged, kept_of};
-ghost use Rattle.ca_rows.specs.Reclaiming.{Reclaims, GivesBack, GivesOld, IsLag, lag_count, IsLook, MakesRounds, Moves, Rounds};
+ghost use Rattle.ca_rows.specs.Reclaiming.{EndsLook, Reclaims, GivesBack, GivesOld, IsLag, lag_count, IsLook, MakesRounds, Moves, Rounds};
 ghost use Rattle.ca_rows.specs.Told.{HoldsAgain};
 ghost use Rattle.ca_rows.specs.Passes.{IsOn, IsSamePass, KeepsList, MayReclaim, sizes, known, view};
 
@@ -201,24 +200,30 @@ impl<R: RowRule> Space<R> {
 }
 
 impl<R: RowRule> Space<R> {
-    /// One such round, where no row that the pass keeps had been kept for two epochs as it retired the last one: the epoch moves then where it may, so
-    /// that the pass can take rows again that it keeps (`reuse_row`). Else nothing is done. It answers how many exchanges were lost.
+    /// Looks at the others and moves the epoch where it may, so that the pass can take rows again that it keeps (`reuse_row`). Nothing is done where the
+    /// row that was kept first is two epochs older than the last one, and the epoch stays where that row is two epochs older than it. No row is given
+    /// back. It answers how many exchanges were lost: that of the epoch, or none.
     pub fn advance(&self, pass: &mut Pass<R>) -> u32
         requires ready { MayReclaim self.now pass.old }
-        ensures frame { IsSamePass pass.old pass.new }
+        ensures frame { KeepsList pass.old pass.new }
         ensures list { AreKept (sizes self.now).rows (view pass.new).claims pass.new.kept.rows }
         ensures reclaims { Reclaims (known pass.old) (known pass.new) }
         ensures losses { (view pass.new).lost ≡ (view pass.old).lost + result }
         ensures lags { (view pass.new).pin.lags ≤ (view pass.old).pin.lags + 1 }
-        ensures kept { vec_len pass.new.kept.rows ≤ vec_len pass.old.kept.rows }
-        ensures aged { HasAged pass.old.kept.rows.items → (known pass.new ≡ known pass.old) × (pass.new.kept ≡ pass.old.kept) }
-        ensures round { ¬ HasAged pass.old.kept.rows.items → (round : Shape) × Rounds (sizes self.now).passes pass.old.number round (known pass.old) (known pass.new)
-            pass.old.kept.rows.items pass.new.kept.rows.items }
+        ensures aged { HasAged pass.old.kept.rows.items → known pass.new ≡ known pass.old }
+        ensures looked { ¬ HasAged pass.old.kept.rows.items → EndsLook result (known pass.old) (known pass.new) pass.old.kept.rows.items }
     {
         if pass.kept.has_aged() {
             return 0;
         }
-        self.round(pass).losses
+        let epoch = self.table.shared.load::<Begin>(&mut pass.seat, 1);
+        if pass.kept.is_old(0, epoch) || epoch == 1 << 62 {
+            return 0;
+        }
+        if self.lagging(pass, epoch).is_some() || self.move_epoch(pass, epoch) {
+            return 0;
+        }
+        1
     }
 }
 
