@@ -1,11 +1,11 @@
 -- What becomes of a base that is to be split.
-use Rattle.std.specs.Prelude.{◌≡◌, ◌⊎◌, ℕ, ◌<◌, ◌≤◌, min, Bool, true, false, length, Result, Ok, Err}
+use Rattle.std.specs.Prelude.{◌≡◌, ◌⊎◌, ℕ, ◌<◌, ◌≤◌, min, length, Result, Ok, Err}
 use Rattle.ca_adapt.specs.declared.adapted.Adapted.{Adapted}
 use Rattle.ca_adapt.specs.declared.adapted.Adapted.TheVariants as adapted
 use Rattle.ca_adapt.specs.declared.adapted.Why.{Why}
 use Rattle.ca_adapt.specs.declared.adapted.Why.TheVariants as why
-use Rattle.ca_base.specs.declared.taking.NoRow.{NoRow}
-use Rattle.ca_base.specs.declared.taking.NoRow.TheVariants as norow
+use Rattle.ca_base.specs.declared.stop.Stop.{Stop}
+use Rattle.ca_base.specs.declared.stop.Stop.TheVariants as stop
 use Rattle.ca_base.specs.Counting.{losses, HasMet, PutsBack}
 use Rattle.ca_base.specs.Splitting.{HasSplit}
 use Rattle.ca_node.specs.Told.{MyTree, one_more_lost}
@@ -14,12 +14,11 @@ use Rattle.ca_rows.specs.declared.kept.KeptRows.{KeptRows}
 use Rattle.ca_rows.specs.declared.sizes.Sizes.{Sizes}
 
 -- what became of it, by what became of its exchange
-abbrev pub answer_to : Result Bool NoRow → Adapted
-answer_to (Ok true) = adapted.Split
-answer_to (Ok false) = adapted.NotSplit why.Lost
-answer_to (Err norow.Lost) = adapted.NotSplit why.Lost
-answer_to (Err norow.Empty) = adapted.NotSplit why.NoRow
-answer_to (Err norow.Worn) = adapted.NotSplit why.Worn
+abbrev pub answer_to : {T : Type 0} → Result T Stop → Adapted
+answer_to (Ok x) = adapted.Split
+answer_to (Err (stop.Lost exchange)) = adapted.NotSplit why.Lost
+answer_to (Err stop.Empty) = adapted.NotSplit why.NoRow
+answer_to (Err stop.Worn) = adapted.NotSplit why.Worn
 
 -- how many attempts to join a new route is said to have had: as many as the space was made with
 abbrev pub attempts_at_first : Sizes → ℕ
@@ -47,7 +46,7 @@ IsWhyNotSplit z note why.Worn m m' = MayBeSplit z note × HasMet 0 1 m m' × (m'
 abbrev pub IsSplitOutcome : Sizes → Note → Adapted → MyTree → MyTree → Type 0
 IsSplitOutcome z note adapted.Stay m m' = ⊥
 IsSplitOutcome z note adapted.Split m m' = MayBeSplit z note × HasMet 0 0 m m'
-    × HasSplit (length note.objects) (attempts_at_first z) (Ok true) m.0.upper m'.0.upper
+    × HasSplit {T = Unit {0}} (length note.objects) (attempts_at_first z) (Ok tt) m.0.upper m'.0.upper
 IsSplitOutcome z note adapted.Joined m m' = ⊥
 IsSplitOutcome z note (adapted.NotSplit why) m m' = IsWhyNotSplit z note why m m'
 IsSplitOutcome z note (adapted.NotJoined why) m m' = ⊥

@@ -12,7 +12,7 @@ ghost use Rattle.ca_base.specs.Readiness.{IsReady, StaysReady, shown_last};
 
 use crate::adapted::{Adapted, Why};
 use crate::tuning::Tuning;
-use ca_base::{NoRow, count, split_at};
+use ca_base::{Stop, count, split_at};
 use ca_model::Spent;
 use ca_node::{Cursor, TreePass, TreeSpace};
 
@@ -83,13 +83,13 @@ pub fn first_attempt(space: &TreeSpace) -> u64
 }
 
 // What became of the base, by what became of its exchange.
-fn answer(split: Result<bool, NoRow>) -> Adapted
+fn answer(split: Result<(), Stop>) -> Adapted
     ensures { result ≡ answer_to split }
 {
     match split {
-        Ok(true) => Adapted::Split,
-        Ok(false) | Err(NoRow::Lost) => Adapted::NotSplit(Why::Lost),
-        Err(NoRow::Empty) => Adapted::NotSplit(Why::NoRow),
-        Err(NoRow::Worn) => Adapted::NotSplit(Why::Worn),
+        Ok(()) => Adapted::Split,
+        Err(Stop::Lost(_)) => Adapted::NotSplit(Why::Lost),
+        Err(Stop::Empty) => Adapted::NotSplit(Why::NoRow),
+        Err(Stop::Worn) => Adapted::NotSplit(Why::Worn),
     }
 }

@@ -1,10 +1,10 @@
 -- What calls count, one after another.
-use Rattle.std.proofs.Common.{◌≡◌, ℕ, ◌+◌, ◌≤◌, List, [], ◌++◌, length, Bool, true, false, Ok, Err, ap, sym, refl, ◌∙◌, arith, vec_len, append_assoc, length-append}
+use Rattle.std.proofs.Common.{◌≡◌, ℕ, ◌+◌, ◌≤◌, List, [], ◌++◌, length, Result, Ok, Err, ap, sym, refl, ◌∙◌, arith, vec_len, append_assoc, length-append}
 use Rattle.ca_model.specs.declared.outcome.Spent.{Spent}
 use Rattle.ca_node.specs.Told.{MyTree}
-use Rattle.ca_base.specs.declared.taking.NoRow.{NoRow}
-use Rattle.ca_base.specs.declared.taking.NoRow.TheVariants as why
-use Rattle.ca_base.specs.Counting.{losses, IsSpent, HasCleared, HasFound, HasMet, HasPutBack, PutsBack, TakesKept}
+use Rattle.ca_base.specs.declared.stop.Stop.{Stop}
+use Rattle.ca_base.specs.declared.stop.Stop.TheVariants as stop
+use Rattle.ca_base.specs.Counting.{losses, IsSpent, HasCleared, HasMet, HasStoppedBy, PutsBack, TakesKept, lost_by}
 use Rattle.ca_rows.specs.declared.kept.Kept.{Kept}
 use Rattle.ca_rows.specs.declared.kept.KeptRows.{KeptRows}
 
@@ -69,27 +69,28 @@ as_begun else k m l kept kept0 kept' same first h = let sum = h.1 in
     )
 
 -- No row was taken, and those that were taken before are put back.
-pub back_after : (S T : Type 0) (reason : NoRow) (k m0 m l : MyTree)
-    (kept kept0 kept' kept'' : KeptRows) → losses m0 ≡ losses k
-    → ((these : List Kept) × TakesKept these kept kept0) → HasFound {T = S} (Err reason) m0 m → losses m0 ≤ losses m
-    → HasPutBack {T = S} (Err reason) m0 m kept0 kept' → losses m ≤ losses l
-    → PutsBack 0 m l kept' kept'' → HasPutBack {T = T} (Err reason) k l kept kept''
-back_after S T why.Empty k m0 m l kept kept0 kept' kept'' same first found more one more' two =
-    as_begun 0 k m0 l kept kept0 kept'' same first
-    (back_both 0 0 m0 m l kept0 kept' kept'' (omega arith) (omega arith) one two)
-back_after S T why.Lost k m0 m l kept kept0 kept' kept'' same first found more one more' two =
+pub back_after : (why : Stop) (k m0 m l : MyTree) (kept kept0 kept' kept'' : KeptRows)
+    → losses m0 ≡ losses k
+    → ((these : List Kept) × TakesKept these kept kept0) → HasStoppedBy why m0 m
+    → losses m0 ≤ losses m → PutsBack (lost_by why) m0 m kept0 kept' → losses m ≤ losses l
+    → PutsBack 0 m l kept' kept'' → PutsBack (lost_by why) k l kept kept''
+back_after (stop.Lost e) k m0 m l kept kept0 kept' kept'' same first found more one more' two =
     let lost = found.0 in
     as_begun 1 k m0 l kept kept0 kept'' same first
     (back_both 1 0 m0 m l kept0 kept' kept'' (omega arith) (omega arith) one two)
-back_after S T why.Worn k m0 m l kept kept0 kept' kept'' same first found more one more' two =
+back_after stop.Empty k m0 m l kept kept0 kept' kept'' same first found more one more' two =
+    as_begun 0 k m0 l kept kept0 kept'' same first
+    (back_both 0 0 m0 m l kept0 kept' kept'' (omega arith) (omega arith) one two)
+back_after stop.Worn k m0 m l kept kept0 kept' kept'' same first found more one more' two =
     as_begun 0 k m0 l kept kept0 kept'' same first
     (back_both 0 0 m0 m l kept0 kept' kept'' (omega arith) (omega arith) one two)
 
 -- Nothing was put back until a base was to be exchanged.
-pub cleared_after : (won : Bool) (k m l : MyTree) (kept kept0 kept1 kept' : KeptRows)
+pub cleared_after : (r : Result (Unit {0}) Stop) (k m l : MyTree)
+    (kept kept0 kept1 kept' : KeptRows)
     → losses m ≡ losses k → ((these : List Kept) × TakesKept these kept kept0) → kept1 ≡ kept0
-    → HasCleared (Ok won) m l kept1 kept' → HasCleared (Ok won) k l kept kept'
-cleared_after true k m l kept kept0 kept1 kept' same first list h = tt
-cleared_after false k m l kept kept0 kept1 kept' same first list h =
-    as_begun 1 k m l kept kept1 kept' same
+    → HasCleared r m l kept1 kept' → HasCleared r k l kept kept'
+cleared_after (Ok x) k m l kept kept0 kept1 kept' same first list h = tt
+cleared_after (Err why) k m l kept kept0 kept1 kept' same first list h =
+    as_begun (lost_by why) k m l kept kept1 kept' same
     (first.0, first.1 ∙ ap (λ (x : KeptRows). first.0 ++ x.rows.items) (sym list)) h

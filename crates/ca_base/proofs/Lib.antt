@@ -9,6 +9,7 @@ pub mod Inserting
 pub mod Items
 pub mod KeyOrder
 pub mod LastItems
+pub mod Oldest
 pub mod ObjectBytes
 pub mod Readying
 pub mod Rebasing

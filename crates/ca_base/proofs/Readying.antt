@@ -1,5 +1,5 @@
 -- Rows that were written are ready for the exchange.
-use Rattle.std.proofs.Common.{◌≡◌, ◌≢◌, ℕ, ◌<◌, ◌≤◌, true, Bool, List, length, map, drop, get_or, Result, Ok, Err, sym, ap, ◌∙◌, subst, arith}
+use Rattle.std.proofs.Common.{◌≡◌, ◌≢◌, ℕ, ◌<◌, ◌≤◌, true, List, length, map, drop, get_or, Result, Ok, Err, sym, ap, ◌∙◌, subst, arith}
 use Rattle.std.specs.Prelude.{slice_range}
 use Rattle.std.proofs.lemmas.List.{length-map, length-take}
 use mathlib.Core.Option.{some}
@@ -13,7 +13,8 @@ use Rattle.ca_node.specs.Told.{MyTree, IsUpdate}
 use Rattle.ca_node.specs.TreeView.{Note, TreeView}
 use Rattle.ca_base.specs.declared.updating.Putting.{Putting}
 use Rattle.ca_rows.specs.declared.view.Met.{Met}
-use Rattle.ca_base.specs.Putting.{put_in, object_at, IsRoom, IsPlaceFor, IsFor, IsShownLast, HasRenewed, HasSwapped, first_note, words_of, put_event, put_update, put_update_of, last_words}
+use Rattle.ca_base.specs.declared.stop.Stop.{Stop}
+use Rattle.ca_base.specs.Putting.{put_in, object_at, IsRoom, IsPlaceFor, IsFor, IsShownLast, HasRenewed, HasTried, first_note, words_of, put_event, put_update, put_update_of, last_words}
 use Rattle.ca_base.specs.Writing.{IsRewritten, SpellsObject, SpellsBase}
 use Rattle.ca_base.proofs.Rebasing.{new_base, note_is, words_are}
 use Rattle.ca_base.proofs.Replacing.{in_range_of, is_put}
@@ -86,20 +87,20 @@ module _ (z : Sizes) (m0 m1 m2 m3 : MyTree) (row new base : ℕ) (place : Result
       ∙ ap (λ (x : List ℕ × List ℕ). put_event why x.0 (object_at place note.objects) x.1)
       (λ i. (one.key_is i, one.object_is i))
 
-  pub tried : (won : Bool) (v : TreeView)
-      → HasSwapped (put_update_of m3 row new place why).event z won m3.0.upper v
-      → HasSwapped (put_event why (slice_range bytes key_at key_end) (object_at place note.objects)
-      bytes) z won m0.0.upper v
-  tried won v h = subst (λ (x : Event × TreeView). HasSwapped x.0 z won x.1 v)
+  pub tried : (r : Result (Unit {0}) Stop) (v : TreeView)
+      → HasTried (put_update_of m3 row new place why).event z r m3.0.upper v
+      → HasTried (put_event why (slice_range bytes key_at key_end) (object_at place note.objects)
+      bytes) z r m0.0.upper v
+  tried r v h = subst (λ (x : Event × TreeView). HasTried x.0 z r x.1 v)
       (λ i. (is_event i, upper i)) h
 
-  pub renewed_so : (met : Met) (won : Bool) (v : TreeView)
+  pub renewed_so : (met : Met) (r : Result (Unit {0}) Stop) (v : TreeView)
       → HasRenewed z met (get_or (put_update_of m3 row new place why).its 1 0)
-      (put_update_of m3 row new place why).edit (Ok won) m3.0.upper v
-      → HasRenewed z met statistic (Put (slice_range bytes key_at key_end) bytes) (Ok won)
+      (put_update_of m3 row new place why).edit r m3.0.upper v
+      → HasRenewed z met statistic (Put (slice_range bytes key_at key_end) bytes) r
       m0.0.upper v
-  renewed_so met won v h = subst
-      (λ (x : ℕ × Edit × TreeView). HasRenewed z met x.0 x.1 (Ok won) x.2 v)
+  renewed_so met r v h = subst
+      (λ (x : ℕ × Edit × TreeView). HasRenewed z met x.0 x.1 r x.2 v)
       (λ i. (
         (ap (λ (its : List ℕ). get_or its 1 0) (words_are new b m2 m3 wrote_too)
             ∙ two.statistic_is) i,

@@ -1,5 +1,5 @@
 -- A base without one of its objects is an update of the base that was shown.
-use Rattle.std.proofs.Common.{◌≡◌, ◌≢◌, ℕ, zero, suc, ◌<◌, ◌≤◌, List, [], ◌∷◌, length, map, take, drop, get_or, Bool, true, Some, Ok, sym, refl, ap, ◌∙◌, subst, inl, inr, arith}
+use Rattle.std.proofs.Common.{◌≡◌, ◌≢◌, ℕ, zero, suc, ◌<◌, ◌≤◌, List, [], ◌∷◌, length, map, take, drop, get_or, Result, true, Some, Ok, sym, refl, ap, ◌∙◌, subst, inl, inr, arith}
 use Rattle.std.proofs.lemmas.List.{get_or-map, length-map, length-take, map-append, take-map, drop-map}
 use Rattle.std.proofs.lemmas.List.Edits.{length-remove}
 use Rattle.std.specs.List.{remove}
@@ -20,8 +20,9 @@ use Rattle.ca_node.specs.Row.{items, count, pair, item_words, row_in, head_in, h
 use Rattle.ca_node.specs.Told.{MyTree, IsUpdate}
 use Rattle.ca_node.specs.TreeView.{Note, TreeView}
 use Rattle.ca_rows.specs.declared.view.Met.{Met}
-use Rattle.ca_base.specs.Putting.{object_at, IsShownLast, HasRenewed, HasSwapped, first_note, last_words}
+use Rattle.ca_base.specs.Putting.{object_at, IsShownLast, HasRenewed, HasTried, first_note, last_words}
 use Rattle.ca_base.specs.Removing.{key_at, take_update, update_of}
+use Rattle.ca_base.specs.declared.stop.Stop.{Stop}
 use Rattle.ca_base.specs.declared.swapping.Deed.TheVariants as deed
 use Rattle.ca_base.specs.Writing.{IsRewritten, SpellsBase}
 use Rattle.ca_base.proofs.Inserting.{elem_or}
@@ -151,10 +152,10 @@ module _ (z : Sizes) (first before now : MyTree) (new base at statistic : ℕ) (
       ordered (subst (λ (q : List ℕ). IsAt (map pair note.objects) q at) (sym key_same) place)
       (subst (HasKey note.place.span) (sym key_same) about))
 
-  pub removed : (won : Bool) (v : TreeView)
-      → HasSwapped (update_of now new (deed.Remove at)).event z won now.0.upper v
-      → HasSwapped (Remove k (Some (object_at (Ok at) note.objects))) z won first.0.upper v
-  removed won v h = subst (λ (x : Event × TreeView). HasSwapped x.0 z won x.1 v)
+  pub removed : (r : Result (Unit {0}) Stop) (v : TreeView)
+      → HasTried (update_of now new (deed.Remove at)).event z r now.0.upper v
+      → HasTried (Remove k (Some (object_at (Ok at) note.objects))) z r first.0.upper v
+  removed r v h = subst (λ (x : Event × TreeView). HasTried x.0 z r x.1 v)
       (λ i. (
         (ap (λ (x : Note). Remove (key_at at x.objects) (Some (object_at (Ok at) x.objects)))
             (note_is first now upper)
@@ -162,12 +163,12 @@ module _ (z : Sizes) (first before now : MyTree) (new base at statistic : ℕ) (
         upper i,
       )) h
 
-  pub renewed_without : (met : Met) (won : Bool) (v : TreeView)
+  pub renewed_without : (met : Met) (r : Result (Unit {0}) Stop) (v : TreeView)
       → HasRenewed z met (get_or (update_of now new (deed.Remove at)).its 1 0)
-      (update_of now new (deed.Remove at)).edit (Ok won) now.0.upper v
-      → HasRenewed z met statistic (Del k) (Ok won) first.0.upper v
-  renewed_without met won v h = subst
-      (λ (x : ℕ × Edit × TreeView). HasRenewed z met x.0 x.1 (Ok won) x.2 v)
+      (update_of now new (deed.Remove at)).edit r now.0.upper v
+      → HasRenewed z met statistic (Del k) r first.0.upper v
+  renewed_without met r v h = subst
+      (λ (x : ℕ × Edit × TreeView). HasRenewed z met x.0 x.1 r x.2 v)
       (λ i. (
         (ap (λ (its : List ℕ). get_or its 1 0) (words_are new b before now wrote)
             ∙ spells.statistic_is) i,

@@ -1,5 +1,5 @@
 -- Updates that put an object: what becomes of a base, and which call it is.
-use Rattle.std.specs.Prelude.{◌≡◌, ℕ, ◌+◌, ◌<◌, ◌≤◌, Bool, true, false, List, [], ◌∷◌, length, map, slice_index, slice_index_or, slice_set, Some, Result, Ok, Err}
+use Rattle.std.specs.Prelude.{◌≡◌, ℕ, ◌+◌, ◌<◌, ◌≤◌, true, List, [], ◌∷◌, length, map, slice_index, slice_index_or, slice_set, Some, Result, Ok, Err}
 use Rattle.std.specs.List.{insert}
 use mathlib.Core.Option.{Option, some, none}
 use Rattle.ca_model.specs.Event.{Event, Write, WriteNew, Change}
@@ -9,7 +9,9 @@ use Rattle.ca_node.specs.Place.{edit_key}
 use Rattle.ca_node.specs.Row.{items, object, key, pair, item_words}
 use Rattle.ca_node.specs.Told.{MyTree, IsBaseNote, IsKnown, Update, one_more_lost, updated_inventory}
 use Rattle.ca_node.specs.TreeView.{Note, Renewal, TreeView, no_note}
-use Rattle.ca_base.specs.declared.taking.NoRow.{NoRow}
+use Rattle.ca_base.specs.declared.stop.Exchange.TheVariants as exchange
+use Rattle.ca_base.specs.declared.stop.Stop.{Stop}
+use Rattle.ca_base.specs.declared.stop.Stop.TheVariants as stop
 use Rattle.ca_base.specs.declared.updating.Putting.{Putting}
 use Rattle.ca_base.specs.declared.updating.Putting.TheVariants as putting
 use Rattle.ca_base.specs.Progress.{HasDone}
@@ -111,15 +113,17 @@ pub record IsShownLast (z : Sizes) (u : TreeView) (base : ℕ) : Type 0 where
 abbrev pub IsShownWith : Sizes → TreeView → ℕ → ℕ → Type 0
 IsShownWith z u base many = IsShownLast z u base × ((many ≡ length (last_words u)) × (many ≤ 120))
 
--- The exchange of a base: the call is done, and what the pass has seen then is known of a history; or it was lost, which is counted.
-abbrev pub HasSwapped : Event → Sizes → Bool → TreeView → TreeView → Type 0
-HasSwapped event z true u v = HasDone event u v × IsKnown z v
-HasSwapped event z false u v = v ≡ one_more_lost u
+-- what a pass knows of the tree where a try came to nothing: where the exchange of a link was lost, that is counted
+abbrev pub stopped : Stop → TreeView → TreeView
+stopped (stop.Lost exchange.Link) u = one_more_lost u
+stopped (stop.Lost exchange.Head) u = u
+stopped stop.Empty u = u
+stopped stop.Worn u = u
 
--- The same, or no row was free.
-abbrev pub HasTried : Event → Sizes → Result Bool NoRow → TreeView → TreeView → Type 0
-HasTried event z (Ok won) u v = HasSwapped event z won u v
-HasTried event z (Err why) u v = v ≡ u
+-- A try to exchange a base: the call is done, and what the pass has seen then is known of a history; or it came to nothing.
+abbrev pub HasTried : {T : Type 0} → Event → Sizes → Result T Stop → TreeView → TreeView → Type 0
+HasTried event z (Ok x) u v = HasDone event u v × IsKnown z v
+HasTried event z (Err why) u v = v ≡ stopped why u
 
 -- one update more: about this key, of the base that was there, by the one that took its place, given what was met of the pool until then
 abbrev pub renewal_of : Met → TreeView → List ℕ → Note → Note → Renewal
@@ -156,11 +160,11 @@ pub record IsRenewed (z : Sizes) (met : Met) (statistic : ℕ) (edit : Edit) (u 
   pub renewal : v.renewal ≡ renewal_of met u (edit_key edit) (first_note u.notes) (first_note v.notes)
 
 -- So it is where the exchange of a base won.
-abbrev pub HasRenewed : Sizes → Met → ℕ → Edit → Result Bool NoRow → TreeView → TreeView → Type 0
-HasRenewed z met statistic edit (Ok true) u v = IsRenewed z met statistic edit u v
-HasRenewed z met statistic edit (Ok false) u v = Unit {0}
+abbrev pub HasRenewed : {T : Type 0} → Sizes → Met → ℕ → Edit → Result T Stop → TreeView → TreeView → Type 0
+HasRenewed z met statistic edit (Ok x) u v = IsRenewed z met statistic edit u v
 HasRenewed z met statistic edit (Err why) u v = Unit {0}
 
 -- Where the exchange of a base won, this is the new one's row.
-abbrev pub IsNewRow : ℕ → Result Bool NoRow → TreeView → Type 0
-IsNewRow row tried v = tried ≡ Ok true → row ≡ (first_note v.notes).row
+abbrev pub IsNewRow : {T : Type 0} → ℕ → Result T Stop → TreeView → Type 0
+IsNewRow row (Ok x) v = row ≡ (first_note v.notes).row
+IsNewRow row (Err why) v = Unit {0}

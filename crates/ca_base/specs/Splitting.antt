@@ -1,11 +1,11 @@
 -- Splits of a base: what the words of a route spell, which rows are taken, and what a split comes to.
-use Rattle.std.specs.Prelude.{◌≡◌, ℕ, ◌*◌, ◌/◌, Bool, true, false, List, [], ◌∷◌, length, slice_index, slice_index_or, Result, Ok, Err}
+use Rattle.std.specs.Prelude.{◌≡◌, ℕ, ◌*◌, ◌/◌, List, [], ◌∷◌, length, slice_index, slice_index_or, Result, Ok, Err}
 use Rattle.ca_node.specs.Row.{IsRouteRow, count, items, key, level, route_key}
-use Rattle.ca_node.specs.Told.{MyTree, divided, one_more_lost}
+use Rattle.ca_node.specs.Told.{MyTree, divided}
 use Rattle.ca_node.specs.TreeView.{Note, TreeView, Division}
 use Rattle.ca_node.specs.Links.{AreApart}
-use Rattle.ca_base.specs.declared.taking.NoRow.{NoRow}
-use Rattle.ca_base.specs.Putting.{first_note, words_of}
+use Rattle.ca_base.specs.declared.stop.Stop.{Stop}
+use Rattle.ca_base.specs.Putting.{first_note, stopped, words_of}
 use Rattle.ca_rows.specs.Claims.{claim_of}
 use Rattle.ca_rows.specs.Layout.{row_words}
 
@@ -21,7 +21,7 @@ pub record SpellsRoute (at_level : ℕ) (bytes : List ℕ) (left right attempt :
   pub join_is : slice_index its 3 ≡ attempt * 4
 
 -- Three rows are held, each once, or none.
-abbrev pub HasTakenThree : Result (ℕ × ℕ × ℕ) NoRow → (List ℕ → Type 0) → Type 0
+abbrev pub HasTakenThree : Result (ℕ × ℕ × ℕ) Stop → (List ℕ → Type 0) → Type 0
 HasTakenThree (Ok three) Now = AreApart (three.0 ∷ three.1 ∷ three.2 ∷ []) × Now (three.0 ∷ three.1 ∷ three.2 ∷ [])
 HasTakenThree (Err why) Now = Now []
 
@@ -56,8 +56,7 @@ pub record IsSplit (note : Note) (many attempt : ℕ) (x : Division) : Type 0 wh
   pub key_is : route_key x.route_its ≡ key (slice_index_or note.objects x.middle [])
   pub halving : IsHalving many attempt x
 
--- The exchange of the base that was shown last against a route: the split is carried out, or the exchange was lost, which is counted; or no row was free.
-abbrev pub HasSplit : ℕ → ℕ → Result Bool NoRow → TreeView → TreeView → Type 0
-HasSplit many attempt (Ok true) u v = (x : Division) × IsSplit (first_note u.notes) many attempt x × (v ≡ divided x u)
-HasSplit many attempt (Ok false) u v = v ≡ one_more_lost u
-HasSplit many attempt (Err why) u v = v ≡ u
+-- A try to exchange the base that was shown last against a route: the split is carried out, or it came to nothing.
+abbrev pub HasSplit : {T : Type 0} → ℕ → ℕ → Result T Stop → TreeView → TreeView → Type 0
+HasSplit many attempt (Ok x) u v = (x : Division) × IsSplit (first_note u.notes) many attempt x × (v ≡ divided x u)
+HasSplit many attempt (Err why) u v = v ≡ stopped why u

@@ -1,10 +1,10 @@
 -- Rows that a pass holds for a call.
-use Rattle.std.specs.Prelude.{◌≡◌, ◌≢◌, ◌⊎◌, ℕ, ◌<◌, ◌≤◌, List, [], ◌∷◌, length, Vec, Result, Ok, Err}
+use Rattle.std.specs.Prelude.{◌≡◌, ◌≢◌, ◌⊎◌, ℕ, ◌+◌, ◌<◌, ◌≤◌, List, [], ◌∷◌, length, Vec, Result, Ok, Err}
 use Rattle.std.specs.Global.{Global}
 use mathlib.Core.Option.{some}
 use Rattle.ca_node.specs.Links.{IsIn}
 use Rattle.ca_node.specs.TreeView.{TreeView}
-use Rattle.ca_base.specs.declared.taking.NoRow.{NoRow}
+use Rattle.ca_base.specs.declared.stop.Stop.{Stop}
 use Rattle.ca_rows.specs.declared.kept.Kept.{Kept}
 use Rattle.ca_rows.specs.declared.space.Pass.{Pass}
 use Rattle.ca_rows.specs.declared.space.Space.{Space}
@@ -40,12 +40,18 @@ pub record MayTake {R : Type 0} (space : Space R TreeView) (pass : Pass R TreeVi
   pub list : AreKept space.table.shared.key.rows pass.seat.me.0.claims pass.kept.rows
 
 -- One row more is held, or none.
-abbrev pub HasTaken : Result ℕ NoRow → List ℕ → (List ℕ → Type 0) → Type 0
+abbrev pub HasTaken : Result ℕ Stop → List ℕ → (List ℕ → Type 0) → Type 0
 HasTaken (Ok row) held Now = (¬ IsIn row held) × Now (row ∷ held)
 HasTaken (Err why) held Now = Now held
 
+-- Where the row that was kept for longest may be held again by the epoch that the pass was told as it pinned, it is the one that is taken, and the
+-- others are kept still; else the same rows are kept.
+abbrev pub TakesOldest : Result ℕ Stop → ℕ → List Kept → List Kept → Type 0
+TakesOldest r told [] now = now ≡ []
+TakesOldest r told (first ∷ rest) now = (first.at + 2 ≤ told → (r ≡ Ok first.row) × (now ≡ rest)) × (told < first.at + 2 → now ≡ first ∷ rest)
+
 -- Two rows are held, or none.
-abbrev pub HasTakenTwo : Result (ℕ × ℕ) NoRow → (List ℕ → Type 0) → Type 0
+abbrev pub HasTakenTwo : Result (ℕ × ℕ) Stop → (List ℕ → Type 0) → Type 0
 HasTakenTwo (Ok two) Now = (two.0 ≢ two.1) × Now (two.0 ∷ two.1 ∷ [])
 HasTakenTwo (Err why) Now = Now []
 

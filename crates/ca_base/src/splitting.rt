@@ -1,16 +1,18 @@
 //! A base is split: a route over two halves takes its place.
 ghost use Rattle.ca_rows.specs.Layout.{row_words};
-ghost use Rattle.std.specs.Prelude.{◌≡◌, ◌≢◌, ◌+◌, ◌*◌, ◌<◌, ◌≤◌, [], ◌∷◌, map, false, Ok};
+ghost use Rattle.std.specs.Prelude.{◌≡◌, ◌≢◌, ◌+◌, ◌*◌, ◌<◌, ◌≤◌, [], ◌∷◌, map, Err};
 ghost use Rattle.ca_model.specs.StoreMap.{IsStoreMap};
 ghost use Rattle.ca_node.specs.Inventory.{IsListed};
 ghost use Rattle.ca_node.specs.Row.{pair};
 ghost use Rattle.ca_node.specs.Told.{IsDivision, link_word};
 ghost use Rattle.ca_node.specs.States.{IsAlone};
 ghost use Rattle.ca_node.specs.Links.{AreApart};
-ghost use Rattle.ca_base.specs.Counting.{IsSpent, HasCleared, HasEnded, HasFound, HasPutBack};
+ghost use Rattle.ca_base.specs.Counting.{IsSpent, HasCleared, HasFound, HasPutBack};
 ghost use Rattle.ca_base.specs.Targets.{IsTarget};
 ghost use Rattle.ca_base.specs.Splitting.{HasTakenThree, HasSplit, IsHalving};
 ghost use Rattle.ca_base.specs.Taking.{AreHeld, MayTake};
+ghost use Rattle.ca_base.specs.declared.stop.Exchange.TheVariants.{Link as IsLink};
+ghost use Rattle.ca_base.specs.declared.stop.Stop.TheVariants.{Lost as IsLost};
 ghost use Rattle.ca_rows.specs.Passes.{IsOn, IsStillPass, sizes, known, view};
 ghost use Rattle.ca_node.specs.TreePasses.{tree_of};
 ghost use Rattle.ca_base.specs.Readiness.{IsReady, StaysReady, shown_last};
@@ -19,8 +21,9 @@ use crate::copying::Run;
 use crate::reading::item;
 use crate::routing::{Fork, copy_key, write_half, write_route};
 use crate::spending::lose;
+use crate::stop::{Exchange, Stop};
 use crate::swapping::{give_back_all, retire_unlinked};
-use crate::taking::{NoRow, take, take_two};
+use crate::taking::{take, take_two};
 use ca_model::{Code, Spent};
 use ca_node::{Cursor, Plan, TreePass, TreeSpace, divide_base};
 use std::marker::Brand;
@@ -33,7 +36,7 @@ struct Halving {
 }
 
 /// Splits the base that was shown last, which has so many objects: a route with the key of the first object of the right half takes its place, over
-/// two bases with the halves. It takes three rows. False where the exchange was lost, which none is by a pass that is alone and lists the base.
+/// two bases with the halves. It takes three rows. A pass that is alone and lists the base loses no exchange of a link.
 pub fn split_at(
     space: &TreeSpace,
     pass: &mut TreePass,
@@ -41,7 +44,7 @@ pub fn split_at(
     many: u32,
     attempt: u64,
     spent: &mut Spent,
-) -> Result<bool, NoRow>
+) -> Result<(), Stop>
     requires ready { IsReady space.now pass.old }
     requires target { IsTarget (sizes space.now) (tree_of pass.old) cursor many }
     requires two { 2 ≤ many }
@@ -50,15 +53,12 @@ pub fn split_at(
     requires attempt { attempt < 4611686018427387904 }
     ensures frame { StaysReady space.now pass.old pass.new }
     ensures split { HasSplit many attempt result (tree_of pass.old) (tree_of pass.new) }
-    ensures won { IsAlone (sizes space.now) (tree_of pass.old) → IsListed (tree_of pass.old).inventory (shown_last pass.old) → result ≢ Ok false }
+    ensures won { IsAlone (sizes space.now) (tree_of pass.old) → IsListed (tree_of pass.old).inventory (shown_last pass.old) → result ≢ Err (IsLost IsLink) }
     ensures counted { IsSpent spent.old spent.new (known pass.old) (known pass.new) }
-    ensures found { HasEnded result (known pass.old) (known pass.new) }
+    ensures found { HasFound result (known pass.old) (known pass.new) }
     ensures back { HasCleared result (known pass.old) (known pass.new) pass.old.kept pass.new.kept }
 {
-    let (route, left, right) = match take_three(space, pass, spent) {
-        Ok(rows) => rows,
-        Err(why) => return Err(why),
-    };
+    let (route, left, right) = take_three(space, pass, spent)?;
     let base = cursor.base;
     let middle = many / 2;
     let below = cursor.level + 1;
@@ -80,7 +80,7 @@ pub fn split_at(
     let fork = Fork { route, left, right };
     write_route(space, pass, fork, cursor.level, &key, attempt);
     let halving = Halving { many, attempt };
-    Ok(divide_in::<Brand>(space, pass, cursor, fork, halving, spent))
+    divide_in::<Brand>(space, pass, cursor, fork, halving, spent)
 }
 
 // Takes three rows. Where it finds fewer, they are put back.
@@ -88,19 +88,17 @@ fn take_three(
     space: &TreeSpace,
     pass: &mut TreePass,
     spent: &mut Spent,
-) -> Result<(u32, u32, u32), NoRow>
+) -> Result<(u32, u32, u32), Stop>
     requires may { MayTake space.now pass.old }
     requires none { AreHeld (sizes space.now).rows pass.old.kept.rows (view pass.old) [] }
     ensures frame { IsStillPass pass.old pass.new }
     ensures taken { HasTakenThree result (AreHeld (sizes space.now).rows pass.new.kept.rows (view pass.new)) }
     ensures counted { IsSpent spent.old spent.new (known pass.old) (known pass.new) }
     ensures found { HasFound result (known pass.old) (known pass.new) }
+    ensures head { result ≢ Err (IsLost IsLink) }
     ensures back { HasPutBack result (known pass.old) (known pass.new) pass.old.kept pass.new.kept }
 {
-    let (first, second) = match take_two(space, pass, spent) {
-        Ok(rows) => rows,
-        Err(why) => return Err(why),
-    };
+    let (first, second) = take_two(space, pass, spent)?;
     match take(space, pass, spent) {
         Ok(third) => Ok((third, first, second)),
         Err(why) => {
@@ -119,7 +117,7 @@ fn divide_in<K: Plan>(
     fork: Fork,
     _halving: Halving,
     spent: &mut Spent,
-) -> bool
+) -> Result<(), Stop>
     requires own { IsOn space.now pass.old }
     requires division { IsDivision (sizes space.now) (known pass.old) K.division × IsHalving _halving.many _halving.attempt K.division }
     requires last { shown_last pass.old ≡ K.division.old }
@@ -129,19 +127,19 @@ fn divide_in<K: Plan>(
     requires apart { AreApart (fork.route ∷ fork.left ∷ fork.right ∷ []) }
     requires held { AreHeld (sizes space.now).rows pass.old.kept.rows (view pass.old) (fork.route ∷ fork.left ∷ fork.right ∷ []) }
     ensures frame { StaysReady space.now pass.old pass.new }
-    ensures split { HasSplit _halving.many _halving.attempt (Ok result) (tree_of pass.old) (tree_of pass.new) }
-    ensures won { IsAlone (sizes space.now) (tree_of pass.old) → IsListed (tree_of pass.old).inventory K.division.old → result ≢ false }
+    ensures split { HasSplit _halving.many _halving.attempt result (tree_of pass.old) (tree_of pass.new) }
+    ensures won { IsAlone (sizes space.now) (tree_of pass.old) → IsListed (tree_of pass.old).inventory K.division.old → result ≢ Err (IsLost IsLink) }
     ensures counted { IsSpent spent.old spent.new (known pass.old) (known pass.new) }
-    ensures found { HasEnded (Ok result) (known pass.old) (known pass.new) }
-    ensures back { HasCleared (Ok result) (known pass.old) (known pass.new) pass.old.kept pass.new.kept }
+    ensures found { HasFound result (known pass.old) (known pass.new) }
+    ensures back { HasCleared result (known pass.old) (known pass.new) pass.old.kept pass.new.kept }
 {
     let (link, base) = (cursor.link, cursor.base);
     if !divide_base::<K>(space, pass, link, base, fork.route) {
         lose(spent);
         let rows = [fork.route, fork.left, fork.right];
         give_back_all(space, pass, &rows, spent);
-        return false;
+        return Err(Stop::Lost(Exchange::Link));
     }
     retire_unlinked(space, pass, base);
-    true
+    Ok(())
 }

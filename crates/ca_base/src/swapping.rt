@@ -1,12 +1,14 @@
 //! A base that a pass wrote takes the place of the one that it was shown last.
-ghost use Rattle.std.specs.Prelude.{◌≡◌, ◌≢◌, ◌<◌, ◌≤◌, ℕ, false, List, [], ◌∷◌, length, Ok, slice_index};
+ghost use Rattle.std.specs.Prelude.{◌≡◌, ◌≢◌, ◌<◌, ◌≤◌, ℕ, List, [], ◌∷◌, length, Err, slice_index};
 ghost use Rattle.ca_node.specs.Inventory.{IsListed};
 ghost use Rattle.ca_node.specs.Links.{IsIn, AreApart};
 ghost use Rattle.ca_node.specs.Told.{IsBaseNote, IsUpdate};
 ghost use Rattle.ca_node.specs.States.{IsAlone};
-ghost use Rattle.ca_base.specs.Counting.{losses, IsSpent, HasCleared, HasEnded, HasMet, PutsBack};
+ghost use Rattle.ca_base.specs.Counting.{losses, IsSpent, HasCleared, HasFound, HasMet, PutsBack};
 ghost use Rattle.ca_base.specs.Finding.{IsAtCursor};
-ghost use Rattle.ca_base.specs.Putting.{HasRenewed, IsNewRow, HasSwapped, first_note};
+ghost use Rattle.ca_base.specs.Putting.{HasRenewed, HasTried, IsNewRow, first_note};
+ghost use Rattle.ca_base.specs.declared.stop.Exchange.TheVariants.{Link as IsLink};
+ghost use Rattle.ca_base.specs.declared.stop.Stop.TheVariants.{Lost as IsLost};
 ghost use Rattle.ca_base.specs.Taking.{AreHeld, AreUnlinked};
 ghost use Rattle.ca_rows.specs.Told.{met_of};
 ghost use Rattle.ca_rows.specs.Passes.{IsOn, IsStillPass, sizes, known, view};
@@ -14,6 +16,7 @@ ghost use Rattle.ca_node.specs.TreePasses.{tree_of};
 ghost use Rattle.ca_base.specs.Readiness.{StaysReady};
 
 use crate::spending::lose;
+use crate::stop::{Exchange, Stop};
 use crate::taking::give_back;
 use crate::updating::Putting;
 use ca_model::Spent;
@@ -48,7 +51,7 @@ pub(crate) fn swap_in<K: Intent>(
     rows: &Rows<'_>,
     _deed: Deed,
     spent: &mut Spent,
-) -> bool
+) -> Result<(), Stop>
     requires own { IsOn space.now pass.old }
     requires update { IsUpdate (sizes space.now) (known pass.old) rows.now.new K.update }
     requires old_base { IsBaseNote (sizes space.now) K.update.old }
@@ -59,24 +62,24 @@ pub(crate) fn swap_in<K: Intent>(
     requires held { AreHeld (sizes space.now).rows pass.old.kept.rows (view pass.old) (rows.now.new ∷ rows.now.comes.now) }
     requires few { (length rows.now.comes.now ≤ 1) × (length rows.now.goes.now ≤ 1) }
     ensures frame { StaysReady space.now pass.old pass.new }
-    ensures done { HasSwapped K.update.event (sizes space.now) result (tree_of pass.old) (tree_of pass.new) }
-    ensures won { IsAlone (sizes space.now) (tree_of pass.old) → IsListed (tree_of pass.old).inventory K.update.old → result ≢ false }
-    ensures renewed { HasRenewed (sizes space.now) (met_of (known pass.new)) (slice_index K.update.its 1) K.update.edit (Ok result) (tree_of pass.old) (tree_of pass.new) }
-    ensures placed { IsNewRow rows.now.new (Ok result) (tree_of pass.new) }
+    ensures done { HasTried K.update.event (sizes space.now) result (tree_of pass.old) (tree_of pass.new) }
+    ensures won { IsAlone (sizes space.now) (tree_of pass.old) → IsListed (tree_of pass.old).inventory K.update.old → result ≢ Err (IsLost IsLink) }
+    ensures renewed { HasRenewed (sizes space.now) (met_of (known pass.new)) (slice_index K.update.its 1) K.update.edit result (tree_of pass.old) (tree_of pass.new) }
+    ensures placed { IsNewRow rows.now.new result (tree_of pass.new) }
     ensures counted { IsSpent spent.old spent.new (known pass.old) (known pass.new) }
-    ensures found { HasEnded (Ok result) (known pass.old) (known pass.new) }
-    ensures back { HasCleared (Ok result) (known pass.old) (known pass.new) pass.old.kept pass.new.kept }
+    ensures found { HasFound result (known pass.old) (known pass.new) }
+    ensures back { HasCleared result (known pass.old) (known pass.new) pass.old.kept pass.new.kept }
 {
     let base = cursor.base;
     if !replace_base::<K>(space, pass, cursor.link, base, rows.new) {
         lose(spent);
         give_back(space, pass, rows.new, spent);
         give_back_all(space, pass, rows.comes, spent);
-        return false;
+        return Err(Stop::Lost(Exchange::Link));
     }
     retire_unlinked(space, pass, base);
     retire_all(space, pass, rows.goes);
-    true
+    Ok(())
 }
 
 // Puts rows back that the pass holds.

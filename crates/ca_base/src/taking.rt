@@ -1,38 +1,32 @@
 //! Rows are taken for a call, and put back.
-ghost use Rattle.std.specs.Prelude.{◌≡◌, ◌+◌, ◌<◌, ℕ, List, [], ◌∷◌, length};
+ghost use Rattle.std.specs.Prelude.{◌≡◌, ◌≢◌, Err, ◌+◌, ◌<◌, ℕ, List, [], ◌∷◌, length};
 ghost use mathlib.Core.Option.{some};
 ghost use Rattle.ca_node.specs.Links.{IsIn};
 ghost use Rattle.ca_base.specs.Counting.{IsSpent, HasFound, HasMet, HasPutBack, PutsBack};
-ghost use Rattle.ca_base.specs.Taking.{AreHeld, HasTaken, HasTakenTwo, MayTake};
+ghost use Rattle.ca_base.specs.declared.stop.Exchange.TheVariants.{Link as IsLink};
+ghost use Rattle.ca_base.specs.declared.stop.Stop.TheVariants.{Lost as IsLost};
+ghost use Rattle.ca_base.specs.Taking.{AreHeld, HasTaken, HasTakenTwo, MayTake, TakesOldest};
 ghost use Rattle.ca_rows.specs.declared.view.Claim.TheVariants.{Keeps as IsKept};
 ghost use Rattle.ca_rows.specs.Claims.{claim_of};
 ghost use Rattle.ca_rows.specs.Passes.{IsOn, IsStillPass, StillKeepsList, sizes, known, view};
 
 use crate::spending::lose;
+use crate::stop::{Exchange, Stop};
 use ca_model::Spent;
 use ca_node::{TreePass, TreeSpace};
 use ca_rows::Taken;
 
-/// Why no row was taken.
-#[derive(Clone, Copy)]
-pub enum NoRow {
-    /// No row was free.
-    Empty,
-    /// An exchange was lost to another pass.
-    Lost,
-    /// The pool's tag can rise no more.
-    Worn,
-}
-
 /// Takes a row: the one that the pass keeps for longest, where nobody can have a note on it any more, else a free one.
-pub fn take(space: &TreeSpace, pass: &mut TreePass, spent: &mut Spent) -> Result<u32, NoRow>
+pub fn take(space: &TreeSpace, pass: &mut TreePass, spent: &mut Spent) -> Result<u32, Stop>
     requires may { MayTake space.now pass.old }
     ensures frame { IsStillPass pass.old pass.new }
     ensures taken { (held : List ℕ) → length held < 8 → AreHeld (sizes space.now).rows pass.old.kept.rows (view pass.old) held
         → HasTaken result held (AreHeld (sizes space.now).rows pass.new.kept.rows (view pass.new)) }
     ensures counted { IsSpent spent.old spent.new (known pass.old) (known pass.new) }
     ensures found { HasFound result (known pass.old) (known pass.new) }
+    ensures head { result ≢ Err (IsLost IsLink) }
     ensures back { HasPutBack result (known pass.old) (known pass.new) pass.old.kept pass.new.kept }
+    ensures oldest { TakesOldest result (view pass.old).pin.told pass.old.kept.rows.items pass.new.kept.rows.items }
 {
     match space.reuse_row(pass) {
         Some(row) => Ok(row),
@@ -41,7 +35,7 @@ pub fn take(space: &TreeSpace, pass: &mut TreePass, spent: &mut Spent) -> Result
 }
 
 // Takes a free row, where the pass keeps none that it may hold again.
-fn take_free(space: &TreeSpace, pass: &mut TreePass, spent: &mut Spent) -> Result<u32, NoRow>
+fn take_free(space: &TreeSpace, pass: &mut TreePass, spent: &mut Spent) -> Result<u32, Stop>
     requires own { IsOn space.now pass.old }
     requires young { (row t : ℕ) → claim_of (view pass.old).claims row ≡ some (IsKept t) → (view pass.old).pin.told < t + 2 }
     ensures frame { StillKeepsList pass.old pass.new }
@@ -49,16 +43,17 @@ fn take_free(space: &TreeSpace, pass: &mut TreePass, spent: &mut Spent) -> Resul
         → HasTaken result held (AreHeld (sizes space.now).rows pass.new.kept.rows (view pass.new)) }
     ensures counted { IsSpent spent.old spent.new (known pass.old) (known pass.new) }
     ensures found { HasFound result (known pass.old) (known pass.new) }
+    ensures head { result ≢ Err (IsLost IsLink) }
     ensures back { HasPutBack result (known pass.old) (known pass.new) pass.old.kept pass.new.kept }
 {
     match space.take_row(pass) {
         Taken::Row(row) => Ok(row),
-        Taken::Empty => Err(NoRow::Empty),
+        Taken::Empty => Err(Stop::Empty),
         Taken::Lost => {
             lose(spent);
-            Err(NoRow::Lost)
+            Err(Stop::Lost(Exchange::Head))
         }
-        Taken::Worn => Err(NoRow::Worn),
+        Taken::Worn => Err(Stop::Worn),
     }
 }
 
@@ -67,19 +62,17 @@ pub fn take_two(
     space: &TreeSpace,
     pass: &mut TreePass,
     spent: &mut Spent,
-) -> Result<(u32, u32), NoRow>
+) -> Result<(u32, u32), Stop>
     requires may { MayTake space.now pass.old }
     requires none { AreHeld (sizes space.now).rows pass.old.kept.rows (view pass.old) [] }
     ensures frame { IsStillPass pass.old pass.new }
     ensures taken { HasTakenTwo result (AreHeld (sizes space.now).rows pass.new.kept.rows (view pass.new)) }
     ensures counted { IsSpent spent.old spent.new (known pass.old) (known pass.new) }
     ensures found { HasFound result (known pass.old) (known pass.new) }
+    ensures head { result ≢ Err (IsLost IsLink) }
     ensures back { HasPutBack result (known pass.old) (known pass.new) pass.old.kept pass.new.kept }
 {
-    let first = match take(space, pass, spent) {
-        Ok(row) => row,
-        Err(why) => return Err(why),
-    };
+    let first = take(space, pass, spent)?;
     match take(space, pass, spent) {
         Ok(second) => Ok((first, second)),
         Err(why) => {

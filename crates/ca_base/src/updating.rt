@@ -1,21 +1,24 @@
 //! An object is put into a base.
-ghost use Rattle.std.specs.Prelude.{◌≡◌, ◌≢◌, ℕ, List, [], map, false, Ok};
+ghost use Rattle.std.specs.Prelude.{◌≡◌, ◌≢◌, ℕ, List, [], map, Err};
 ghost use Rattle.ca_model.specs.Places.{IsPlace};
 ghost use Rattle.ca_node.specs.Inventory.{IsListed};
 ghost use Rattle.ca_node.specs.Place.{HasKey};
 ghost use Rattle.ca_node.specs.Row.{pair};
 ghost use Rattle.ca_node.specs.States.{IsAlone};
-ghost use Rattle.ca_base.specs.Counting.{IsSpent, HasCleared, HasEnded};
+ghost use Rattle.ca_base.specs.Counting.{IsSpent, HasCleared, HasFound};
 ghost use Rattle.ca_base.specs.Putting.{gone as gone_at, IsItemAt, IsNewRow, IsRoom, IsFor, HasRenewed, HasTried};
 ghost use Rattle.ca_base.specs.Targets.{IsKeyed, IsTarget, edit_of, event_of, key_in};
 ghost use Rattle.ca_rows.specs.Told.{met_of};
+ghost use Rattle.ca_base.specs.declared.stop.Exchange.TheVariants.{Link as IsLink};
+ghost use Rattle.ca_base.specs.declared.stop.Stop.TheVariants.{Lost as IsLost};
 ghost use Rattle.ca_rows.specs.Passes.{sizes, known};
 ghost use Rattle.ca_node.specs.TreePasses.{tree_of};
 ghost use Rattle.ca_base.specs.Readiness.{IsReady, StaysReady, shown_last};
 
 use crate::copying::write_base_with;
+use crate::stop::Stop;
 use crate::swapping::{Deed, Rows, swap_in};
-use crate::taking::{NoRow, take_two};
+use crate::taking::take_two;
 use crate::target::{Insertion, Target};
 use crate::writing::{word_of_item, write_object};
 use ca_model::Spent;
@@ -36,7 +39,7 @@ pub enum Putting {
 
 /// Puts an object into the base that was shown last, at its key's place, by one exchange of the link where that base hangs; this enters the call in
 /// the log. The key is one of those that are led there. `placed` is the new base's row then.
-/// False where the exchange was lost, which none is by a pass that is alone and lists the base.
+/// A pass that is alone and lists the base loses no exchange of a link.
 pub fn put_at(
     space: &TreeSpace,
     pass: &mut TreePass,
@@ -44,7 +47,7 @@ pub fn put_at(
     insertion: &Insertion<'_>,
     placed: &mut u32,
     spent: &mut Spent,
-) -> Result<bool, NoRow>
+) -> Result<(), Stop>
     requires ready { IsReady space.now pass.old }
     requires target { IsTarget (sizes space.now) (tree_of pass.old) target.now.cursor target.now.many }
     requires room { IsRoom insertion.now.place target.now.many (sizes space.now).leaf }
@@ -54,20 +57,17 @@ pub fn put_at(
     requires call { IsFor insertion.now.why insertion.now.place }
     ensures frame { StaysReady space.now pass.old pass.new }
     ensures put { HasTried (event_of insertion.now (shown_last pass.old).objects) (sizes space.now) result (tree_of pass.old) (tree_of pass.new) }
-    ensures won { IsAlone (sizes space.now) (tree_of pass.old) → IsListed (tree_of pass.old).inventory (shown_last pass.old) → result ≢ Ok false }
+    ensures won { IsAlone (sizes space.now) (tree_of pass.old) → IsListed (tree_of pass.old).inventory (shown_last pass.old) → result ≢ Err (IsLost IsLink) }
     ensures renewed { HasRenewed (sizes space.now) (met_of (known pass.new)) target.now.statistic (edit_of insertion.now) result (tree_of pass.old)
         (tree_of pass.new) }
     ensures placed { IsNewRow placed.new result (tree_of pass.new) }
     ensures counted { IsSpent spent.old spent.new (known pass.old) (known pass.new) }
-    ensures found { HasEnded result (known pass.old) (known pass.new) }
+    ensures found { HasFound result (known pass.old) (known pass.new) }
     ensures back { HasCleared result (known pass.old) (known pass.new) pass.old.kept pass.new.kept }
 {
     // An update retires the old base before the old object, and kept rows are given back from the last one on: so the row that is taken first
     // was mostly a base before, and has most of a new one's words already.
-    let (new, row) = match take_two(space, pass, spent) {
-        Ok(rows) => rows,
-        Err(why) => return Err(why),
-    };
+    let (new, row) = take_two(space, pass, spent)?;
     let keyed = insertion.keyed;
     let place = insertion.place;
     write_object(space, pass, row, keyed.object, keyed.key_at, keyed.key_end);
@@ -80,7 +80,7 @@ pub fn put_at(
         goes: gone(&old, place),
     };
     let deed = Deed::Put(insertion.why, place, row);
-    Ok(swap_in::<Brand>(space, pass, target.cursor, &rows, deed, spent))
+    swap_in::<Brand>(space, pass, target.cursor, &rows, deed, spent)
 }
 
 // The item, where it is the one whose place it is.

@@ -9,6 +9,7 @@ use crate::draws::{Draws, even, skewed};
 use crate::numbers::{counter_of, key_code, object, write_next};
 use ca_model::{Changed, Code, Outcome};
 use ca_replace::TreeStore;
+use std::thread::yield_now;
 
 /// How many turns a call may lose to other clients.
 pub const BUDGET: u32 = 1_000;
@@ -156,13 +157,15 @@ impl<'t> Player<'t> {
         }
     }
 
-    // Counts a call that was refused.
+    // Counts a call that was refused, and lets others go on: while another client's thread is kept from going on in the middle of a call, rows that
+    // were retired since can't come free.
     fn refuse<T>(&mut self, outcome: &Outcome<T>) {
         if matches!(outcome, Outcome::Full(_)) {
             self.full = self.full.saturating_add(1);
         } else {
             self.busy = self.busy.saturating_add(1);
         }
+        yield_now();
     }
 
     fn call(&mut self, mix: Mix) -> bool {

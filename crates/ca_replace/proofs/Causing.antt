@@ -1,8 +1,9 @@
 -- What was lost is counted, and why calls are refused.
 use Rattle.std.proofs.Common.{◌≡◌, ◌≢◌, ◌⊎◌, ◌↔◌, IsTrue, vec_len, ◌∙◌, ℕ, ◌+◌, ◌-◌, ◌*◌, ◌<◌, ◌≤◌, min, Bool, true, false, List, Vec, Result, Ok, Err, IfErr, ap, sym, subst, refl, inl, inr, ⊎_elim, arith}
 use Rattle.std.specs.Global.{Global}
-use Rattle.ca_replace.specs.declared.attempting.Stop.{Stop}
-use Rattle.ca_replace.specs.declared.attempting.Stop.TheVariants as stop
+use Rattle.ca_base.specs.declared.stop.Stop.TheVariants as stop
+use Rattle.ca_replace.specs.declared.attempting.Halt.{Halt}
+use Rattle.ca_replace.specs.declared.attempting.Halt.TheVariants as halt
 use Rattle.ca_model.specs.declared.outcome.Spent.{Spent}
 use Rattle.ca_model.specs.declared.outcome.Outcome.{Outcome}
 use Rattle.ca_node.specs.Told.{MyTree, with_upper}
@@ -14,7 +15,7 @@ use Rattle.std.specs.declared.option.Option.{Option}
 use Rattle.std.specs.declared.option.Option.TheVariants.{None as Nothing, Some as Just}
 use Rattle.ca_base.specs.Counting.{losses}
 use Rattle.ca_model.specs.Known.{Counts}
-use Rattle.ca_replace.specs.Attempting.{helps, passes, total, IsPaid, IfDeep, refused_as}
+use Rattle.ca_replace.specs.Attempting.{HasNext, helps, passes, total, IsPaid, IfDeep, refused_as}
 use Rattle.ca_replace.specs.Causes.{HasBegun, IsCaused, IsFullSince, IsRefill, IsUnspent, IfCaused, KeepsFew}
 use Rattle.ca_replace.specs.Refusals.{outcome_by}
 use Rattle.ca_rows.specs.declared.kept.Kept.{Kept}
@@ -59,45 +60,52 @@ pub record HasSpentInAll (now : Spent) (m m' : MyTree) : Type 0 where
   pub none : (spent.lost ≡ 0) × (spent.helped ≡ 0) × (spent.passed ≡ 0)
   pub counted : IsPaid spent now m m'
 
--- What a call's last attempt tells of its end, which found the rows that it wanted and split no
--- full base.
+-- What a call's last attempt tells of its end, which found the rows that it wanted.
 pub record EndsSo {T : Type 0} (z : Sizes) (budget : ℕ) (adds : Option (List ℕ))
-    (tried : Result T Stop) (now : Spent) (m m' : MyTree) : Type 0 where
-  pub full : tried ≡ Err stop.Empty → ⊥
-  pub split : tried ≡ Err stop.Split → ⊥
-  pub deep : tried ≡ Err stop.Deep → IsFullSince z adds m'.0.upper
-  pub lost : tried ≡ Err stop.Lost → budget ≤ total now
+    (tried : Result T Halt) (now : Spent) (m m' : MyTree) : Type 0 where
+  pub full : tried ≡ Err (halt.Stopped stop.Empty) → ⊥
+  pub deep : tried ≡ Err halt.Deep → IsFullSince z adds m'.0.upper
+  pub lost : HasNext tried → budget ≤ total now
   pub paid : HasSpentInAll now m m'
-  pub worn : tried ≡ Err stop.Worn → m'.0.worn ≡ m.0.worn + 1
+  pub worn : tried ≡ Err (halt.Stopped stop.Worn) → m'.0.worn ≡ m.0.worn + 1
 
--- Where the last attempt refuses the call, it has a cause.
-caused : {T : Type 0} (z : Sizes) (number budget : ℕ) (adds : Option (List ℕ))
-    (tried : Result T Stop) (now : Spent) (levels : ℕ) (m m' : MyTree)
-    (kept kept' : Vec Kept Global) → levels ≡ z.levels → EndsSo z budget adds tried now m m'
-    → IfErr (refused_as tried now levels) (λ why. IsCaused z number budget adds why m kept m' kept')
-caused z number budget adds (Ok x) now levels m m' kept kept' same e = tt
-caused z number budget adds (Err stop.Lost) now levels m m' kept kept' same e =
-    let none = e.paid.none in let counted = e.paid.counted in
+-- A call that is refused for the turns that it spent.
+busy : (budget : ℕ) (now : Spent) (m m' : MyTree) → budget ≤ total now → HasSpentInAll now m m'
+    → (budget ≤ total now) × (now.lost ≡ min 4294967295 (losses m' - losses m))
+    × (now.helped ≡ min 4294967295 (helps m' - helps m))
+    × (now.passed ≡ min 4294967295 (passes m' - passes m))
+busy budget now m m' enough paid = let none = paid.none in let counted = paid.counted in
     let zero = none.0 in let zero' = none.1 in let zero'' = none.2 in (
-      e.lost refl,
+      enough,
       (let sum = counted.lost (omega arith) in omega arith),
       (let sum = counted.helped (omega arith) in omega arith),
       (let sum = counted.passed (omega arith) in omega arith),
     )
-caused z number budget adds (Err stop.Split) now levels m m' kept kept' same e =
-    absurd (e.split refl)
-caused z number budget adds (Err stop.Empty) now levels m m' kept kept' same e =
+
+-- Where the last attempt refuses the call, it has a cause.
+caused : {T : Type 0} (z : Sizes) (number budget : ℕ) (adds : Option (List ℕ))
+    (tried : Result T Halt) (now : Spent) (levels : ℕ) (m m' : MyTree)
+    (kept kept' : Vec Kept Global) → levels ≡ z.levels → EndsSo z budget adds tried now m m'
+    → IfErr (refused_as tried now levels) (λ why. IsCaused z number budget adds why m kept m' kept')
+caused z number budget adds (Ok x) now levels m m' kept kept' same e = tt
+caused z number budget adds (Err (halt.Stopped (stop.Lost x))) now levels m m' kept kept' same e =
+    busy budget now m m' (e.lost tt) e.paid
+caused z number budget adds (Err (halt.Stopped stop.Empty)) now levels m m' kept kept' same e =
     absurd (e.full refl)
-caused z number budget adds (Err stop.Worn) now levels m m' kept kept' same e = e.worn refl
-caused z number budget adds (Err stop.Deep) now levels m m' kept kept' same e = (same, e.deep refl)
+caused z number budget adds (Err (halt.Stopped stop.Worn)) now levels m m' kept kept' same e =
+    e.worn refl
+caused z number budget adds (Err halt.Deep) now levels m m' kept kept' same e =
+    (same, e.deep refl)
+caused z number budget adds (Err halt.Split) now levels m m' kept kept' same e =
+    busy budget now m m' (e.lost tt) e.paid
 
 -- So the call is refused, given what was spent, and how many levels there are.
-abbrev pub HasRefused : {T : Type 0} → Sizes → Result T Stop → Spent → Result T Cause → Type 0
+abbrev pub HasRefused : {T : Type 0} → Sizes → Result T Halt → Spent → Result T Cause → Type 0
 HasRefused z tried now r = (levels : ℕ) × (r ≡ refused_as tried now levels) × (levels ≡ z.levels)
 
 -- So it has by what the call comes to then.
 pub caused_as : {T : Type 0} (z : Sizes) (number budget : ℕ) (adds : Option (List ℕ))
-    (tried : Result T Stop) (r : Result T Cause) (now : Spent)
+    (tried : Result T Halt) (r : Result T Cause) (now : Spent)
     (m m' : MyTree) (kept kept' : Vec Kept Global) → HasRefused z tried now r
     → EndsSo z budget adds tried now m m'
     → IfErr r (λ why. IsCaused z number budget adds why m kept m' kept')

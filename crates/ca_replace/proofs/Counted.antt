@@ -1,39 +1,49 @@
 -- What calls count, from one attempt to the next.
 use Rattle.std.proofs.Common.{◌≡◌, ◌⊎◌, ℕ, ◌+◌, ◌-◌, ◌<◌, ◌≤◌, min, Result, Ok, Err, subst, refl, ap, inl, inr, ⊎_elim, arith}
+use Rattle.ca_base.specs.declared.stop.Stop.TheVariants as stop
+use Rattle.ca_replace.specs.declared.attempting.Halt.{Halt}
+use Rattle.ca_replace.specs.declared.attempting.Halt.TheVariants as halt
 use Rattle.ca_model.specs.declared.outcome.Spent.{Spent}
 use Rattle.ca_base.specs.Counting.{losses, HasMet, IsSpent}
 use Rattle.ca_base.proofs.Counts.{met_both}
 use Rattle.ca_node.specs.Told.{MyTree}
 use Rattle.ca_node.specs.TreeView.{TreeView, Turns}
-use Rattle.ca_replace.specs.declared.attempting.Stop.{Stop}
-use Rattle.ca_replace.specs.declared.attempting.Stop.TheVariants as stop
-use Rattle.ca_replace.specs.Attempting.{passes, total, HasMetInAttempt, HasStopped, IsPaid, IsQuiet}
+use Rattle.ca_replace.specs.Attempting.{passes, total, HasHalted, HasNext, HasStopped, IsPaid, IsQuiet, MayFollow}
 
 -- Nothing was met.
 pub none_met : (m : MyTree) → HasMet 0 0 m m
 none_met m = (omega arith, omega arith)
 
 -- What was met by an attempt, behind others that met nothing.
-pub met_then : {T : Type 0} (r : Result T Stop) (k m n : MyTree) → HasMet 0 0 k m → HasMetInAttempt r m n
-    → HasMetInAttempt r k n
-met_then (Ok x) k m n a b = tt
-met_then (Err stop.Lost) k m n a b = met_both 0 0 0 0 k m n a b
-met_then (Err stop.Split) k m n a b = met_both 0 0 0 0 k m n a b
-met_then (Err stop.Empty) k m n a b = met_both 0 0 1 0 k m n a b
-met_then (Err stop.Worn) k m n a b = met_both 0 0 0 1 k m n a b
-met_then (Err stop.Deep) k m n a b = met_both 0 0 0 0 k m n a b
+halted_then : (why : Halt) (k m n : MyTree) → HasMet 0 0 k m → losses k ≤ losses m
+    → passes k ≤ passes m → HasHalted why m n → HasHalted why k n
+halted_then (halt.Stopped (stop.Lost x)) k m n a more on b = let lost = b.0 in
+    (omega arith, met_both 0 0 0 0 k m n a b.1)
+halted_then (halt.Stopped stop.Empty) k m n a more on b = met_both 0 0 1 0 k m n a b
+halted_then (halt.Stopped stop.Worn) k m n a more on b = met_both 0 0 0 1 k m n a b
+halted_then halt.Deep k m n a more on b = met_both 0 0 0 0 k m n a b
+halted_then halt.Split k m n a more on b = let passed = b.1 in
+    (met_both 0 0 0 0 k m n a b.0, omega arith)
 
--- An attempt after which another turn may follow met nothing; an exchange was lost, or the pass
+pub met_then : {T : Type 0} (r : Result T Halt) (k m n : MyTree) → HasMet 0 0 k m
+    → losses k ≤ losses m → passes k ≤ passes m → HasStopped r m n → HasStopped r k n
+met_then (Ok x) k m n a more on b = tt
+met_then (Err why) k m n a more on b = halted_then why k m n a more on b
+
+-- An attempt after which another one may follow met nothing; an exchange was lost, or the pass
 -- passed on.
-pub met_turn : {T : Type 0} (r : Result T Stop) (m m' : MyTree) → (r ≡ Err stop.Lost)
-    ⊎ (r ≡ Err stop.Split) → HasStopped r m m'
+next_met : (why : Halt) (m m' : MyTree) → MayFollow why → HasHalted why m m'
     → HasMet 0 0 m m' × ((losses m < losses m') ⊎ (passes m < passes m'))
-met_turn r m m' e h = ⊎_elim
-    (λ (l : r ≡ Err stop.Lost). (subst (λ (x : Result _ Stop). HasMetInAttempt x m m') l h.0, inl (h.1 l)))
-    (λ (s : r ≡ Err stop.Split). (
-      subst (λ (x : Result _ Stop). HasMetInAttempt x m m') s h.0,
-      inr (h.2 s),
-    )) e
+next_met (halt.Stopped (stop.Lost x)) m m' next h = (h.1, inl h.0)
+next_met (halt.Stopped stop.Empty) m m' next h = absurd next
+next_met (halt.Stopped stop.Worn) m m' next h = absurd next
+next_met halt.Deep m m' next h = absurd next
+next_met halt.Split m m' next h = (h.0, inr h.1)
+
+pub met_turn : {T : Type 0} (r : Result T Halt) (m m' : MyTree) → HasNext r → HasStopped r m m'
+    → HasMet 0 0 m m' × ((losses m < losses m') ⊎ (passes m < passes m'))
+met_turn (Ok x) m m' next h = absurd next
+met_turn (Err why) m m' next h = next_met why m m' next h
 
 -- What was paid in two parts.
 pub paid_both : (a b c : Spent) (k m n : MyTree) → IsPaid a b k m → IsPaid b c m n → IsPaid a c k n
@@ -96,30 +106,16 @@ spends_more a b c k m n none x y = let zero = none.0 in let zero' = none.1 in le
     let help = x.helped (omega arith) in let help' = y.helped (omega arith) in omega arith
 
 -- What an attempt met behind a look.
-pub stopped_behind : {T : Type 0} (r : Result T Stop) (k m n : MyTree) → IsQuiet k m
+pub stopped_behind : {T : Type 0} (r : Result T Halt) (k m n : MyTree) → IsQuiet k m
     → HasStopped r m n → HasStopped r k n
 stopped_behind r k m n q h = let lost = q.lost in
-    let same = ap (λ (t : Turns). t.passed) q.same_turns in (
-      met_then r k m n q.met h.0,
-      (λ e. let more = h.1 e in omega arith),
-      λ e. let more = h.2 e in omega arith,
-    )
-
--- One that did the call met nothing that is told.
-pub done_stopped : {T : Type 0} (x : T) (m n : MyTree) → HasStopped (Ok x) m n
-done_stopped x m n = (tt, (λ e. cc), λ e. cc)
+    let same = ap (λ (t : Turns). t.passed) q.same_turns in
+    met_then r k m n q.met (omega arith) (omega arith) h
 
 -- One that came to a stop, told of another type of answers.
-pub stop_stopped : (T U : Type 0) (why : Stop) (k m n : MyTree) → IsQuiet k m
+pub stop_stopped : (T U : Type 0) (why : Halt) (k m n : MyTree) → IsQuiet k m
     → HasStopped {T = T} (Err why) m n → HasStopped {T = U} (Err why) k n
-stop_stopped T U why k m n q h = by why (stopped_behind {T = T} (Err why) k m n q h)
-  where
-    by : (why : Stop) → HasStopped {T = T} (Err why) k n → HasStopped {T = U} (Err why) k n
-    by stop.Lost h = (h.0, (λ e. h.1 refl), λ e. cc)
-    by stop.Split h = (h.0, (λ e. cc), λ e. h.2 refl)
-    by stop.Empty h = (h.0, (λ e. cc), λ e. cc)
-    by stop.Worn h = (h.0, (λ e. cc), λ e. cc)
-    by stop.Deep h = (h.0, (λ e. cc), λ e. cc)
+stop_stopped T U why k m n q h = stopped_behind {T = U} (Err why) k m n q h
 
 -- What was lost as rows were given back was paid, too.
 pub paid_given : (a : Spent) (lost sum : ℕ) (m m' : MyTree) → sum ≡ min (a.lost + lost) 4294967295

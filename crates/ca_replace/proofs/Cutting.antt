@@ -1,16 +1,17 @@
 -- Which bases a call split.
-use Rattle.std.proofs.Common.{◌≡◌, ◌≢◌, ◌⊎◌, ℕ, ◌<◌, ◌≤◌, Bool, true, false, List, [], ◌∷◌, ◌++◌, length, map, Result, Ok, Err, sym, refl, ap, ◌∙◌, subst, inl, inr, ⊎_elim, arith, append_assoc}
+use Rattle.std.proofs.Common.{◌≡◌, ◌≢◌, ◌⊎◌, ℕ, ◌<◌, ◌≤◌, Bool, true, false, List, [], ◌∷◌, ◌++◌, length, map, Result, Ok, Err, IsErr, sym, refl, ap, ◌∙◌, subst, inl, inr, ⊎_elim, arith, append_assoc}
 use denote.Ref.{Bor}
 use Rattle.std.specs.declared.option.Option.{Option}
 use Rattle.std.specs.declared.option.Option.TheVariants.{Some}
+use Rattle.ca_base.specs.declared.stop.Stop.{Stop}
+use Rattle.ca_replace.specs.declared.attempting.Halt.{Halt}
+use Rattle.ca_replace.specs.declared.attempting.Halt.TheVariants as halt
 use Rattle.ca_adapt.specs.declared.adapted.Adapted.{Adapted}
 use Rattle.ca_adapt.specs.declared.adapted.Adapted.TheVariants as adapted
 use Rattle.ca_adapt.specs.declared.adapted.Why.{Why}
 use Rattle.ca_adapt.specs.declared.adapted.Why.TheVariants as why
 use Rattle.ca_adapt.specs.declared.tuning.Tuning.{Tuning}
 use Rattle.ca_adapt.specs.Splits.{IsSplitOutcome, IsWhyNotSplit, attempts_at_first}
-use Rattle.ca_base.specs.declared.taking.NoRow.{NoRow}
-use Rattle.ca_base.specs.declared.taking.NoRow.TheVariants as norow
 use Rattle.ca_base.specs.Putting.{HasRenewed, HasTried, IsRoom, first_note}
 use Rattle.ca_base.specs.Splitting.{HasSplit, IsSplit}
 use Rattle.ca_model.specs.declared.outcome.Outcome.{Outcome}
@@ -30,17 +31,15 @@ use Rattle.ca_node.specs.Walking.{IsWalked}
 use Rattle.ca_node.proofs.Listing.{in_either}
 use Rattle.ca_node.proofs.Looking.{in_more}
 use Rattle.ca_replace.specs.declared.adapting.Adapting.{Adapting}
-use Rattle.ca_replace.specs.declared.attempting.Stop.{Stop}
-use Rattle.ca_replace.specs.declared.attempting.Stop.TheVariants as stop
 use Rattle.ca_model.specs.declared.outcome.Cause.{Cause}
 use Rattle.ca_model.specs.declared.outcome.Cause.TheVariants as refusal
 use Rattle.ca_replace.specs.Adapting.{IsNew}
-use Rattle.ca_replace.specs.Attempting.{IsLooking, IsQuiet, come_to, refused_as, split_to}
+use Rattle.ca_replace.specs.Attempting.{HasNext, IsLooking, IsQuiet, come_to, refused_as, split_to}
 use Rattle.ca_replace.specs.Cutting.{AreCutFull, HasCutForEdit, HasCut, HasCutInCall, HasCutDue, HasCutFull, HasCutBehind, HasCutInAttempts, IsCutInTwo, IsFullFor}
 use Rattle.ca_replace.specs.Refusals.{outcome_by}
 use Rattle.ca_replace.proofs.Settling.{IsSettling}
 use Rattle.ca_replace.proofs.Growing.{settled_still}
-use Rattle.ca_replace.proofs.Showing.{looking, walked_quiet}
+use Rattle.ca_replace.proofs.Showing.{looking, stopped_same, walked_quiet}
 use Rattle.ca_rows.specs.declared.sizes.Sizes.{Sizes}
 use Rattle.ca_rows.specs.declared.view.Met.{Met}
 use Rattle.ca_rows.specs.Told.{met_of}
@@ -94,25 +93,19 @@ cut_in_two z note x h = subst
 
 -- What an attempt comes to that met such a base, and tried to split it.
 pub made_cut : {T : Type 0} (edits : T → Bool) (z : Sizes) (adds : Option (List ℕ))
-    (many attempt : ℕ) (r : Result Bool NoRow) (u v : TreeView)
+    (many attempt : ℕ) (r : Result (Unit {0}) Stop) (u v : TreeView)
     → IsFullFor z adds (first_note u.notes) → many ≡ length (first_note u.notes).objects
     → attempt ≡ attempts_at_first z → HasSplit many attempt r u v
     → HasCut edits z adds (Err (split_to r)) u v
-made_cut edits z adds many attempt (Ok true) u v full all starts h = (
+made_cut edits z adds many attempt (Ok x) u v full all starts h = (
   h.0,
   ap (λ (w : TreeView). w.cuts) h.2,
   subst (IsFullFor z adds) (sym h.1.old_is) full,
   cut_in_two z (first_note u.notes) h.0 (subst
       (λ (x : ℕ × ℕ). IsSplit (first_note u.notes) x.0 x.1 h.0) (λ i. (all i, starts i)) h.1),
 )
-made_cut edits z adds many attempt (Ok false) u v full all starts h = ap
-    (λ (w : TreeView). w.cuts) h
-made_cut edits z adds many attempt (Err norow.Lost) u v full all starts h = ap
-    (λ (w : TreeView). w.cuts) h
-made_cut edits z adds many attempt (Err norow.Empty) u v full all starts h = ap
-    (λ (w : TreeView). w.cuts) h
-made_cut edits z adds many attempt (Err norow.Worn) u v full all starts h = ap
-    (λ (w : TreeView). w.cuts) h
+made_cut edits z adds many attempt (Err why) u v full all starts h =
+    ap (λ (w : TreeView). w.cuts) (h ∙ stopped_same why u)
 
 -- A base that is due is one that was split, or none was, behind a step that split none.
 due_behind : (z : Sizes) (before then : List Division) (v : TreeView) → then ≡ before
@@ -172,30 +165,24 @@ due_there z key placed m m' m'' cursor a new w most same h = let up = ap
 
 -- What an attempt comes to by its exchange, given what followed.
 tried_cut : (met : Met) (z : Sizes) (adds : Option (List ℕ)) (event : Event) (edit : Edit)
-    (word : ℕ) (tried : Result Bool NoRow) (u w v : TreeView)
+    (word : ℕ) (tried : Result (Unit {0}) Stop) (u w v : TreeView)
     → HasTried event z tried u w → HasRenewed z met word edit tried u w → HasCutDue z w.cuts v
-    → (tried ≢ Ok true → v ≡ w)
+    → (IsErr tried → v ≡ w)
     → HasCut (λ (_ : Unit {0}). true) z adds (come_to tried) u v
-tried_cut met z adds event edit word (Ok true) u w v h renewed then
+tried_cut met z adds event edit word (Ok x) u w v h renewed then
     else = due_behind z u.cuts w.cuts v renewed.same_cuts then
-tried_cut met z adds event edit word (Ok false) u w v h renewed then
-    else = ap (λ (x : TreeView). x.cuts) (else (λ e. cc) ∙ h)
-tried_cut met z adds event edit word (Err norow.Lost) u w v h renewed then
-    else = ap (λ (x : TreeView). x.cuts) (else (λ e. cc) ∙ h)
-tried_cut met z adds event edit word (Err norow.Empty) u w v h renewed then
-    else = ap (λ (x : TreeView). x.cuts) (else (λ e. cc) ∙ h)
-tried_cut met z adds event edit word (Err norow.Worn) u w v h renewed then
-    else = ap (λ (x : TreeView). x.cuts) (else (λ e. cc) ∙ h)
+tried_cut met z adds event edit word (Err why) u w v h renewed then
+    else = ap (λ (x : TreeView). x.cuts) (else refl ∙ h ∙ stopped_same why u)
 
 -- So it is with what its exchange and what followed it came to, given that the pass knew as much of
 -- the tree at first as this one.
-pub settled_cut : {z : Sizes} {t : Tuning} {tried : Result Bool NoRow} {r : Result (Unit {0}) Stop}
+pub settled_cut : {z : Sizes} {t : Tuning} {tried : Result (Unit {0}) Stop} {r : Result (Unit {0}) Halt}
     {a b : Adapting} {k m m' m'' : MyTree}
     (s : IsSettling z t tried r a b k m m' m'') (adds : Option (List ℕ))
     → HasCutDue z m'.0.upper.cuts m''.0.upper
     → HasCut (λ _. true) z adds r k.0.upper m''.0.upper
 settled_cut {z} {t} {tried} {r} {a} {b} {k} {m} {m'} {m''} s adds then = subst
-    (λ (x : Result (Unit {0}) Stop). HasCut
+    (λ (x : Result (Unit {0}) Halt). HasCut
     (λ (_ : Unit {0}). true) z adds x k.0.upper m''.0.upper) (sym s.is)
     (subst (λ (x : MyTree). HasCut
     (λ (_ : Unit {0}). true) z adds (come_to tried) x.0.upper m''.0.upper) s.same
@@ -205,7 +192,7 @@ settled_cut {z} {t} {tried} {r} {a} {b} {k} {m} {m'} {m''} s adds then = subst
 
 -- An attempt behind the look that it begins with.
 pub looked_cut : {T : Type 0} (edits : T → Bool) (z : Sizes) (adds : Option (List ℕ))
-    (r : Result T Stop) (m m' : MyTree) (v : TreeView) → IsQuiet m m'
+    (r : Result T Halt) (m m' : MyTree) (v : TreeView) → IsQuiet m m'
     → HasCut edits z adds r m'.0.upper v → HasCut edits z adds r m.0.upper v
 looked_cut {T} edits z adds r m m' v q h = by r h
   where
@@ -214,30 +201,26 @@ looked_cut {T} edits z adds r m m' v q h = by r h
     if_edits true h = due_behind z m.0.upper.cuts m'.0.upper.cuts v q.same_cuts h
     if_edits false h = h ∙ q.same_cuts
 
-    by : (r : Result T Stop) → HasCut edits z adds r m'.0.upper v
+    by : (r : Result T Halt) → HasCut edits z adds r m'.0.upper v
         → HasCut edits z adds r m.0.upper v
     by (Ok x) h = if_edits (edits x) h
-    by (Err stop.Split) h = (h.0, h.1 ∙ ap (λ (xs : List Division). h.0 ∷ xs) q.same_cuts, h.2, h.3)
-    by (Err stop.Lost) h = h ∙ q.same_cuts
-    by (Err stop.Empty) h = h ∙ q.same_cuts
-    by (Err stop.Worn) h = h ∙ q.same_cuts
-    by (Err stop.Deep) h = h ∙ q.same_cuts
+    by (Err halt.Split) h = (h.0, h.1 ∙ ap (λ (xs : List Division). h.0 ∷ xs) q.same_cuts, h.2, h.3)
+    by (Err halt.Deep) h = h ∙ q.same_cuts
+    by (Err (halt.Stopped why)) h = h ∙ q.same_cuts
 
 -- One that came to a stop, told of another type of answers.
 pub stop_cut : (T U : Type 0) (edits : T → Bool) (edits' : U → Bool) (z : Sizes)
-    (adds : Option (List ℕ)) (why : Stop) (m m' : MyTree) (v : TreeView)
+    (adds : Option (List ℕ)) (why : Halt) (m m' : MyTree) (v : TreeView)
     → IsQuiet m m' → HasCut edits z adds (Err why) m'.0.upper v
     → HasCut edits' z adds (Err why) m.0.upper v
 stop_cut T U edits edits' z adds why m m' v q h =
     by why (looked_cut edits z adds (Err why) m m' v q h)
   where
-    by : (why : Stop) → HasCut edits z adds (Err why) m.0.upper v
+    by : (why : Halt) → HasCut edits z adds (Err why) m.0.upper v
         → HasCut edits' z adds (Err why) m.0.upper v
-    by stop.Split h = h
-    by stop.Lost h = h
-    by stop.Empty h = h
-    by stop.Worn h = h
-    by stop.Deep h = h
+    by halt.Split h = h
+    by halt.Deep h = h
+    by (halt.Stopped why) h = h
 
 -- A call that edits nothing.
 pub entered_cut : (m m' m'' : MyTree) (event : Event) → IsQuiet m m'
@@ -246,18 +229,16 @@ entered_cut m m' m'' event q is = ap (λ (x : MyTree). x.0.upper.cuts) is.now �
 
 -- An attempt that split no full base did so whatever key its call adds.
 pub never_cut : {T : Type 0} (edits : T → Bool) (z : Sizes) (adds adds' : Option (List ℕ))
-    (r : Result T Stop) (u v : TreeView) → r ≢ Err stop.Split
+    (r : Result T Halt) (u v : TreeView) → r ≢ Err halt.Split
     → HasCut edits z adds r u v → HasCut edits z adds' r u v
 never_cut edits z adds adds' (Ok x) u v n h = h
-never_cut edits z adds adds' (Err stop.Split) u v n h = absurd (n refl)
-never_cut edits z adds adds' (Err stop.Lost) u v n h = h
-never_cut edits z adds adds' (Err stop.Empty) u v n h = h
-never_cut edits z adds adds' (Err stop.Worn) u v n h = h
-never_cut edits z adds adds' (Err stop.Deep) u v n h = h
+never_cut edits z adds adds' (Err halt.Split) u v n h = absurd (n refl)
+never_cut edits z adds adds' (Err halt.Deep) u v n h = h
+never_cut edits z adds adds' (Err (halt.Stopped why)) u v n h = h
 
 -- What was done while the pass was pinned.
 pub cut_pinned : {T : Type 0} (edits : T → Bool) (z : Sizes) (adds : Option (List ℕ))
-    (r : Result T Stop) (u v w : TreeView) → w ≡ unpinned v
+    (r : Result T Halt) (u v w : TreeView) → w ≡ unpinned v
     → HasCut edits z adds r (pinned u) v → HasCut edits z adds r u w
 cut_pinned {T} edits z adds r u v w same h = subst
     (λ (x : TreeView). HasCut edits z adds r u x) (sym same) (by r h)
@@ -266,18 +247,16 @@ cut_pinned {T} edits z adds r u v w same h = subst
     if_edits true h = h
     if_edits false h = h
 
-    by : (r : Result T Stop) → HasCut edits z adds r (pinned u) v
+    by : (r : Result T Halt) → HasCut edits z adds r (pinned u) v
         → HasCut edits z adds r u (unpinned v)
     by (Ok x) h = if_edits (edits x) h
-    by (Err stop.Split) h = h
-    by (Err stop.Lost) h = h
-    by (Err stop.Empty) h = h
-    by (Err stop.Worn) h = h
-    by (Err stop.Deep) h = h
+    by (Err halt.Split) h = h
+    by (Err halt.Deep) h = h
+    by (Err (halt.Stopped why)) h = h
 
 -- An attempt behind others that did not do the call.
 pub one_more_cut : {T : Type 0} (edits : T → Bool) (z : Sizes) (adds : Option (List ℕ))
-    (r : Result T Stop) (u w v : TreeView) → HasCutFull z adds u w
+    (r : Result T Halt) (u w v : TreeView) → HasCutFull z adds u w
     → HasCut edits z adds r w v → HasCutInAttempts edits z adds r u v
 one_more_cut {T} edits z adds r u w v before h = by r h
   where
@@ -288,17 +267,15 @@ one_more_cut {T} edits z adds r u w v before h = by r h
     if_edits true h = (w.cuts, before, h)
     if_edits false h = still h
 
-    by : (r : Result T Stop) → HasCut edits z adds r w v → HasCutInAttempts edits z adds r u v
+    by : (r : Result T Halt) → HasCut edits z adds r w v → HasCutInAttempts edits z adds r u v
     by (Ok x) h = if_edits (edits x) h
-    by (Err stop.Split) h =
+    by (Err halt.Split) h =
         full_both z adds u.cuts w.cuts v.cuts before (one_full z adds w.cuts v.cuts h.0 h.1 (
           h.2,
           h.3,
         ))
-    by (Err stop.Lost) h = still h
-    by (Err stop.Empty) h = still h
-    by (Err stop.Worn) h = still h
-    by (Err stop.Deep) h = still h
+    by (Err halt.Deep) h = still h
+    by (Err (halt.Stopped why)) h = still h
 
 -- Attempts behind others that did not do the call.
 pub cuts_so_far : {T E : Type 0} (edits : T → Bool) (z : Sizes) (adds : Option (List ℕ))
@@ -323,16 +300,14 @@ stopped_cut {T} {E} edits z adds r why u v e h = subst
 
 -- So did one after which another turn may follow.
 pub turn_cut : {T : Type 0} (edits : T → Bool) (z : Sizes) (adds : Option (List ℕ))
-    (r : Result T Stop) (u v : TreeView)
-    → (r ≡ Err stop.Lost) ⊎ (r ≡ Err stop.Split) → HasCutInAttempts edits z adds r u v
-    → HasCutFull z adds u v
-turn_cut edits z adds r u v e h = ⊎_elim
-    (λ (l : r ≡ Err stop.Lost). stopped_cut edits z adds r stop.Lost u v l h)
-    (λ (s : r ≡ Err stop.Split). stopped_cut edits z adds r stop.Split u v s h) e
+    (r : Result T Halt) (u v : TreeView)
+    → HasNext r → HasCutInAttempts edits z adds r u v → HasCutFull z adds u v
+turn_cut edits z adds (Ok x) u v next h = absurd next
+turn_cut edits z adds (Err why) u v next h = h
 
 -- What the attempts come to where the last one's is told otherwise.
 pub cut_refused : {T : Type 0} (edits : T → Bool) (z : Sizes) (adds : Option (List ℕ))
-    (tried : Result T Stop) (r : Result T Cause) (spent : Spent)
+    (tried : Result T Halt) (r : Result T Cause) (spent : Spent)
     (levels : ℕ) (u w v : TreeView) → v ≡ w → r ≡ refused_as tried spent levels
     → HasCutInAttempts edits z adds tried u w → HasCutInAttempts edits z adds r u v
 cut_refused {T} edits z adds tried r spent levels u w v same is h = subst
@@ -340,14 +315,10 @@ cut_refused {T} edits z adds tried r spent levels u w v same is h = subst
     (subst (λ (x : TreeView).
     HasCutInAttempts edits z adds (refused_as tried spent levels) u x) (sym same) (by tried h))
   where
-    by : (tried : Result T Stop) → HasCutInAttempts edits z adds tried u w
+    by : (tried : Result T Halt) → HasCutInAttempts edits z adds tried u w
         → HasCutInAttempts edits z adds (refused_as tried spent levels) u w
     by (Ok x) h = h
-    by (Err stop.Lost) h = h
-    by (Err stop.Split) h = h
-    by (Err stop.Empty) h = h
-    by (Err stop.Worn) h = h
-    by (Err stop.Deep) h = h
+    by (Err why) h = h
 
 -- A call that is refused is counted then.
 pub refused_cuts : {T : Type 0} (edits : T → Bool) (z : Sizes) (adds : Option (List ℕ))

@@ -1,20 +1,19 @@
 -- Why a due split was not carried out: what was met since the update.
-use Rattle.std.proofs.Common.{◌≡◌, ℕ, Bool, true, false, List, Result, Ok, Err, sym, refl, ap, ◌∙◌, subst, inl, inr, ⊎_elim, arith}
+use Rattle.std.proofs.Common.{◌≡◌, ℕ, Bool, true, false, List, Result, Ok, Err, IsOk, sym, refl, ap, ◌∙◌, subst, inl, inr, ⊎_elim, arith}
 use denote.Ref.{Bor}
+use Rattle.ca_base.specs.declared.stop.Stop.{Stop}
+use Rattle.ca_replace.specs.declared.attempting.Halt.{Halt}
 use Rattle.ca_adapt.specs.declared.adapted.Adapted.{Adapted}
 use Rattle.ca_adapt.specs.declared.adapted.Adapted.TheVariants as adapted
 use Rattle.ca_adapt.specs.declared.adapted.Why.{Why}
 use Rattle.ca_adapt.specs.declared.adapted.Why.TheVariants as why
 use Rattle.ca_adapt.specs.Splits.{IsSplitOutcome, IsWhyNotSplit}
-use Rattle.ca_base.specs.declared.taking.NoRow.{NoRow}
 use Rattle.ca_model.specs.declared.outcome.Spent.{Spent}
 use Rattle.ca_node.specs.declared.cursor.Cursor.{Cursor}
 use Rattle.ca_node.specs.declared.cursor.Spot.TheVariants as spot
 use Rattle.ca_node.specs.Told.{MyTree, one_more_lost}
 use Rattle.ca_node.specs.TreeView.{Note, TreeView}
 use Rattle.ca_node.specs.Walking.{IsWalked}
-use Rattle.ca_replace.specs.declared.attempting.Stop.{Stop}
-use Rattle.ca_replace.specs.declared.attempting.Stop.TheVariants as stop
 use Rattle.ca_model.specs.declared.outcome.Cause.{Cause}
 use Rattle.ca_replace.specs.Adapting.{IfEdited, IsCauseMet, IsNew}
 use Rattle.ca_replace.specs.Attempting.{come_to, refused_as}
@@ -64,31 +63,26 @@ split_met z key placed note (adapted.NotSplit r) k m m' cursor new w h = split_m
 split_met z key placed note (adapted.NotJoined r) k m m' cursor new w h = tt
 
 -- So it was by what followed an attempt's exchange.
-settled_by : (P : Type 0) (tried : Result Bool NoRow) → (tried ≡ Ok true → P)
-    → IfEdited {E = Stop} (λ _. true) (come_to tried) P
-settled_by P (Ok true) met = met refl
-settled_by P (Ok false) met = tt
+settled_by : (P : Type 0) (tried : Result (Unit {0}) Stop) → (IsOk tried → P)
+    → IfEdited {E = Halt} (λ _. true) (come_to tried) P
+settled_by P (Ok x) met = met refl
 settled_by P (Err why) met = tt
 
-pub settled_met : (P : Type 0) (tried : Result Bool NoRow) (r : Result (Unit {0}) Stop)
-    → r ≡ come_to tried → (tried ≡ Ok true → P)
+pub settled_met : (P : Type 0) (tried : Result (Unit {0}) Stop) (r : Result (Unit {0}) Halt)
+    → r ≡ come_to tried → (IsOk tried → P)
     → IfEdited (λ (_ : Unit {0}). true) r P
 settled_met P tried r is met = subst
-    (λ (x : Result (Unit {0}) Stop). IfEdited
+    (λ (x : Result (Unit {0}) Halt). IfEdited
     (λ (_ : Unit {0}). true) x P) (sym is) (settled_by P tried met)
 
 -- So it is as attempts end a call.
-met_refused : {T : Type 0} (P : Type 0) (edits : T → Bool) (tried : Result T Stop) (spent : Spent)
+met_refused : {T : Type 0} (P : Type 0) (edits : T → Bool) (tried : Result T Halt) (spent : Spent)
     (levels : ℕ) → IfEdited edits tried P
     → IfEdited edits (refused_as tried spent levels) P
 met_refused P edits (Ok x) spent levels h = h
-met_refused P edits (Err stop.Lost) spent levels h = tt
-met_refused P edits (Err stop.Split) spent levels h = tt
-met_refused P edits (Err stop.Empty) spent levels h = tt
-met_refused P edits (Err stop.Worn) spent levels h = tt
-met_refused P edits (Err stop.Deep) spent levels h = tt
+met_refused P edits (Err why) spent levels h = tt
 
-pub refused_met : {T : Type 0} (P : Type 0) (edits : T → Bool) (tried : Result T Stop)
+pub refused_met : {T : Type 0} (P : Type 0) (edits : T → Bool) (tried : Result T Halt)
     (r : Result T Cause) (spent : Spent) (levels : ℕ)
     → r ≡ refused_as tried spent levels → IfEdited edits tried P → IfEdited edits r P
 refused_met {T} P edits tried r spent levels is h = subst

@@ -1,7 +1,11 @@
 -- What follows an update: how a call goes on from attempt to attempt, and what became of its new
 -- base.
-use Rattle.std.proofs.Common.{◌≡◌, ◌≢◌, ◌⊎◌, ℕ, ◌+◌, ◌≤◌, min, Bool, true, false, ℤ, List, Result, Ok, Err, get_or, sym, refl, ap, ◌∙◌, subst, inl, inr, ⊎_elim, arith}
+use Rattle.std.proofs.Common.{◌≡◌, ◌≢◌, ◌⊎◌, ℕ, ◌+◌, ◌≤◌, min, Bool, true, false, ℤ, List, Result, Ok, Err, IsErr, IsOk, get_or, sym, refl, ap, ◌∙◌, subst, inl, inr, ⊎_elim, arith}
 use denote.Ref.{Bor}
+use Rattle.ca_base.specs.declared.stop.Exchange.TheVariants as exchange
+use Rattle.ca_base.specs.declared.stop.Stop.{Stop}
+use Rattle.ca_base.specs.declared.stop.Stop.TheVariants as stop
+use Rattle.ca_replace.specs.declared.attempting.Halt.{Halt}
 use Rattle.ca_adapt.specs.declared.adapted.Adapted.{Adapted}
 use Rattle.ca_adapt.specs.declared.adapted.Adapted.TheVariants as adapted
 use Rattle.ca_adapt.specs.declared.adapted.Why.{Why}
@@ -9,11 +13,9 @@ use Rattle.ca_adapt.specs.declared.adapted.Why.TheVariants as why
 use Rattle.ca_adapt.specs.declared.tuning.Tuning.{Tuning}
 use Rattle.ca_adapt.specs.Splits.{IsSplitOutcome, IsWhyNotSplit, MayBeSplit}
 use Rattle.ca_adapt.specs.Statistics.{IsWordOf}
-use Rattle.ca_base.specs.declared.taking.NoRow.{NoRow}
-use Rattle.ca_base.specs.declared.taking.NoRow.TheVariants as norow
-use Rattle.ca_base.specs.Counting.{HasEnded, IsSpent}
+use Rattle.ca_base.specs.Counting.{HasFound, HasStoppedBy, IsSpent}
 use Rattle.ca_base.specs.Progress.{IsFurther}
-use Rattle.ca_base.specs.Putting.{IsNewRow, HasRenewed, HasTried, first_note, renewal_of}
+use Rattle.ca_base.specs.Putting.{IsNewRow, HasRenewed, HasTried, first_note, renewal_of, stopped}
 use Rattle.ca_base.specs.Splitting.{HasSplit}
 use Rattle.ca_model.specs.declared.outcome.Spent.{Spent}
 use Rattle.ca_model.specs.Event.{Event}
@@ -30,17 +32,15 @@ use Rattle.ca_node.proofs.Looking.{further}
 use Rattle.ca_replace.specs.declared.adapting.Adapting.{Adapting}
 use Rattle.ca_replace.specs.declared.adapting.Last.{Last}
 use Rattle.ca_model.specs.declared.outcome.Outcome.{Outcome}
-use Rattle.ca_replace.specs.declared.attempting.Stop.{Stop}
-use Rattle.ca_replace.specs.declared.attempting.Stop.TheVariants as stop
 use Rattle.ca_model.specs.declared.outcome.Cause.{Cause}
 use Rattle.ca_model.specs.declared.outcome.Cause.TheVariants as refusal
 use Rattle.ca_replace.specs.Refusals.{outcome_by}
-use Rattle.ca_replace.specs.Adapting.{Adapts, Goes, HasGoneOn, HasLookedAgain, HasLostSince, IsCauseMetInCall, HasSettled, HasTriedOnce, IsAdapted, IsMoved, IsNew, IsReason, Leaves, LeavesInCall, Waits}
-use Rattle.ca_replace.specs.Attempting.{HasStopped, HasTriedTo, IsPaid, IsQuiet, come_to, refused_as}
+use Rattle.ca_replace.specs.Adapting.{Adapts, Goes, HasGoneOn, HasLookedAgain, HasLostSince, IsCauseMetInCall, HasSettled, HasTriedOnce, IsAdapted, IsMoved, IsNew, IsReason, Leaves, LeavesInCall, Waits, noted}
+use Rattle.ca_replace.specs.Attempting.{HasNext, HasStopped, HasTriedTo, IsPaid, IsQuiet, come_to, refused_as}
 use Rattle.ca_replace.proofs.Settling.{IsSettling}
 use Rattle.ca_replace.proofs.Counted.{none_paid, paid_both, paid_of}
 use Rattle.ca_replace.proofs.Meeting.{further_on}
-use Rattle.ca_replace.proofs.Showing.{looking, stopped, tried_by, walked_further}
+use Rattle.ca_replace.proofs.Showing.{looking, stopped_by, stopped_same, tried_by, walked_further}
 use Rattle.ca_replace.proofs.Turns.{tried_known}
 use Rattle.ca_rows.specs.declared.sizes.Sizes.{Sizes}
 use Rattle.ca_rows.specs.declared.view.Met.{Met}
@@ -109,11 +109,18 @@ pub paid_behind : (a b : Spent) (m m' m'' : MyTree) → IsQuiet m m' → IsPaid 
 paid_behind a b m m' m'' quiet paid =
     paid_both a a b m m' m'' (none_paid a m m' quiet.lost quiet.same_turns) paid
 
+-- A try that came to nothing and lost an exchange of a link, if one, waits.
+pub noted_waits : (why : Stop) (a : Adapting) (u : TreeView) → Waits a (noted why a) u (stopped why u)
+noted_waits (stop.Lost exchange.Link) a u = (refl, refl, inr (refl, omega arith))
+noted_waits (stop.Lost exchange.Head) a u = idle_waits a u u (refl, refl)
+noted_waits stop.Empty a u = idle_waits a u u (refl, refl)
+noted_waits stop.Worn a u = idle_waits a u u (refl, refl)
+
 -- After a split the pass knows as much of the history.
-pub split_further : (z : Sizes) (many attempt : ℕ) (r : Result Bool NoRow) (u v : TreeView)
+pub split_further : (z : Sizes) (many attempt : ℕ) (r : Result (Unit {0}) Stop) (u v : TreeView)
     → HasSplit many attempt r u v → IsKnown z u → IsFurther u v
     × IsKnown z v
-split_further z many attempt (Ok true) u v is k = subst
+split_further z many attempt (Ok x) u v is k = subst
     (λ (y : TreeView). IsFurther u y × IsKnown z y) (sym is.2) (
       record { number = refl; seen = starts_whole u.seen; log = refl; counts = refl },
       record {
@@ -125,19 +132,7 @@ split_further z many attempt (Ok true) u v is k = subst
         by_passes = k.by_passes;
       },
     )
-split_further z many attempt (Ok false) u v is k = subst
-    (λ (y : TreeView). IsFurther u y × IsKnown z y) (sym is) (
-      record { number = refl; seen = starts_whole u.seen; log = refl; counts = refl },
-      record {
-        lawful =
-            k.lawful;
-        past = k.past;
-        edits = k.edits;
-        enrolled = k.enrolled;
-        by_passes = k.by_passes;
-      },
-    )
-split_further z many attempt (Err why) u v is k = stopped z u v k is
+split_further z many attempt (Err why) u v is k = stopped_by z why u v k is
 
 -- An attempt that came to a stop carried out no update.
 pub stopped_waits : {T E : Type 0} (edits : T → Bool) (z : Sizes) (t : Tuning) (a b : Adapting)
@@ -148,64 +143,62 @@ stopped_waits {T} {E} edits z t a b r why u v e g = subst
 
 -- So did one after which another turn may follow.
 pub turn_waits : {T : Type 0} (edits : T → Bool) (z : Sizes) (t : Tuning) (a b : Adapting)
-    (r : Result T Stop) (u v : TreeView)
-    → (r ≡ Err stop.Lost) ⊎ (r ≡ Err stop.Split) → HasGoneOn edits z t a b r u v → Waits a b u v
-turn_waits edits z t a b r u v e g = ⊎_elim
-    (λ (l : r ≡ Err stop.Lost). stopped_waits edits z t a b r stop.Lost u v l g)
-    (λ (s : r ≡ Err stop.Split). stopped_waits edits z t a b r stop.Split u v s g) e
+    (r : Result T Halt) (u v : TreeView)
+    → HasNext r → HasGoneOn edits z t a b r u v → Waits a b u v
+turn_waits edits z t a b (Ok x) u v next g = absurd next
+turn_waits edits z t a b (Err why) u v next g = g
 
 -- What became of it, by the names that its parts have.
-pub settled_as : (z : Sizes) (t : Tuning) (statistic : ℤ) (tried x : Result Bool NoRow)
+pub settled_as : (z : Sizes) (t : Tuning) (statistic : ℤ) (tried x : Result (Unit {0}) Stop)
     (a b c : Adapting) (m m' m'' : MyTree) → tried ≡ x → b ≡ c
     → m' ≡ m'' → HasSettled z t statistic x a c m m'' → HasSettled z t statistic tried a b m m'
 settled_as z t statistic tried x a b c m m' m'' is same here h = subst
-    (λ (y : Result Bool NoRow × Adapting × MyTree). HasSettled z t statistic y.0 a y.1 m y.2)
+    (λ (y : Result (Unit {0}) Stop × Adapting × MyTree). HasSettled z t statistic y.0 a y.1 m y.2)
     (λ i. (sym is i, sym same i, sym here i)) h
 
 -- The exchange of a base took no turn but one that may be lost.
 pub tried_turns : (met : Met) (z : Sizes) (event : Event) (edit : Edit) (word : ℕ)
-    (tried : Result Bool NoRow) (u w : TreeView) → HasTried event z tried u w
+    (tried : Result (Unit {0}) Stop) (u w : TreeView) → HasTried event z tried u w
     → HasRenewed z met word edit tried u w → w.turns ≡ u.turns
-tried_turns met z event edit word (Ok true) u w done h = h.same_turns
-tried_turns met z event edit word (Ok false) u w lost h = ap (λ (x : TreeView). x.turns) lost
-tried_turns met z event edit word (Err why) u w same h = ap (λ (x : TreeView). x.turns) same
+tried_turns met z event edit word (Ok x) u w done h = h.same_turns
+tried_turns met z event edit word (Err why) u w is h =
+    ap (λ (x : TreeView). x.turns) is ∙ ap (λ (x : TreeView). x.turns) (stopped_same why u)
 
 -- Where it won, the new base is the one that was shown last.
-pub is_new : (met : Met) (z : Sizes) (edit : Edit) (word placed : ℕ) (tried : Result Bool NoRow)
+pub is_new : (met : Met) (z : Sizes) (edit : Edit) (word placed : ℕ) (tried : Result (Unit {0}) Stop)
     (u w : TreeView)
     → HasKey (first_note u.notes).place.span (edit_key edit) → HasRenewed z met word edit tried u w
-    → IsNewRow placed tried w → tried ≡ Ok true
-    → IsNew placed (edit_key edit) met w
-is_new met z edit word placed tried u w about renewed row won = let h = subst
-    (λ (r : Result Bool NoRow). HasRenewed z met word edit r u w) won renewed in record {
-      row = row won ∙ ap (λ (r : Renewal). r.new.row) (sym h.renewal);
-      last = h.last ∙ ap (λ (r : Renewal). r.new) (sym h.renewal);
-      key_is = ap (λ (r : Renewal). r.key) h.renewal;
-      splits_are = h.same_splits ∙ ap (λ (r : Renewal). r.splits) (sym h.renewal);
-      lost_are = h.same_lost ∙ ap (λ (r : Renewal). r.lost) (sym h.renewal);
-      loads_are = h.same_loads ∙ ap (λ (r : Renewal). r.loads) (sym h.renewal);
-      met_are = ap (λ (r : Renewal). r.met) (sym h.renewal);
-      listed = let x = h.inventory.0 in (
-        x.old.place,
-        subst (λ (n : ℕ). IsIn (n, x.old.place) w.inventory.bases) (ap
-            (λ (r : Renewal). r.new.row) (sym h.renewal))
-            (subst (λ (i : Inventory).
-            IsIn ((first_note w.notes).row, x.old.place) i.bases) (sym h.inventory.3) (0, refl)),
-        row won ∙ ap (λ (r : Renewal). r.new.row) (sym h.renewal),
-        subst (λ (n : Note). HasKey n.place.span (edit_key edit)) (sym h.inventory.1) about,
-      );
-    }
+    → IsNewRow placed tried w → IsOk tried → IsNew placed (edit_key edit) met w
+is_new met z edit word placed (Err why) u w about renewed row won = absurd cc
+is_new met z edit word placed (Ok x) u w about h row won = record {
+  row = row ∙ ap (λ (r : Renewal). r.new.row) (sym h.renewal);
+  last = h.last ∙ ap (λ (r : Renewal). r.new) (sym h.renewal);
+  key_is = ap (λ (r : Renewal). r.key) h.renewal;
+  splits_are = h.same_splits ∙ ap (λ (r : Renewal). r.splits) (sym h.renewal);
+  lost_are = h.same_lost ∙ ap (λ (r : Renewal). r.lost) (sym h.renewal);
+  loads_are = h.same_loads ∙ ap (λ (r : Renewal). r.loads) (sym h.renewal);
+  met_are = ap (λ (r : Renewal). r.met) (sym h.renewal);
+  listed = let x = h.inventory.0 in (
+    x.old.place,
+    subst (λ (n : ℕ). IsIn (n, x.old.place) w.inventory.bases) (ap
+        (λ (r : Renewal). r.new.row) (sym h.renewal))
+        (subst (λ (i : Inventory).
+        IsIn ((first_note w.notes).row, x.old.place) i.bases) (sym h.inventory.3) (0, refl)),
+    row ∙ ap (λ (r : Renewal). r.new.row) (sym h.renewal),
+    subst (λ (n : Note). HasKey n.place.span (edit_key edit)) (sym h.inventory.1) about,
+  );
+}
 
 -- The exchange was tried by a pass that knew as much of the tree as this one; what is known of it
 -- then.
-pub known_then : (z : Sizes) (event : TreeView → Event) (tried : Result Bool NoRow)
+pub known_then : (z : Sizes) (event : TreeView → Event) (tried : Result (Unit {0}) Stop)
     (u u' w : TreeView) → u' ≡ u → IsKnown z u
     → HasTried (event u') z tried u' w → IsKnown z w
 known_then z event tried u u' w same k h = (tried_known (λ _ e. e ≡ event u) z (come_to tried) u w
     (tried_by z event tried (come_to tried) u u' w same refl k h)).0
 
 -- What an attempt did stays done as the pass goes further.
-pub tried_then : {T : Type 0} (tells : T → Event → Type 0) (z : Sizes) (r : Result T Stop)
+pub tried_then : {T : Type 0} (tells : T → Event → Type 0) (z : Sizes) (r : Result T Halt)
     (u w v : TreeView) → HasTriedTo tells z r u w
     → IsFurther w v × IsKnown z v → HasTriedTo tells z r u v
 tried_then tells z (Ok x) u w v h f = let d = h.0.2 in let on = f.0 in (
@@ -223,25 +216,15 @@ tried_then tells z (Ok x) u w v h f = let d = h.0.2 in let on = f.0 in (
   ),
   f.1,
 )
-tried_then tells z (Err stop) u w v h f = (further_on u w v h.0 f.0, f.1)
+tried_then tells z (Err why) u w v h f = (further_on u w v h.0 f.0, f.1)
 
 -- What an attempt met of the pool, by what became of its exchange.
-pub settled_stopped : (z : Sizes) (t : Tuning) (statistic : ℤ) (tried : Result Bool NoRow)
-    (a b : Adapting) (k m m' : MyTree) → HasEnded tried k m
+pub settled_stopped : (z : Sizes) (t : Tuning) (statistic : ℤ) (tried : Result (Unit {0}) Stop)
+    (a b : Adapting) (k m m' : MyTree) → HasFound tried k m
     → HasSettled z t statistic tried a b m m' → HasStopped (come_to tried) k m'
-settled_stopped z t statistic (Ok true) a b k m m' ended s = (tt, (λ e. cc), λ e. cc)
-settled_stopped z t statistic (Ok false) a b k m m' ended s = subst
-    (λ (x : MyTree). HasStopped (come_to (Ok false)) k x) (sym s.2)
-    (ended.1, (λ e. ended.0), λ e. cc)
-settled_stopped z t statistic (Err norow.Lost) a b k m m' ended s = subst
-    (λ (x : MyTree). HasStopped (come_to (Err norow.Lost)) k x) (sym s.1)
-    (ended.1, (λ e. ended.0), λ e. cc)
-settled_stopped z t statistic (Err norow.Empty) a b k m m' ended s = subst
-    (λ (x : MyTree). HasStopped (come_to (Err norow.Empty)) k x) (sym s.1)
-    (ended, (λ e. cc), λ e. cc)
-settled_stopped z t statistic (Err norow.Worn) a b k m m' ended s = subst
-    (λ (x : MyTree). HasStopped (come_to (Err norow.Worn)) k x) (sym s.1)
-    (ended, (λ e. cc), λ e. cc)
+settled_stopped z t statistic (Ok x) a b k m m' ended s = tt
+settled_stopped z t statistic (Err why) a b k m m' ended s = subst
+    (λ (x : MyTree). HasStoppedBy why k x) (sym s.1) ended
 
 -- What a try to split the base that was shown last came to: nothing was updated, that base is still
 -- the one shown last, and the split was tried once.
@@ -436,23 +419,20 @@ paid_cut a b passed m m' m'' q x cut is =
 
 -- What was spent by a try to split a full base: one split more where it was carried out, and no
 -- other one.
-pub paid_split : (many attempt passed : ℕ) (split : Result Bool NoRow) (a b : Spent) (m m' : MyTree)
-    → HasSplit many attempt split m.0.upper m'.0.upper
-    → IsSpent a b m m' → split ≡ Ok true → passed ≡ min (b.passed + 1) 4294967295
+pub paid_split : (many attempt passed : ℕ) (split : Result (Unit {0}) Stop) (a b : Spent)
+    (m m' : MyTree) → HasSplit many attempt split m.0.upper m'.0.upper
+    → IsSpent a b m m' → IsOk split → passed ≡ min (b.passed + 1) 4294967295
     → IsPaid a (record b { passed = passed }) m m'
-paid_split many attempt passed split a b m m' h x won is =
-    let told = subst
-    (λ (r : Result Bool NoRow). HasSplit many attempt r m.0.upper m'.0.upper) won h in
-    passed_more a b passed m m' x (ap (λ (u : TreeView). u.turns) told.2) is
+paid_split many attempt passed (Err why) a b m m' h x won is = absurd cc
+paid_split many attempt passed (Ok y) a b m m' h x won is =
+    passed_more a b passed m m' x (ap (λ (u : TreeView). u.turns) h.2) is
 
-pub paid_unsplit : (many attempt : ℕ) (split : Result Bool NoRow) (a b : Spent) (m m' : MyTree)
-    → HasSplit many attempt split m.0.upper m'.0.upper
-    → IsSpent a b m m' → split ≢ Ok true → IsPaid a b m m'
-paid_unsplit many attempt (Ok true) a b m m' h x other = absurd (other refl)
-paid_unsplit many attempt (Ok false) a b m m' h x other =
-    paid_of a b m m' x (ap (λ (u : TreeView). u.turns) h)
-paid_unsplit many attempt (Err why) a b m m' h x other =
-    paid_of a b m m' x (ap (λ (u : TreeView). u.turns) h)
+pub paid_unsplit : (many attempt : ℕ) (split : Result (Unit {0}) Stop) (a b : Spent)
+    (m m' : MyTree) → HasSplit many attempt split m.0.upper m'.0.upper
+    → IsSpent a b m m' → IsErr split → IsPaid a b m m'
+paid_unsplit many attempt (Ok y) a b m m' h x lost = absurd cc
+paid_unsplit many attempt (Err why) a b m m' h x lost = paid_of a b m m' x
+    (ap (λ (u : TreeView). u.turns) h ∙ ap (λ (x : TreeView). x.turns) (stopped_same why m.0.upper))
 
 pub paid_still : (a b : Spent) (m m' m'' : MyTree) → IsQuiet m m' → IsSpent a b m' m''
     → m''.0.upper.turns ≡ m'.0.upper.turns → IsPaid a b m m''
@@ -460,17 +440,17 @@ paid_still a b m m' m'' q x same = paid_behind a b m m' m'' q (paid_of a b m' m'
 
 -- What an attempt's exchange and what followed it come to, given that the pass knew as much of the
 -- tree at first as this one.
-pub settled_tried : (z : Sizes) (event : TreeView → Event) (tried : Result Bool NoRow)
-    (r : Result (Unit {0}) Stop) (u u' w v : TreeView) → u' ≡ u
+pub settled_tried : (z : Sizes) (event : TreeView → Event) (tried : Result (Unit {0}) Stop)
+    (r : Result (Unit {0}) Halt) (u u' w v : TreeView) → u' ≡ u
     → r ≡ come_to tried → IsKnown z u → HasTried (event u') z tried u' w → IsFurther w v
     × IsKnown z v → HasTriedTo (λ _ e. e ≡ event u) z r u v
 settled_tried z event tried r u u' w v same is k h f = subst
-    (λ (x : Result (Unit {0}) Stop). HasTriedTo (λ _ e. e ≡ event u) z x u v) (sym is)
+    (λ (x : Result (Unit {0}) Halt). HasTriedTo (λ _ e. e ≡ event u) z x u v) (sym is)
     (tried_then
     (λ _ e. e ≡ event u) z (come_to tried) u w v
     (tried_by z event tried (come_to tried) u u' w same refl k h) f)
 
-pub settled_on : {z : Sizes} {t : Tuning} {tried : Result Bool NoRow} {r : Result (Unit {0}) Stop}
+pub settled_on : {z : Sizes} {t : Tuning} {tried : Result (Unit {0}) Stop} {r : Result (Unit {0}) Halt}
     {a b : Adapting} {k m m' m'' : MyTree}
     (s : IsSettling z t tried r a b k m m' m'')
     → IsMoved t (get_or (first_note k.0.upper.notes).its 1 0) a.lost s.statistic
@@ -478,7 +458,7 @@ pub settled_on : {z : Sizes} {t : Tuning} {tried : Result Bool NoRow} {r : Resul
     → HasGoneOn (λ (_ : Unit {0}). true) z t a b r k.0.upper m''.0.upper
 settled_on {z} {t} {tried} {r} {a} {b} {k} {m} {m'} {m''} s moved word_is = let same = ap
     (λ (x : MyTree). x.0.upper) s.same in
-    subst (λ (x : Result (Unit {0}) Stop). HasGoneOn
+    subst (λ (x : Result (Unit {0}) Halt). HasGoneOn
     (λ (_ : Unit {0}). true) z t a b x k.0.upper m''.0.upper) (sym s.is)
     (subst (λ (y : TreeView). HasGoneOn
     (λ (_ : Unit {0}). true) z t a b (come_to tried) y m''.0.upper) same
@@ -489,11 +469,11 @@ settled_on {z} {t} {tried} {r} {a} {b} {k} {m} {m'} {m''} s moved word_is = let 
         (λ (x : MyTree). IsMoved t (get_or (first_note x.0.upper.notes).its 1 0) a.lost s.statistic)
         (sym s.same) moved
 
-    by : (x : Result Bool NoRow) → HasTried s.event z x m.0.upper m'.0.upper
+    by : (x : Result (Unit {0}) Stop) → HasTried s.event z x m.0.upper m'.0.upper
         → HasRenewed z s.met s.word s.edit x m.0.upper m'.0.upper
         → HasSettled z t s.statistic x a b m' m''
         → HasGoneOn (λ (_ : Unit {0}). true) z t a b (come_to x) m.0.upper m''.0.upper
-    by (Ok true) done h q = let u = m.0.upper in
+    by (Ok x) done h q = let u = m.0.upper in
         let e : m''.0.upper.renewal
         ≡ renewal_of s.met u (edit_key s.edit) (first_note u.notes)
         (first_note m'.0.upper.notes) = q.1.0 ∙ h.renewal in
@@ -512,26 +492,21 @@ settled_on {z} {t} {tried} {r} {a} {b} {k} {m} {m'} {m''} s moved word_is = let 
               (subst (λ (n : ℤ). IsWordOf n s.word) (sym q.0) word_is);
           adapted = subst (λ (n : ℤ). IsAdapted z t n m''.0.upper b.last.adapted) (sym q.0) q.1.1;
         }
-    by (Ok false) lost h q = let w = ap (λ (x : MyTree). x.0.upper) q.2 ∙ lost in
-        let more = ap (λ (x : TreeView). x.lost) w in
-        (q.1, ap (λ (x : TreeView). x.renewal) w, inr (q.0, omega arith))
-    by (Err why) none h q = let w = ap (λ (x : MyTree). x.0.upper) q.1 ∙ none in (
-      ap (λ (x : Adapting). x.last) q.0,
-      ap (λ (x : TreeView). x.renewal) w,
-      inl (ap (λ (x : Adapting). x.lost) q.0, ap (λ (x : TreeView). x.lost) w),
-    )
+    by (Err why) is h q = let w = ap (λ (x : MyTree). x.0.upper) q.1 ∙ is in
+        subst (λ (x : Adapting × TreeView). Waits a x.0 m.0.upper x.1) (λ i. (sym q.0 i, sym w i))
+        (noted_waits why a m.0.upper)
 
 pub settled_paid : (a b c : Spent) (k m m' m'' : MyTree) → m ≡ k
     → m'.0.upper.turns ≡ m.0.upper.turns → IsSpent a b m m' → IsPaid b c m' m'' → IsPaid a c k m''
 settled_paid a b c k m m' m'' same still spent paid = subst (λ (x : MyTree). IsPaid a c x m'') same
     (paid_both a b c m m' m'' (paid_of a b m m' spent still) paid)
 
-pub settled_found : (z : Sizes) (t : Tuning) (statistic : ℤ) (tried : Result Bool NoRow)
-    (r : Result (Unit {0}) Stop) (a b : Adapting) (k m m' m'' : MyTree)
-    → m ≡ k → r ≡ come_to tried → HasEnded tried m m' → HasSettled z t statistic tried a b m' m''
+pub settled_found : (z : Sizes) (t : Tuning) (statistic : ℤ) (tried : Result (Unit {0}) Stop)
+    (r : Result (Unit {0}) Halt) (a b : Adapting) (k m m' m'' : MyTree)
+    → m ≡ k → r ≡ come_to tried → HasFound tried m m' → HasSettled z t statistic tried a b m' m''
     → HasStopped r k m''
 settled_found z t statistic tried r a b k m m' m'' same is ended s = subst
-    (λ (x : Result (Unit {0}) Stop). HasStopped x k m'') (sym is)
+    (λ (x : Result (Unit {0}) Halt). HasStopped x k m'') (sym is)
     (subst (λ (x : MyTree). HasStopped (come_to tried) x m'') same
     (settled_stopped z t statistic tried a b m m' m'' ended s))
 
@@ -573,22 +548,18 @@ gone_pinned edits z t a b (Err why) u v w same h = subst
 
 -- What the last attempt came to is what the attempts came to.
 pub gone_refused : {T : Type 0} (edits : T → Bool) (z : Sizes) (t : Tuning) (a b : Adapting)
-    (tried : Result T Stop) (spent : Spent) (levels : ℕ)
+    (tried : Result T Halt) (spent : Spent) (levels : ℕ)
     (u v : TreeView) → HasGoneOn edits z t a b tried u v
     → HasGoneOn edits z t a b (refused_as tried spent levels) u v
 gone_refused edits z t a b (Ok x) spent levels u v h = h
-gone_refused edits z t a b (Err stop.Lost) spent levels u v h = h
-gone_refused edits z t a b (Err stop.Split) spent levels u v h = h
-gone_refused edits z t a b (Err stop.Empty) spent levels u v h = h
-gone_refused edits z t a b (Err stop.Worn) spent levels u v h = h
-gone_refused edits z t a b (Err stop.Deep) spent levels u v h = h
+gone_refused edits z t a b (Err why) spent levels u v h = h
 
 -- The call is refused by what its last attempt came to.
-abbrev pub IsAttemptRefusal : {T : Type 0} → Result T Stop → Result T Cause → Type 0
+abbrev pub IsAttemptRefusal : {T : Type 0} → Result T Halt → Result T Cause → Type 0
 IsAttemptRefusal tried r = (spent : Spent) × (levels : ℕ) × (r ≡ refused_as tried spent levels)
 
 pub refused_gone : {T : Type 0} (edits : T → Bool) (z : Sizes) (t : Tuning) (a b : Adapting)
-    (tried : Result T Stop) (r : Result T Cause)
+    (tried : Result T Halt) (r : Result T Cause)
     (u w v : TreeView) → v ≡ w → IsAttemptRefusal tried r → HasGoneOn edits z t a b tried u w
     → HasGoneOn edits z t a b r u v
 refused_gone {T} edits z t a b tried r u w v same refused h = subst

@@ -1,8 +1,11 @@
 -- How the tree of a pass that is alone grows by a call.
-use Rattle.std.proofs.Common.{◌≡◌, ◌≢◌, ◌⊎◌, ℕ, zero, suc, ◌+◌, ◌/◌, ◌<◌, ◌≤◌, Bool, true, false, ℤ, List, [], ◌∷◌, ◌++◌, length, map, take, drop, get_or, Result, Ok, Err, sym, refl, ap, ◌∙◌, subst, inl, inr, ⊎_elim, arith, length-append}
+use Rattle.std.proofs.Common.{◌≡◌, ◌≢◌, ◌⊎◌, ℕ, zero, suc, ◌+◌, ◌/◌, ◌<◌, ◌≤◌, Bool, true, false, ℤ, List, [], ◌∷◌, ◌++◌, length, map, take, drop, get_or, Result, Ok, Err, IsErr, sym, refl, ap, ◌∙◌, subst, inl, inr, ⊎_elim, arith, length-append}
 use Rattle.std.proofs.lemmas.List.{get_or-map, length-map, length-take, length-take-le, take-append-drop}
 use Rattle.std.specs.declared.option.Option.{Option}
 use Rattle.std.specs.declared.option.Option.TheVariants.{None, Some}
+use Rattle.ca_base.specs.declared.stop.Stop.{Stop}
+use Rattle.ca_replace.specs.declared.attempting.Halt.{Halt}
+use Rattle.ca_replace.specs.declared.attempting.Halt.TheVariants as halt
 use Rattle.ca_adapt.specs.declared.adapted.Adapted.{Adapted}
 use Rattle.ca_adapt.specs.declared.adapted.Adapted.TheVariants as adapted
 use Rattle.ca_adapt.specs.declared.adapted.Why.{Why}
@@ -26,20 +29,17 @@ use Rattle.ca_node.specs.TreeView.{Inventory, Note, TreeView, pinned, unpinned, 
 use Rattle.ca_node.proofs.Listing.{of_but, but_shorter, but_all_shorter}
 use Rattle.ca_node.proofs.Looking.{in_more}
 use Rattle.ca_node.proofs.Parts.{part_cut}
-use Rattle.ca_base.specs.declared.taking.NoRow.{NoRow}
-use Rattle.ca_base.specs.declared.taking.NoRow.TheVariants as norow
 use Rattle.ca_base.specs.Progress.{IsFurther}
-use Rattle.ca_base.specs.Putting.{HasRenewed, HasTried, IsRenewed, first_note}
+use Rattle.ca_base.specs.Putting.{HasRenewed, HasTried, IsRenewed, first_note, stopped}
 use Rattle.ca_base.specs.Splitting.{IsSplit, HasSplit}
 use Rattle.ca_replace.specs.declared.adapting.Adapting.{Adapting}
-use Rattle.ca_replace.specs.declared.attempting.Stop.{Stop}
-use Rattle.ca_replace.specs.declared.attempting.Stop.TheVariants as stop
 use Rattle.ca_model.specs.declared.outcome.Cause.{Cause}
 use Rattle.ca_replace.specs.Adapting.{HasSettled}
-use Rattle.ca_replace.specs.Attempting.{IsLooking, IsQuiet, HasTriedTo, come_to, refused_as, split_to}
+use Rattle.ca_replace.specs.Attempting.{HasNext, IsLooking, IsQuiet, HasTriedTo, come_to, refused_as, split_to}
 use Rattle.ca_replace.specs.Growing.{Grows, GrowsInCall, IsSameTree, HasRoom, HasRoomFor, HasGrown, HasWaited, HasGrownInAttempts}
 use Rattle.ca_replace.proofs.Settling.{IsSettling}
 use Rattle.ca_replace.proofs.OneHand.{seen_still}
+use Rattle.ca_replace.proofs.Showing.{stopped_same}
 use Rattle.ca_replace.proofs.States.{has_last}
 use Rattle.ca_rows.specs.declared.sizes.Sizes.{Sizes}
 use Rattle.ca_rows.specs.declared.view.Met.{Met}
@@ -121,16 +121,18 @@ split_grows u x l =
       most_are = omega arith;
     }
 
+-- A try that came to nothing left the tree as it was.
+stopped_tree : (why : Stop) (u v : TreeView) → v ≡ stopped why u → IsSameTree u v
+stopped_tree why u v is = let e = is ∙ stopped_same why u in
+    (ap (λ (w : TreeView). w.splits) e, ap (λ (w : TreeView). w.inventory) e)
+
 -- What became of a split.
-pub has_split_grows : (many attempt : ℕ) (r : Result Bool NoRow) (u v : TreeView)
+pub has_split_grows : (many attempt : ℕ) (r : Result (Unit {0}) Stop) (u v : TreeView)
     → IsListed u.inventory (first_note u.notes) → HasSplit many attempt r u v
     → Grows 1 2 1 u v
-has_split_grows many attempt (Ok true) u v l h = subst (λ (w : TreeView). Grows 1 2 1 u w) (sym h.2)
+has_split_grows many attempt (Ok x) u v l h = subst (λ (w : TreeView). Grows 1 2 1 u w) (sym h.2)
     (split_grows u h.0 (subst (λ (n : Note). IsListed u.inventory n) (sym h.1.old_is) l))
-has_split_grows many attempt (Ok false) u v l h =
-    same_grows 1 2 1 u v (ap (λ (w : TreeView). w.splits) h, ap (λ (w : TreeView). w.inventory) h)
-has_split_grows many attempt (Err why) u v l h =
-    same_grows 1 2 1 u v (ap (λ (w : TreeView). w.splits) h, ap (λ (w : TreeView). w.inventory) h)
+has_split_grows many attempt (Err why) u v l h = same_grows 1 2 1 u v (stopped_tree why u v h)
 
 -- From a place of a list on it begins with the member there.
 from_there : {A : Type 0} (d : A) (n : ℕ) (xs : List A) → n < length xs → (ys : List A)
@@ -277,72 +279,50 @@ no_room z u k cursor l alone full room = let note = first_note u.notes in
 
 -- What an attempt comes to that met a full base, and tried to split it.
 pub made_room : (z : Sizes) (u v : TreeView) (k : List ℕ) (cursor : Cursor) (many attempt : ℕ)
-    (r : Result Bool NoRow) → IsLooking z u k cursor
+    (r : Result (Unit {0}) Stop) → IsLooking z u k cursor
     → IsAlone z u → many ≡ length (first_note u.notes).objects
     → 2 ≤ many → z.leaf ≤ many → HasSplit many attempt r u v
     → HasGrown {T = Unit {0}} z (Some k) (Err (split_to r)) u v
-made_room z u v k cursor many attempt (Ok true) l alone are least full h = (
-  has_split_grows many attempt (Ok true) u v (l.listed alone) h,
+made_room z u v k cursor many attempt (Ok x) l alone are least full h = (
+  has_split_grows many attempt (Ok x) u v (l.listed alone) h,
   subst (λ (w : TreeView).
       HasRoom z k w) (sym h.2) (room_then z u k cursor l alone many attempt h.0 h.1 are least),
   no_room z u k cursor l alone (subst (λ (n : ℕ). z.leaf ≤ n) are full),
 )
-made_room z u v k cursor many attempt (Ok false) l alone are least full h =
-    (ap (λ (w : TreeView). w.splits) h, ap (λ (w : TreeView). w.inventory) h)
-made_room z u v k cursor many attempt (Err why) l alone are least full h = by why
-  where
-    same : IsSameTree u v
-    same = (ap (λ (w : TreeView). w.splits) h, ap (λ (w : TreeView). w.inventory) h)
-
-    by : (why : NoRow) → HasGrown {T = Unit {0}} z (Some k) (Err (split_to (Err why))) u v
-    by norow.Lost = same
-    by norow.Empty = same
-    by norow.Worn = same
+made_room z u v k cursor many attempt (Err why) l alone are least full h = stopped_tree why u v h
 
 -- Where the exchange of a base was not won, nothing followed it.
-pub settled_still : (z : Sizes) (t : Tuning) (statistic : ℤ) (tried : Result Bool NoRow)
-    (a b : Adapting) (m m' : MyTree) → tried ≢ Ok true
+pub settled_still : (z : Sizes) (t : Tuning) (statistic : ℤ) (tried : Result (Unit {0}) Stop)
+    (a b : Adapting) (m m' : MyTree) → IsErr tried
     → HasSettled z t statistic tried a b m m' → m'.0.upper ≡ m.0.upper
-settled_still z t statistic (Ok true) a b m m' n s = absurd (n refl)
-settled_still z t statistic (Ok false) a b m m' n s = ap (λ (x : MyTree). x.0.upper) s.2
+settled_still z t statistic (Ok x) a b m m' n s = absurd cc
 settled_still z t statistic (Err why) a b m m' n s = ap (λ (x : MyTree). x.0.upper) s.1
 
 -- The pass has its number.
-tried_number : (z : Sizes) (event : Event) (tried : Result Bool NoRow) (u w : TreeView)
+tried_number : (z : Sizes) (event : Event) (tried : Result (Unit {0}) Stop) (u w : TreeView)
     → HasTried event z tried u w → w.number ≡ u.number
-tried_number z event (Ok true) u w h = h.0.number
-tried_number z event (Ok false) u w h = ap (λ (x : TreeView). x.number) h
-tried_number z event (Err why) u w h = ap (λ (x : TreeView). x.number) h
+tried_number z event (Ok x) u w h = h.0.number
+tried_number z event (Err why) u w h = ap (λ (x : TreeView). x.number) (h ∙ stopped_same why u)
 
 -- What an attempt comes to by its exchange, given what followed.
 tried_grown : (met : Met) (z : Sizes) (adds : Option (List ℕ)) (event : Event) (edit : Edit)
-    (word : ℕ) (tried : Result Bool NoRow) (u w v : TreeView)
+    (word : ℕ) (tried : Result (Unit {0}) Stop) (u w v : TreeView)
     → IsListed u.inventory (first_note u.notes) → HasTried event z tried u w
     → HasRenewed z met word edit tried u w → Grows 1 2 1 w v
-    → (tried ≢ Ok true → v ≡ w) → HasGrown z adds (come_to tried) u v
-tried_grown met z adds event edit word (Ok true) u w v l h renewed then
+    → (IsErr tried → v ≡ w) → HasGrown z adds (come_to tried) u v
+tried_grown met z adds event edit word (Ok x) u w v l h renewed then
     else = grows_both 0 1 0 1 2 1 u w v (update_grows met z word edit u w l renewed) then
-tried_grown met z adds event edit word (Ok false) u w v l h renewed then
-    else = let e = else (λ e. cc) ∙ h in
-    (ap (λ (x : TreeView). x.splits) e, ap (λ (x : TreeView). x.inventory) e)
-tried_grown met z adds event edit word (Err norow.Lost) u w v l h renewed then
-    else = let e = else (λ e. cc) ∙ h in
-    (ap (λ (x : TreeView). x.splits) e, ap (λ (x : TreeView). x.inventory) e)
-tried_grown met z adds event edit word (Err norow.Empty) u w v l h renewed then
-    else = let e = else (λ e. cc) ∙ h in
-    (ap (λ (x : TreeView). x.splits) e, ap (λ (x : TreeView). x.inventory) e)
-tried_grown met z adds event edit word (Err norow.Worn) u w v l h renewed then
-    else = let e = else (λ e. cc) ∙ h in
-    (ap (λ (x : TreeView). x.splits) e, ap (λ (x : TreeView). x.inventory) e)
+tried_grown met z adds event edit word (Err why) u w v l h renewed then
+    else = stopped_tree why u v (else refl ∙ h)
 
-pub settled_grown : {z : Sizes} {t : Tuning} {tried : Result Bool NoRow}
-    {r : Result (Unit {0}) Stop} {a b : Adapting} {k m m' m'' : MyTree}
+pub settled_grown : {z : Sizes} {t : Tuning} {tried : Result (Unit {0}) Stop}
+    {r : Result (Unit {0}) Halt} {a b : Adapting} {k m m' m'' : MyTree}
     (s : IsSettling z t tried r a b k m m' m'') (adds : Option (List ℕ))
     → (IsAlone z k.0.upper → IsListed k.0.upper.inventory (first_note k.0.upper.notes))
     → (IsAlone z m'.0.upper → Grows 1 2 1 m'.0.upper m''.0.upper) → IsAlone z k.0.upper
     → HasGrown z adds r k.0.upper m''.0.upper
 settled_grown {z} {t} {tried} {r} {a} {b} {k} {m} {m'} {m''} s adds listed then alone = subst
-    (λ (x : Result (Unit {0}) Stop). HasGrown z adds x k.0.upper m''.0.upper) (sym s.is)
+    (λ (x : Result (Unit {0}) Halt). HasGrown z adds x k.0.upper m''.0.upper) (sym s.is)
     (subst (λ (x : MyTree). HasGrown z adds (come_to tried) x.0.upper m''.0.upper) s.same
     (tried_grown s.met z adds s.event s.edit s.word tried m.0.upper m'.0.upper m''.0.upper
     (subst (λ (x : MyTree). IsListed x.0.upper.inventory (first_note x.0.upper.notes)) (sym s.same)
@@ -355,13 +335,10 @@ settled_grown {z} {t} {tried} {r} {a} {b} {k} {m} {m'} {m''} s adds listed then 
     (λ n. settled_still z t s.statistic tried a b m' m'' n s.settled)))
 
 -- An exchange of a base comes to no split of a full one.
-pub come_unsplit : (tried : Result Bool NoRow) (r : Result (Unit {0}) Stop) → r ≡ come_to tried
-    → r ≢ Err stop.Split
-come_unsplit (Ok true) r is e = cc
-come_unsplit (Ok false) r is e = cc
-come_unsplit (Err norow.Lost) r is e = cc
-come_unsplit (Err norow.Empty) r is e = cc
-come_unsplit (Err norow.Worn) r is e = cc
+pub come_unsplit : (tried : Result (Unit {0}) Stop) (r : Result (Unit {0}) Halt) → r ≡ come_to tried
+    → r ≢ Err halt.Split
+come_unsplit (Ok x) r is e = cc
+come_unsplit (Err why) r is e = cc
 
 -- A try to split the base that is due.
 pub due_grows : (z : Sizes) (a : Adapted) (k m m' : MyTree)
@@ -399,7 +376,7 @@ due_grows z a k m m' l same h =
     by adapted.Stay h = absurd h
     by adapted.Split h =
         has_split_grows (length (first_note m.0.upper.notes).objects) (attempts_at_first z)
-        (Ok true) m.0.upper m'.0.upper l h.2
+        (Ok tt) m.0.upper m'.0.upper l h.2
     by adapted.Joined h = absurd h
     by (adapted.NotSplit w) h = not_by w h
     by (adapted.NotJoined w) h = absurd h
@@ -413,20 +390,18 @@ room_stays z (Some k) u v seen same room = λ row place i has. subst
     (room row place (subst (λ (j : Inventory). IsIn (row, place) j.bases) same i) has)
 
 -- An attempt before which the pass looked, and that had seen as much.
-pub grown_from : {T : Type 0} (z : Sizes) (adds : Option (List ℕ)) (r : Result T Stop)
+pub grown_from : {T : Type 0} (z : Sizes) (adds : Option (List ℕ)) (r : Result T Halt)
     (u w v : TreeView) → w.seen ≡ u.seen → IsSameTree u w
     → HasGrown z adds r w v → HasGrown z adds r u v
 grown_from z adds (Ok x) u w v seen same h =
     grows_both 0 0 0 1 3 1 u w v (same_grows 0 0 0 u w same) h
-grown_from z adds (Err stop.Split) u w v seen same h = (
+grown_from z adds (Err halt.Split) u w v seen same h = (
   grows_both 0 0 0 1 2 1 u w v (same_grows 0 0 0 u w same) h.0,
   h.1,
   λ room. h.2 (room_stays z adds u w seen same.1 room),
 )
-grown_from z adds (Err stop.Lost) u w v seen same h = same_both u w v same h
-grown_from z adds (Err stop.Empty) u w v seen same h = same_both u w v same h
-grown_from z adds (Err stop.Worn) u w v seen same h = same_both u w v same h
-grown_from z adds (Err stop.Deep) u w v seen same h = same_both u w v same h
+grown_from z adds (Err halt.Deep) u w v seen same h = same_both u w v same h
+grown_from z adds (Err (halt.Stopped why)) u w v seen same h = same_both u w v same h
 
 -- Attempts behind others that did not do the call, of a pass that learnt of nothing.
 module _ (z : Sizes) (adds : Option (List ℕ)) (u w v : TreeView) (before : HasWaited z adds u w)
@@ -471,14 +446,12 @@ module _ (z : Sizes) (adds : Option (List ℕ)) (u w v : TreeView) (before : Has
       before
 
 -- One attempt is so many.
-one_attempt : {T : Type 0} (z : Sizes) (adds : Option (List ℕ)) (r : Result T Stop) (u v : TreeView)
+one_attempt : {T : Type 0} (z : Sizes) (adds : Option (List ℕ)) (r : Result T Halt) (u v : TreeView)
     → HasGrown z adds r u v → HasGrownInAttempts z adds r u v
 one_attempt z adds (Ok x) u v h = inl h
-one_attempt z adds (Err stop.Split) u v h = inr h
-one_attempt z adds (Err stop.Lost) u v h = inl h
-one_attempt z adds (Err stop.Empty) u v h = inl h
-one_attempt z adds (Err stop.Worn) u v h = inl h
-one_attempt z adds (Err stop.Deep) u v h = inl h
+one_attempt z adds (Err halt.Split) u v h = inr h
+one_attempt z adds (Err halt.Deep) u v h = inl h
+one_attempt z adds (Err (halt.Stopped why)) u v h = inl h
 
 -- Whose number is that of a pass that is alone is alone.
 pub alone_on : (z : Sizes) (u w : TreeView) → w.number ≡ u.number → IsAlone z u → IsAlone z w
@@ -486,7 +459,7 @@ alone_on z u w same a = (a.0, subst (λ (n : ℕ). 0 < n) (sym same) a.1)
 
 -- Attempts behind others.
 pub attempts_so_far : {T : Type 0} (tells : T → Event → Type 0) (z : Sizes) (adds : Option (List ℕ))
-    (r : Result T Stop) (u w v : TreeView) → IsKnown z u
+    (r : Result T Halt) (u w v : TreeView) → IsKnown z u
     → IsKnown z w → IsFurther u w → (IsAlone z u → HasWaited z adds u w) → HasTriedTo tells z r w v
     → (IsAlone z w → HasGrownInAttempts z adds r w v)
     → IsAlone z u → HasGrownInAttempts z adds r u v
@@ -499,7 +472,7 @@ attempts_so_far tells z adds (Err why) u w v k l f before tried h a =
 
 -- An attempt behind others.
 pub one_more_attempt : {T : Type 0} (tells : T → Event → Type 0) (z : Sizes)
-    (adds : Option (List ℕ)) (r : Result T Stop) (u w v : TreeView) → IsKnown z u
+    (adds : Option (List ℕ)) (r : Result T Halt) (u w v : TreeView) → IsKnown z u
     → IsKnown z w → IsFurther u w → (IsAlone z u → HasWaited z adds u w) → HasTriedTo tells z r w v
     → (IsAlone z w → HasGrown z adds r w v)
     → IsAlone z u → HasGrownInAttempts z adds r u v
@@ -512,15 +485,13 @@ pub has_waited : {T E : Type 0} (z : Sizes) (adds : Option (List ℕ)) (r : Resu
     → HasWaited z adds u v
 has_waited {T} {E} z adds r why u v e h = subst (λ (x : Result T E). HasGrownInAttempts z adds x u v) e h
 
-pub turn_waited : {T : Type 0} (z : Sizes) (adds : Option (List ℕ)) (r : Result T Stop)
-    (u v : TreeView) → (r ≡ Err stop.Lost) ⊎ (r ≡ Err stop.Split)
-    → HasGrownInAttempts z adds r u v → HasWaited z adds u v
-turn_waited z adds r u v e h = ⊎_elim
-    (λ (l : r ≡ Err stop.Lost). has_waited z adds r stop.Lost u v l h)
-    (λ (s : r ≡ Err stop.Split). has_waited z adds r stop.Split u v s h) e
+pub turn_waited : {T : Type 0} (z : Sizes) (adds : Option (List ℕ)) (r : Result T Halt)
+    (u v : TreeView) → HasNext r → HasGrownInAttempts z adds r u v → HasWaited z adds u v
+turn_waited z adds (Ok x) u v next h = absurd next
+turn_waited z adds (Err why) u v next h = h
 
 -- An attempt behind the look that it begins with.
-pub looked_grown : {T : Type 0} (z : Sizes) (adds : Option (List ℕ)) (r : Result T Stop)
+pub looked_grown : {T : Type 0} (z : Sizes) (adds : Option (List ℕ)) (r : Result T Halt)
     (m m' : MyTree) (v : TreeView) → IsKnown z m.0.upper
     → IsKnown z m'.0.upper → IsFurther m.0.upper m'.0.upper → IsQuiet m m'
     → (IsAlone z m'.0.upper → HasGrown z adds r m'.0.upper v)
@@ -530,7 +501,7 @@ looked_grown z adds r m m' v k l f q h a =
     (q.splits_are, q.same_inventory) (h (alone_on z m.0.upper m'.0.upper f.number a))
 
 -- One that came to a stop, told of another type of answers.
-pub stop_grown : (T U : Type 0) (z : Sizes) (adds : Option (List ℕ)) (why : Stop) (m m' : MyTree)
+pub stop_grown : (T U : Type 0) (z : Sizes) (adds : Option (List ℕ)) (why : Halt) (m m' : MyTree)
     (v : TreeView) → IsKnown z m.0.upper
     → IsKnown z m'.0.upper → IsFurther m.0.upper m'.0.upper → IsQuiet m m'
     → (IsAlone z m'.0.upper → HasGrown {T = T} z adds (Err why) m'.0.upper v)
@@ -538,23 +509,19 @@ pub stop_grown : (T U : Type 0) (z : Sizes) (adds : Option (List ℕ)) (why : St
 stop_grown T U z adds why m m' v k l f q h a =
     by why (looked_grown {T = T} z adds (Err why) m m' v k l f q h a)
   where
-    by : (why : Stop) → HasGrown {T = T} z adds (Err why) m.0.upper v
+    by : (why : Halt) → HasGrown {T = T} z adds (Err why) m.0.upper v
         → HasGrown {T = U} z adds (Err why) m.0.upper v
-    by stop.Split h = h
-    by stop.Lost h = h
-    by stop.Empty h = h
-    by stop.Worn h = h
-    by stop.Deep h = h
+    by halt.Split h = h
+    by halt.Deep h = h
+    by (halt.Stopped why) h = h
 
 -- One that stopped and split no full base, whichever key it was to add.
-pub stop_unsplit : (T U : Type 0) (z : Sizes) (adds other : Option (List ℕ)) (why : Stop)
-    (u v : TreeView) → (why ≡ stop.Split → ⊥)
+pub stop_unsplit : (T U : Type 0) (z : Sizes) (adds other : Option (List ℕ)) (why : Halt)
+    (u v : TreeView) → (why ≡ halt.Split → ⊥)
     → HasGrown {T = T} z adds (Err why) u v → HasGrown {T = U} z other (Err why) u v
-stop_unsplit T U z adds other stop.Split u v none h = absurd (none refl)
-stop_unsplit T U z adds other stop.Lost u v none h = h
-stop_unsplit T U z adds other stop.Empty u v none h = h
-stop_unsplit T U z adds other stop.Worn u v none h = h
-stop_unsplit T U z adds other stop.Deep u v none h = h
+stop_unsplit T U z adds other halt.Split u v none h = absurd (none refl)
+stop_unsplit T U z adds other halt.Deep u v none h = h
+stop_unsplit T U z adds other (halt.Stopped why) u v none h = h
 
 -- A call that edits nothing.
 pub entered_grown : (m m' m'' : MyTree) (event : Event) → IsQuiet m m'
@@ -566,7 +533,7 @@ entered_grown m m' m'' event q is = let e = ap (λ (x : MyTree). x.0.upper) is.n
     )
 
 -- What was done while the pass was pinned.
-pub grown_pinned : {T : Type 0} (z : Sizes) (adds : Option (List ℕ)) (r : Result T Stop)
+pub grown_pinned : {T : Type 0} (z : Sizes) (adds : Option (List ℕ)) (r : Result T Halt)
     (u v w : TreeView) → w ≡ unpinned v
     → HasGrown z adds r (pinned u) v → HasGrown z adds r u w
 grown_pinned {T} z adds r u v w same h = subst
@@ -582,20 +549,18 @@ grown_pinned {T} z adds r u v w same h = subst
           most_are = g.most_are;
         }
 
-    by : (r : Result T Stop) → HasGrown z adds r (pinned u) v → HasGrown z adds r u (unpinned v)
+    by : (r : Result T Halt) → HasGrown z adds r (pinned u) v → HasGrown z adds r u (unpinned v)
     by (Ok x) h = grew 1 3 1 h
-    by (Err stop.Split) h = (
+    by (Err halt.Split) h = (
       grew 1 2 1 h.0,
       room_stays z adds v (unpinned v) refl refl h.1,
       λ room. h.2 (room_stays z adds u (pinned u) refl refl room),
     )
-    by (Err stop.Lost) h = h
-    by (Err stop.Empty) h = h
-    by (Err stop.Worn) h = h
-    by (Err stop.Deep) h = h
+    by (Err halt.Deep) h = h
+    by (Err (halt.Stopped why)) h = h
 
 -- What the attempts come to where the last one's is told otherwise.
-pub grown_refused : {T : Type 0} (z : Sizes) (adds : Option (List ℕ)) (tried : Result T Stop)
+pub grown_refused : {T : Type 0} (z : Sizes) (adds : Option (List ℕ)) (tried : Result T Halt)
     (r : Result T Cause) (spent : Spent) (levels : ℕ)
     (u w v : TreeView)
     → v ≡ w → r ≡ refused_as tried spent levels → HasGrownInAttempts z adds tried u w
@@ -605,14 +570,10 @@ grown_refused {T} z adds tried r spent levels u w v same is h = subst
     (subst (λ (x : TreeView).
     HasGrownInAttempts z adds (refused_as tried spent levels) u x) (sym same) (by tried h))
   where
-    by : (tried : Result T Stop) → HasGrownInAttempts z adds tried u w
+    by : (tried : Result T Halt) → HasGrownInAttempts z adds tried u w
         → HasGrownInAttempts z adds (refused_as tried spent levels) u w
     by (Ok x) h = h
-    by (Err stop.Lost) h = h
-    by (Err stop.Split) h = h
-    by (Err stop.Empty) h = h
-    by (Err stop.Worn) h = h
-    by (Err stop.Deep) h = h
+    by (Err why) h = h
 
 -- By how much a call grew the tree.
 pub done_grows : (z : Sizes) (adds : Option (List ℕ)) (u v : TreeView) → Grows 1 3 1 u v

@@ -1,4 +1,5 @@
 pub mod Asking
+pub mod Behind
 pub mod Causing
 pub mod Counted
 pub mod Cutting

@@ -2,6 +2,10 @@
 use Rattle.std.proofs.Common.{◌≡◌, ℕ, Bool, true, false, ◌<◌, ◌≤◌, List, [], ◌∷◌, ◌++◌, length, map, get_or, Result, Ok, Err, IsOk, None, Some, sym, refl, ap, ◌∙◌, subst, ⊎_elim, arith}
 use Rattle.std.proofs.lemmas.List.{length-map}
 use denote.Ref.{Bor}
+use Rattle.ca_base.specs.declared.stop.Exchange.TheVariants as exchange
+use Rattle.ca_base.specs.declared.stop.Stop.{Stop}
+use Rattle.ca_base.specs.declared.stop.Stop.TheVariants as stop
+use Rattle.ca_replace.specs.declared.attempting.Halt.{Halt}
 use Rattle.ca_model.specs.Event.{Event, Entry, WriteNew}
 use Rattle.ca_model.specs.History.{History, state}
 use Rattle.ca_model.specs.Lawful.{IsPlaceFrom}
@@ -19,10 +23,8 @@ use Rattle.ca_node.specs.Told.{MyTree, with_upper, IsEntered, IsKnown, led_to_ba
 use Rattle.ca_node.specs.TreeView.{Note, TreeView}
 use Rattle.ca_node.specs.Walking.{walked, IsWalked}
 use Rattle.ca_node.proofs.Parts.{part_map, part_get}
-use Rattle.ca_replace.specs.declared.attempting.Stop.{Stop}
 use Rattle.ca_replace.specs.Attempting.{IsLooking, HasFetched, HasDoneSuch, HasSeenAlike, HasTriedTo, IsQuiet, come_to}
 use Rattle.ca_replace.specs.Causes.{IsFull, IsFullSince}
-use Rattle.ca_base.specs.declared.taking.NoRow.{NoRow}
 use Rattle.ca_base.specs.Finding.{IsPlaceIn}
 use Rattle.ca_base.specs.Progress.{IsFurther, HasDone}
 use Rattle.ca_base.proofs.Searching.{found_object}
@@ -30,7 +32,7 @@ use Rattle.ca_replace.proofs.Counted.{none_met}
 use Rattle.ca_replace.proofs.Entries.{known_read, read_by}
 use Rattle.ca_replace.proofs.States.{seen_before, state_map}
 use Rattle.ca_replace.proofs.Meeting.{further_on, done_on}
-use Rattle.ca_base.specs.Putting.{first_note, IsRoom, IsShownLast, HasTried}
+use Rattle.ca_base.specs.Putting.{first_note, IsRoom, IsShownLast, HasTried, stopped}
 use Rattle.ca_rows.specs.declared.sizes.Sizes.{Sizes}
 
 -- What isn't less is as much.
@@ -138,9 +140,27 @@ shown_last z u key cursor l =
     record { noted = l.readable.noted; here = l.readable.here; is_base = l.readable.is_base }
 
 -- Nothing changed.
-pub stopped : (z : Sizes) (u v : TreeView) → IsKnown z u → v ≡ u → IsFurther u v × IsKnown z v
-stopped z u v k same = subst (λ (y : TreeView). IsFurther u y × IsKnown z y) (sym same)
-    (record { number = refl; seen = starts_whole u.seen; log = refl; counts = refl }, k)
+pub stopped_same : (why : Stop) (u : TreeView)
+    → stopped why u ≡ record u { notes = (stopped why u).notes; lost = (stopped why u).lost }
+stopped_same (stop.Lost exchange.Link) u = refl
+stopped_same (stop.Lost exchange.Head) u = refl
+stopped_same stop.Empty u = refl
+stopped_same stop.Worn u = refl
+
+pub stopped_by : (z : Sizes) (why : Stop) (u v : TreeView) → IsKnown z u → v ≡ stopped why u
+    → IsFurther u v × IsKnown z v
+stopped_by z why u v k is = subst
+    (λ (y : TreeView). IsFurther u y × IsKnown z y) (sym (is ∙ stopped_same why u)) (
+      record { number = refl; seen = starts_whole u.seen; log = refl; counts = refl },
+      record {
+        lawful =
+            k.lawful;
+        past = k.past;
+        edits = k.edits;
+        enrolled = k.enrolled;
+        by_passes = k.by_passes;
+      },
+    )
 
 -- A call that edits nothing was entered in the log.
 pub entered_done : (z : Sizes) (u : TreeView) (m m' : MyTree) (event : Event)
@@ -159,7 +179,7 @@ entered_done z u m m' event f k before e = let w = m.0.upper in let from = e.is_
 )
 
 -- What was tried after a look.
-pub tried_on : {T : Type 0} (tells : T → Event → Type 0) (z : Sizes) (r : Result T Stop)
+pub tried_on : {T : Type 0} (tells : T → Event → Type 0) (z : Sizes) (r : Result T Halt)
     (u w v : TreeView) → IsFurther u w → HasTriedTo tells z r w v
     → HasTriedTo tells z r u v
 tried_on tells z (Ok x) u w v f h = ((h.0.0, h.0.1, done_on u w v h.0.0 f h.0.2), h.1)
@@ -279,28 +299,16 @@ full_there z u v cursor key (Err at) many l same level p no_room is = let place 
       ),
 )
 
-tried_from : (z : Sizes) (event : Event) (r : Result Bool NoRow) (u v : TreeView) → IsKnown z u
+tried_from : (z : Sizes) (event : Event) (r : Result (Unit {0}) Stop) (u v : TreeView) → IsKnown z u
     → HasTried event z r u v
     → HasTriedTo (λ _ e. e ≡ event) z (come_to r) u v
-tried_from z event (Ok true) u v k h = ((event, refl, h.0), h.1)
-tried_from z event (Ok false) u v k h = subst
-    (λ (y : TreeView). IsFurther u y × IsKnown z y) (sym h) (
-      record { number = refl; seen = starts_whole u.seen; log = refl; counts = refl },
-      record {
-        lawful =
-            k.lawful;
-        past = k.past;
-        edits = k.edits;
-        enrolled = k.enrolled;
-        by_passes = k.by_passes;
-      },
-    )
-tried_from z event (Err why) u v k h = stopped z u v k h
+tried_from z event (Ok x) u v k h = ((event, refl, h.0), h.1)
+tried_from z event (Err why) u v k h = stopped_by z why u v k h
 
 -- What was tried, by what became of its exchange.
-pub tried_by : (z : Sizes) (event : TreeView → Event) (r : Result Bool NoRow)
-    (x : Result (Unit {0}) Stop) (u w v : TreeView) → w ≡ u → x ≡ come_to r
+pub tried_by : (z : Sizes) (event : TreeView → Event) (r : Result (Unit {0}) Stop)
+    (x : Result (Unit {0}) Halt) (u w v : TreeView) → w ≡ u → x ≡ come_to r
     → IsKnown z u → HasTried (event w) z r w v → HasTriedTo (λ _ e. e ≡ event u) z x u v
 tried_by z event r x u w v same is k h = subst
-    (λ (y : Result (Unit {0}) Stop). HasTriedTo (λ _ e. e ≡ event u) z y u v) (sym is)
+    (λ (y : Result (Unit {0}) Halt). HasTriedTo (λ _ e. e ≡ event u) z y u v) (sym is)
     (tried_from z (event u) r u v k (subst (λ (y : TreeView). HasTried (event y) z r y v) same h))

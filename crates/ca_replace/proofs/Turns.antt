@@ -1,6 +1,7 @@
 -- A call's attempts, one after another, and its end.
 use Rattle.std.proofs.Common.{◌≡◌, ◌⊎◌, ◌≤◌, le_refl, ℕ, false, [], Result, Ok, Err, Vec, sym, refl, ap, ◌∙◌, subst, inl, ⊎_elim}
 use Rattle.std.specs.Global.{Global}
+use Rattle.ca_replace.specs.declared.attempting.Halt.{Halt}
 use Rattle.atomic_table.specs.declared.shared.Seat.{Seat}
 use Rattle.atomic_table.specs.Seated.{TableId}
 use Rattle.ca_model.specs.declared.outcome.Outcome.{Outcome}
@@ -15,11 +16,9 @@ use Rattle.ca_node.specs.Tallied.{IsTallied}
 use Rattle.ca_node.specs.Told.{MyTree, IsKnown}
 use Rattle.ca_rows.specs.Told.{met_of}
 use Rattle.ca_node.specs.TreeView.{TreeView, pinned, unpinned}
-use Rattle.ca_replace.specs.declared.attempting.Stop.{Stop}
 use Rattle.ca_model.specs.declared.outcome.Cause.{Cause}
 use Rattle.ca_model.specs.declared.outcome.Spent.{Spent}
-use Rattle.ca_replace.specs.declared.attempting.Stop.TheVariants as stop
-use Rattle.ca_replace.specs.Attempting.{HasAttempted, HasDoneSuch, HasTriedTo, refused_as}
+use Rattle.ca_replace.specs.Attempting.{HasAttempted, HasDoneSuch, HasNext, HasTriedTo, refused_as}
 use Rattle.ca_base.specs.Progress.{IsFurther, HasDone, IsRefused}
 use Rattle.ca_replace.specs.Resting.{IsResting, known_of}
 use Rattle.ca_base.specs.Taking.{AreHeld, HoldsFew}
@@ -75,7 +74,7 @@ holds_none table z number kept seat r = (
 )
 
 -- What was tried while the pass was pinned.
-pub tried_pinned : {T : Type 0} (tells : T → Event → Type 0) (z : Sizes) (r : Result T Stop)
+pub tried_pinned : {T : Type 0} (tells : T → Event → Type 0) (z : Sizes) (r : Result T Halt)
     (u v w : TreeView) → w ≡ unpinned v
     → HasTriedTo tells z r (pinned u) v → HasTriedTo tells z r u w
 tried_pinned tells z (Ok x) u v w same h = let d = h.0.2 in
@@ -94,21 +93,21 @@ tried_pinned tells z (Ok x) u v w same h = let d = h.0.2 in
       ),
       known_unpinned z v h.1,
     )
-tried_pinned tells z (Err stop) u v w same h = subst
+tried_pinned tells z (Err why) u v w same h = subst
     (λ (y : TreeView). IsFurther u y × IsKnown z y) (sym same) (
       record { number = h.0.number; seen = h.0.seen; log = h.0.log; counts = h.0.counts },
       known_unpinned z v h.1,
     )
 
 -- Whatever was tried, its history is known, and the pass has its number.
-pub tried_known : {T : Type 0} (tells : T → Event → Type 0) (z : Sizes) (r : Result T Stop)
+pub tried_known : {T : Type 0} (tells : T → Event → Type 0) (z : Sizes) (r : Result T Halt)
     (u v : TreeView) → HasTriedTo tells z r u v
     → IsKnown z v × (v.number ≡ u.number)
 tried_known tells z (Ok x) u v h = (h.1, h.0.2.number)
-tried_known tells z (Err stop) u v h = (h.1, h.0.number)
+tried_known tells z (Err why) u v h = (h.1, h.0.number)
 
 -- What the last attempt came to is what the attempts came to.
-pub attempted_as : {T : Type 0} (tells : T → Event → Type 0) (z : Sizes) (tried : Result T Stop)
+pub attempted_as : {T : Type 0} (tells : T → Event → Type 0) (z : Sizes) (tried : Result T Halt)
     (r : Result T Cause) (spent : Spent) (levels : ℕ)
     (u w v : TreeView) → v ≡ w → r ≡ refused_as tried spent levels → HasTriedTo tells z tried u w
     → HasAttempted tells r u v
@@ -117,14 +116,10 @@ attempted_as {T} tells z tried r spent levels u w v same is h = subst
     (subst (λ (x : TreeView).
     HasAttempted tells (refused_as tried spent levels) u x) (sym same) (by tried h))
   where
-    by : (tried : Result T Stop) → HasTriedTo tells z tried u w
+    by : (tried : Result T Halt) → HasTriedTo tells z tried u w
         → HasAttempted tells (refused_as tried spent levels) u w
     by (Ok x) h = h.0
-    by (Err stop.Lost) h = h.0
-    by (Err stop.Split) h = h.0
-    by (Err stop.Empty) h = h.0
-    by (Err stop.Worn) h = h.0
-    by (Err stop.Deep) h = h.0
+    by (Err why) h = h.0
 
 -- A pass that was pinned, tried, and unpinned rests again.
 pub rests_again : {tally tally' : Tally} (table : TableId) (z : Sizes) (number : ℕ)
@@ -239,18 +234,17 @@ none_pinned table z number kept kept' seat one e u r is same =
     )
 
 -- An attempt that came to a stop learnt of others' edits alone.
-pub stopped_further : {T : Type 0} (tells : T → Event → Type 0) (z : Sizes) (r : Result T Stop)
-    (why : Stop) (u v : TreeView) → r ≡ Err why
+pub stopped_further : {T : Type 0} (tells : T → Event → Type 0) (z : Sizes) (r : Result T Halt)
+    (why : Halt) (u v : TreeView) → r ≡ Err why
     → HasTriedTo tells z r u v → IsFurther u v
 stopped_further tells z r why u v e h =
-    (subst (λ (x : Result _ Stop). HasTriedTo tells z x u v) e h).0
+    (subst (λ (x : Result _ Halt). HasTriedTo tells z x u v) e h).0
 
 -- So did one after which another turn may follow.
-pub turn_further : {T : Type 0} (tells : T → Event → Type 0) (z : Sizes) (r : Result T Stop)
-    (u v : TreeView) → (r ≡ Err stop.Lost) ⊎ (r ≡ Err stop.Split)
-    → HasTriedTo tells z r u v → IsFurther u v
-turn_further tells z r u v e h = ⊎_elim (λ l. stopped_further tells z r stop.Lost u v l h)
-    (λ s. stopped_further tells z r stop.Split u v s h) e
+pub turn_further : {T : Type 0} (tells : T → Event → Type 0) (z : Sizes) (r : Result T Halt)
+    (u v : TreeView) → HasNext r → HasTriedTo tells z r u v → IsFurther u v
+turn_further tells z (Ok x) u v next h = absurd next
+turn_further tells z (Err why) u v next h = h.0
 
 pub no_further : (u : TreeView) → IsFurther u u
 no_further u = record { number = refl; seen = starts_whole u.seen; log = refl; counts = refl }

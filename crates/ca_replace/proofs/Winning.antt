@@ -1,6 +1,10 @@
 -- A pass that is alone wins each exchange of a link.
-use Rattle.std.proofs.Common.{◌≡◌, ◌≢◌, ◌⊎◌, ℕ, ◌<◌, Bool, true, false, List, Result, Ok, Err, sym, refl, ap, ◌∙◌, subst, ⊎_elim}
+use Rattle.std.proofs.Common.{◌≡◌, ◌≢◌, ◌⊎◌, ℕ, ◌<◌, Bool, true, false, List, Result, Ok, Err, IsOk, sym, refl, ap, ◌∙◌, subst, ⊎_elim}
 use denote.Ref.{Bor}
+use Rattle.ca_base.specs.declared.stop.Exchange.TheVariants as exchange
+use Rattle.ca_base.specs.declared.stop.Stop.{Stop}
+use Rattle.ca_base.specs.declared.stop.Stop.TheVariants as stop
+use Rattle.ca_replace.specs.declared.attempting.Halt.{Halt}
 use Rattle.ca_adapt.specs.declared.adapted.Adapted.{Adapted}
 use Rattle.ca_adapt.specs.declared.adapted.Adapted.TheVariants as adapted
 use Rattle.ca_adapt.specs.declared.adapted.Why.{Why}
@@ -16,17 +20,13 @@ use Rattle.ca_node.specs.Told.{MyTree}
 use Rattle.ca_node.specs.States.{IsAlone}
 use Rattle.ca_node.specs.TreeView.{Note, Renewal, TreeView, pinned, unpinned}
 use Rattle.ca_node.specs.Walking.{IsWalked}
-use Rattle.ca_base.specs.declared.taking.NoRow.{NoRow}
-use Rattle.ca_base.specs.declared.taking.NoRow.TheVariants as norow
-use Rattle.ca_base.specs.Putting.{HasRenewed, HasTried, first_note}
+use Rattle.ca_base.specs.Putting.{HasRenewed, HasTried, first_note, stopped}
 use Rattle.ca_base.specs.Splitting.{HasSplit}
 use Rattle.ca_replace.specs.declared.adapting.Adapting.{Adapting}
-use Rattle.ca_replace.specs.declared.attempting.Stop.{Stop}
-use Rattle.ca_replace.specs.declared.attempting.Stop.TheVariants as stop
 use Rattle.ca_model.specs.declared.outcome.Cause.{Cause}
 use Rattle.ca_model.specs.declared.outcome.Cause.TheVariants as refusal
 use Rattle.ca_replace.specs.Adapting.{HasSettled, IsNew}
-use Rattle.ca_replace.specs.Attempting.{come_to, refused_as, split_to}
+use Rattle.ca_replace.specs.Attempting.{HasNext, come_to, refused_as, split_to}
 use Rattle.ca_replace.specs.Refusals.{outcome_by}
 use Rattle.ca_replace.specs.Winning.{HasWon, HasWonInAttempts, HasWonInCall}
 use Rattle.ca_replace.proofs.Settling.{IsSettling}
@@ -94,26 +94,34 @@ due_won z key placed m m' m'' cursor a new w same h pools = let t = by a h pools
     by (adapted.NotSplit r) h pools = not_by r h pools
     by (adapted.NotJoined r) h pools = absurd h
 
+-- Where no exchange of a link was lost, as many are counted.
+none_lost : (why : Stop) (u : TreeView) → why ≢ stop.Lost exchange.Link
+    → (stopped why u).lost ≡ u.lost
+none_lost (stop.Lost exchange.Link) u won = absurd (won refl)
+none_lost (stop.Lost exchange.Head) u won = refl
+none_lost stop.Empty u won = refl
+none_lost stop.Worn u won = refl
+
 -- A full base that was to be split: its exchange was won, or no row was free.
-pub room_won : {T : Type 0} (edits : T → Bool) (many attempt : ℕ) (r : Result Bool NoRow)
-    (u v : TreeView) → r ≢ Ok false → HasSplit many attempt r u v
+pub room_won : {T : Type 0} (edits : T → Bool) (many attempt : ℕ) (r : Result (Unit {0}) Stop)
+    (u v : TreeView) → r ≢ Err (stop.Lost exchange.Link) → HasSplit many attempt r u v
     → HasWonInAttempts {T = T} edits (Err (split_to r)) u v
-room_won edits many attempt (Ok true) u v won h = ap (λ (x : TreeView). x.lost) h.2
-room_won edits many attempt (Ok false) u v won h = absurd (won refl)
-room_won edits many attempt (Err why) u v won h = ap (λ (x : TreeView). x.lost) h
+room_won edits many attempt (Ok x) u v won h = ap (λ (x : TreeView). x.lost) h.2
+room_won edits many attempt (Err why) u v won h =
+    ap (λ (x : TreeView). x.lost) h ∙ none_lost why u (λ e. won (ap Err e))
 
 -- What an attempt comes to by its exchange, given what followed.
-pub settled_won : {z : Sizes} {t : Tuning} {tried : Result Bool NoRow} {r : Result (Unit {0}) Stop}
+pub settled_won : {z : Sizes} {t : Tuning} {tried : Result (Unit {0}) Stop} {r : Result (Unit {0}) Halt}
     {a b : Adapting} {k m m' m'' : MyTree}
     (s : IsSettling z t tried r a b k m m' m'')
     → (IsAlone z k.0.upper → IsListed k.0.upper.inventory (first_note k.0.upper.notes))
     → (IsAlone z m.0.upper → IsListed m.0.upper.inventory (first_note m.0.upper.notes)
-    → tried ≢ Ok false)
-    → (IsAlone z m'.0.upper → tried ≡ Ok true → (m''.0.upper.lost ≡ m'.0.upper.lost)
+    → tried ≢ Err (stop.Lost exchange.Link))
+    → (IsAlone z m'.0.upper → IsOk tried → (m''.0.upper.lost ≡ m'.0.upper.lost)
     × (m''.0.upper.last.row ≡ m''.0.upper.renewal.new.row))
     → IsAlone z k.0.upper → HasWonInAttempts (λ _. true) r k.0.upper m''.0.upper
 settled_won {z} {t} {tried} {r} {a} {b} {k} {m} {m'} {m''} s listed won then alone = subst
-    (λ (x : Result (Unit {0}) Stop). HasWonInAttempts (λ _. true) x k.0.upper m''.0.upper) (sym s.is)
+    (λ (x : Result (Unit {0}) Halt). HasWonInAttempts (λ _. true) x k.0.upper m''.0.upper) (sym s.is)
     (subst (λ (x : MyTree). HasWonInAttempts {T = Unit {0}}
     (λ _. true) (come_to tried) x.0.upper m''.0.upper) s.same
     (by tried s.entered s.renewed s.settled
@@ -121,16 +129,13 @@ settled_won {z} {t} {tried} {r} {a} {b} {k} {m} {m'} {m''} s listed won then alo
     (subst (λ (x : MyTree). IsListed x.0.upper.inventory (first_note x.0.upper.notes)) (sym s.same)
     (listed alone))) then))
   where
-    still : (x : TreeView) → x ≡ m.0.upper → m''.0.upper ≡ x → m''.0.upper.lost ≡ m.0.upper.lost
-    still x e f = ap (λ (y : TreeView). y.lost) (f ∙ e)
-
-    by : (x : Result Bool NoRow) → HasTried s.event z x m.0.upper m'.0.upper
+    by : (x : Result (Unit {0}) Stop) → HasTried s.event z x m.0.upper m'.0.upper
         → HasRenewed z s.met s.word s.edit x m.0.upper m'.0.upper
-        → HasSettled z t s.statistic x a b m' m'' → x ≢ Ok false
-        → (IsAlone z m'.0.upper → x ≡ Ok true → (m''.0.upper.lost ≡ m'.0.upper.lost)
+        → HasSettled z t s.statistic x a b m' m'' → x ≢ Err (stop.Lost exchange.Link)
+        → (IsAlone z m'.0.upper → IsOk x → (m''.0.upper.lost ≡ m'.0.upper.lost)
         × (m''.0.upper.last.row ≡ m''.0.upper.renewal.new.row))
         → HasWonInAttempts {T = Unit {0}} (λ _. true) (come_to x) m.0.upper m''.0.upper
-    by (Ok true) h renewed q won then = let same_number = h.0.number in
+    by (Ok x) h renewed q won then = let same_number = h.0.number in
         let w = then (
           alone.0,
           subst
@@ -141,13 +146,8 @@ settled_won {z} {t} {tried} {r} {a} {b} {k} {m} {m'} {m''} s listed won then alo
           ap (λ (x : Renewal). x.lost) (q.1.0 ∙ renewed.renewal),
           w.1,
         )
-    by (Ok false) h renewed q won then = absurd (won refl)
-    by (Err norow.Lost) h renewed q won
-        then = still m'.0.upper h (ap (λ (x : MyTree). x.0.upper) q.1)
-    by (Err norow.Empty) h renewed q won
-        then = still m'.0.upper h (ap (λ (x : MyTree). x.0.upper) q.1)
-    by (Err norow.Worn) h renewed q won
-        then = still m'.0.upper h (ap (λ (x : MyTree). x.0.upper) q.1)
+    by (Err why) h renewed q won then = ap (λ (y : TreeView). y.lost)
+        (ap (λ (x : MyTree). x.0.upper) q.1 ∙ h) ∙ none_lost why m.0.upper (λ e. won (ap Err e))
 
 -- Attempts behind others that lost nothing.
 pub won_on : (edited : Bool) (u w v : TreeView) → w.lost ≡ u.lost → HasWon edited w v
@@ -165,11 +165,10 @@ pub stop_won : {T E : Type 0} (edits : T → Bool) (r : Result T E) (why : E) (u
     → r ≡ Err why → HasWonInAttempts edits r u v → v.lost ≡ u.lost
 stop_won {T} {E} edits r why u v e h = subst (λ (x : Result T E). HasWonInAttempts edits x u v) e h
 
-pub turn_won : {T : Type 0} (edits : T → Bool) (r : Result T Stop) (u v : TreeView)
-    → (r ≡ Err stop.Lost) ⊎ (r ≡ Err stop.Split) → HasWonInAttempts edits r u v
-    → v.lost ≡ u.lost
-turn_won edits r u v e h = ⊎_elim (λ (l : r ≡ Err stop.Lost). stop_won edits r stop.Lost u v l h)
-    (λ (s : r ≡ Err stop.Split). stop_won edits r stop.Split u v s h) e
+pub turn_won : {T : Type 0} (edits : T → Bool) (r : Result T Halt) (u v : TreeView)
+    → HasNext r → HasWonInAttempts edits r u v → v.lost ≡ u.lost
+turn_won edits (Ok x) u v next h = absurd next
+turn_won edits (Err why) u v next h = h
 
 -- What was done while the pass was pinned.
 won_unpinned : (edited : Bool) (u v : TreeView) → HasWon edited (pinned u) v
@@ -185,7 +184,7 @@ won_pinned edits (Ok x) u v w same h = subst
 won_pinned edits (Err why) u v w same h = subst (λ (y : TreeView). y.lost ≡ u.lost) (sym same) h
 
 -- What the attempts come to where the last one's is told otherwise.
-pub won_refused : {T : Type 0} (edits : T → Bool) (tried : Result T Stop) (r : Result T Cause)
+pub won_refused : {T : Type 0} (edits : T → Bool) (tried : Result T Halt) (r : Result T Cause)
     (spent : Spent) (levels : ℕ) (u w v : TreeView)
     → v ≡ w → r ≡ refused_as tried spent levels → HasWonInAttempts edits tried u w → HasWonInAttempts edits r u v
 won_refused {T} edits tried r spent levels u w v same is h = subst
@@ -193,14 +192,10 @@ won_refused {T} edits tried r spent levels u w v same is h = subst
     (subst (λ (x : TreeView).
     HasWonInAttempts edits (refused_as tried spent levels) u x) (sym same) (by tried h))
   where
-    by : (tried : Result T Stop) → HasWonInAttempts edits tried u w
+    by : (tried : Result T Halt) → HasWonInAttempts edits tried u w
         → HasWonInAttempts edits (refused_as tried spent levels) u w
     by (Ok x) h = h
-    by (Err stop.Lost) h = h
-    by (Err stop.Split) h = h
-    by (Err stop.Empty) h = h
-    by (Err stop.Worn) h = h
-    by (Err stop.Deep) h = h
+    by (Err why) h = h
 
 -- A refused call.
 pub refused_wins : {T : Type 0} (edits : T → Bool) (why : Cause) (o : Outcome T) (u v : TreeView)

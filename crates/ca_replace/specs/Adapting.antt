@@ -1,5 +1,8 @@
 -- What follows an update: how its base's statistic moved, and what was done about the new base.
 use Rattle.std.specs.Prelude.{◌≡◌, ◌≢◌, ◌⊎◌, ℕ, ◌+◌, ◌<◌, ◌≤◌, Bool, true, false, ℤ, List, length, slice_index, Result, Ok, Err}
+use Rattle.ca_base.specs.declared.stop.Exchange.TheVariants as exchange
+use Rattle.ca_base.specs.declared.stop.Stop.{Stop}
+use Rattle.ca_base.specs.declared.stop.Stop.TheVariants as stop
 use Rattle.ca_adapt.specs.declared.adapted.Adapted.{Adapted}
 use Rattle.ca_adapt.specs.declared.adapted.Adapted.TheVariants as adapted
 use Rattle.ca_adapt.specs.declared.adapted.Why.{Why}
@@ -9,7 +12,6 @@ use Rattle.ca_adapt.specs.declared.statistic.Due.TheVariants as due
 use Rattle.ca_adapt.specs.declared.tuning.Tuning.{Tuning}
 use Rattle.ca_adapt.specs.Splits.{MayBeSplit}
 use Rattle.ca_adapt.specs.Statistics.{IsAfter, IsDue, IsStatisticOf, IsWordOf}
-use Rattle.ca_base.specs.declared.taking.NoRow.{NoRow}
 use Rattle.ca_model.specs.declared.outcome.Changed.{Changed}
 use Rattle.ca_model.specs.declared.outcome.Changed.TheVariants as changed
 use Rattle.ca_model.specs.declared.outcome.Outcome.{Outcome}
@@ -140,11 +142,17 @@ IsCauseMetInAttempts edits last r now v = IfEdited edits r (IsCauseMet last.adap
 abbrev pub IsCauseMetInCall : {T : Type 0} → (T → Bool) → Last → Outcome T → MyTree → Type 0
 IsCauseMetInCall edits last o m = IfDoneEdit edits o (IsCauseMet last.adapted m.0.pin.left m.0.upper)
 
+-- what a call keeps behind a try that came to nothing: whether an exchange of a link was lost
+abbrev pub noted : Stop → Adapting → Adapting
+noted (stop.Lost exchange.Link) a = record a { lost = true }
+noted (stop.Lost exchange.Head) a = a
+noted stop.Empty a = a
+noted stop.Worn a = a
+
 -- What became of an exchange of a base, and of the new base.
-abbrev pub HasSettled : Sizes → Tuning → ℤ → Result Bool NoRow → Adapting → Adapting → MyTree → MyTree → Type 0
-HasSettled z t statistic (Ok true) a b m m' = (b.last.statistic ≡ statistic) × HasAdapted z t statistic b.last.adapted m.0.upper m'.0.upper
-HasSettled z t statistic (Ok false) a b m m' = (b.lost ≡ true) × (b.last ≡ a.last) × (m' ≡ m)
-HasSettled z t statistic (Err why) a b m m' = (b ≡ a) × (m' ≡ m)
+abbrev pub HasSettled : {T : Type 0} → Sizes → Tuning → ℤ → Result T Stop → Adapting → Adapting → MyTree → MyTree → Type 0
+HasSettled z t statistic (Ok x) a b m m' = (b.last.statistic ≡ statistic) × HasAdapted z t statistic b.last.adapted m.0.upper m'.0.upper
+HasSettled z t statistic (Err why) a b m m' = (b ≡ noted why a) × (m' ≡ m)
 
 -- One update was carried out by a call. Its new base's statistic is that of the old one, moved by whether the call lost an exchange of a link until
 -- then, and what was due by it was done. Both are kept.

@@ -1,5 +1,9 @@
 -- Attempts of a call: each looks at the tree anew.
 use Rattle.std.specs.Prelude.{◌≡◌, ℕ, ◌+◌, ◌-◌, ◌<◌, ◌≤◌, min, Bool, true, false, List, [], None, Some, Result, Ok, Err}
+use Rattle.ca_base.specs.declared.stop.Stop.{Stop}
+use Rattle.ca_base.specs.declared.stop.Stop.TheVariants as stop
+use Rattle.ca_replace.specs.declared.attempting.Halt.{Halt}
+use Rattle.ca_replace.specs.declared.attempting.Halt.TheVariants as halt
 use Rattle.ca_model.specs.declared.outcome.Counter.TheVariants as counter
 use Rattle.ca_model.specs.declared.outcome.Outcome.{Outcome}
 use Rattle.ca_model.specs.declared.outcome.Outcome.TheVariants as outcome
@@ -9,16 +13,12 @@ use Rattle.ca_model.specs.StoreMap.{IsFound, IsPair}
 use Rattle.ca_node.specs.declared.cursor.Cursor.{Cursor}
 use Rattle.ca_node.specs.Inventory.{IsListed}
 use Rattle.ca_node.specs.Place.{HasKey}
-use Rattle.ca_base.specs.Counting.{losses, HasMet}
+use Rattle.ca_base.specs.Counting.{losses, HasMet, HasStoppedBy}
 use Rattle.ca_node.specs.Told.{IsKnown, MyTree}
 use Rattle.ca_node.specs.States.{HasState, IsAlone, OfSomeState}
 use Rattle.ca_node.specs.TreeView.{TreeView}
 use Rattle.ca_model.specs.declared.outcome.Cause.{Cause}
 use Rattle.ca_model.specs.declared.outcome.Cause.TheVariants as refusal
-use Rattle.ca_replace.specs.declared.attempting.Stop.{Stop}
-use Rattle.ca_replace.specs.declared.attempting.Stop.TheVariants as stop
-use Rattle.ca_base.specs.declared.taking.NoRow.{NoRow}
-use Rattle.ca_base.specs.declared.taking.NoRow.TheVariants as norow
 use Rattle.ca_base.specs.Finding.{IsReadable, IsAtCursor}
 use Rattle.ca_base.specs.Progress.{IsFurther, HasDone}
 use Rattle.ca_base.specs.Putting.{first_note, object_at}
@@ -49,52 +49,49 @@ abbrev pub HasDoneSuch : (Event → Type 0) → TreeView → TreeView → Type 0
 HasDoneSuch tells u v = (event : Event) × tells event × HasDone event u v
 
 -- The attempt did the call, which is told so; or it came to a stop, and learnt of others' edits alone.
-abbrev pub HasTriedTo : {T : Type 0} → (T → Event → Type 0) → Sizes → Result T Stop → TreeView → TreeView → Type 0
+abbrev pub HasTriedTo : {T : Type 0} → (T → Event → Type 0) → Sizes → Result T Halt → TreeView → TreeView → Type 0
 HasTriedTo tells z (Ok x) u v = HasDoneSuch (tells x) u v × IsKnown z v
-HasTriedTo tells z (Err stop) u v = IsFurther u v × IsKnown z v
+HasTriedTo tells z (Err why) u v = IsFurther u v × IsKnown z v
 
--- what an attempt comes to that found no row
-abbrev pub stop_of : NoRow → Stop
-stop_of norow.Lost = stop.Lost
-stop_of norow.Empty = stop.Empty
-stop_of norow.Worn = stop.Worn
-
--- what an attempt comes to that split a full base, given what became of its exchange
-abbrev pub split_to : Result Bool NoRow → Stop
-split_to (Ok true) = stop.Split
-split_to (Ok false) = stop.Lost
-split_to (Err why) = stop_of why
+-- what an attempt comes to that tried to split a full base, given what became of it
+abbrev pub split_to : {T : Type 0} → Result T Stop → Halt
+split_to (Ok x) = halt.Split
+split_to (Err why) = halt.Stopped why
 
 -- what an attempt comes to, given what became of its exchange
-abbrev pub come_to : Result Bool NoRow → Result (Unit {0}) Stop
-come_to (Ok true) = Ok tt
-come_to (Ok false) = Err stop.Lost
-come_to (Err why) = Err (stop_of why)
+abbrev pub come_to : {T : Type 0} → Result T Stop → Result T Halt
+come_to (Ok x) = Ok x
+come_to (Err why) = Err (halt.Stopped why)
 
 -- Attempts did the call, which is told so; or it is refused, and they learnt of others' edits alone.
 abbrev pub HasAttempted : {T : Type 0} → (T → Event → Type 0) → Result T Cause → TreeView → TreeView → Type 0
 HasAttempted tells (Ok x) u v = HasDoneSuch (tells x) u v
 HasAttempted tells (Err why) u v = IsFurther u v
 
--- what a call comes to by its last attempt, which found the rows that it wanted, given what was spent and how many levels there are
-abbrev pub refused_as : {T : Type 0} → Result T Stop → Spent → ℕ → Result T Cause
-refused_as (Ok x) spent levels = Ok x
-refused_as (Err stop.Lost) spent levels = Err (refusal.Busy spent)
-refused_as (Err stop.Split) spent levels = Err (refusal.Busy spent)
-refused_as (Err stop.Empty) spent levels = Err (refusal.Busy spent)
-refused_as (Err stop.Worn) spent levels = Err (refusal.Worn counter.PoolTag)
-refused_as (Err stop.Deep) spent levels = Err (refusal.Deep levels)
+-- why a call is refused whose last attempt came to this, given what was spent and how many levels there are
+abbrev pub refusal_of : Halt → Spent → ℕ → Cause
+refusal_of (halt.Stopped (stop.Lost exchange)) spent levels = refusal.Busy spent
+refusal_of (halt.Stopped stop.Empty) spent levels = refusal.Busy spent
+refusal_of (halt.Stopped stop.Worn) spent levels = refusal.Worn counter.PoolTag
+refusal_of halt.Deep spent levels = refusal.Deep levels
+refusal_of halt.Split spent levels = refusal.Busy spent
 
--- What an attempt met of the pool that did not do the call, by what it came to: where no row was free, the head was empty once; where the tag can rise no
--- more, it was at
--- its last value once.
-abbrev pub HasMetInAttempt : {T : Type 0} → Result T Stop → MyTree → MyTree → Type 0
-HasMetInAttempt (Ok x) m m' = Unit {0}
-HasMetInAttempt (Err stop.Lost) m m' = HasMet 0 0 m m'
-HasMetInAttempt (Err stop.Split) m m' = HasMet 0 0 m m'
-HasMetInAttempt (Err stop.Empty) m m' = HasMet 1 0 m m'
-HasMetInAttempt (Err stop.Worn) m m' = HasMet 0 1 m m'
-HasMetInAttempt (Err stop.Deep) m m' = HasMet 0 0 m m'
+-- what a call comes to by its last attempt, which found the rows that it wanted
+abbrev pub refused_as : {T : Type 0} → Result T Halt → Spent → ℕ → Result T Cause
+refused_as (Ok x) spent levels = Ok x
+refused_as (Err why) spent levels = Err (refusal_of why spent levels)
+
+-- Another attempt may follow one that came to this: an exchange was lost, or a full base was split.
+abbrev pub MayFollow : Halt → Type 0
+MayFollow (halt.Stopped (stop.Lost exchange)) = Unit {0}
+MayFollow (halt.Stopped stop.Empty) = ⊥
+MayFollow (halt.Stopped stop.Worn) = ⊥
+MayFollow halt.Deep = ⊥
+MayFollow halt.Split = Unit {0}
+
+abbrev pub HasNext : {T : Type 0} → Result T Halt → Type 0
+HasNext (Ok x) = ⊥
+HasNext (Err why) = MayFollow why
 
 -- how many splits a seat carried out
 abbrev pub splits : MyTree → ℕ
@@ -107,9 +104,15 @@ passes m = m.0.upper.turns.passed
 abbrev pub helps : MyTree → ℕ
 helps m = m.0.upper.turns.helped
 
--- So it met the pool, and where it was lost to another pass, an exchange was lost; where it split a base, that was a turn more.
-abbrev pub HasStopped : {T : Type 0} → Result T Stop → MyTree → MyTree → Type 0
-HasStopped r m m' = HasMetInAttempt r m m' × (r ≡ Err stop.Lost → losses m < losses m') × (r ≡ Err stop.Split → passes m < passes m')
+-- An attempt that did not do the call came to this by what it met; where it split a full base, that was a turn more.
+abbrev pub HasHalted : Halt → MyTree → MyTree → Type 0
+HasHalted (halt.Stopped why) m m' = HasStoppedBy why m m'
+HasHalted halt.Deep m m' = HasMet 0 0 m m'
+HasHalted halt.Split m m' = HasMet 0 0 m m' × (passes m < passes m')
+
+abbrev pub HasStopped : {T : Type 0} → Result T Halt → MyTree → MyTree → Type 0
+HasStopped (Ok x) m m' = Unit {0}
+HasStopped (Err why) m m' = HasHalted why m m'
 
 -- What was spent was added up: the exchanges that were lost, the operations of others that were helped, and the other turns, each up to the last number
 -- that 32 bits hold.

@@ -2,6 +2,8 @@
 use Rattle.std.specs.Prelude.{◌≡◌, ◌⊎◌, ℕ, ◌≤◌, Bool, true, false, List, ◌∷◌, ◌++◌, length, map, Result, Ok, Err}
 use Rattle.std.specs.declared.option.Option.{Option}
 use Rattle.std.specs.declared.option.Option.TheVariants.{None, Some}
+use Rattle.ca_replace.specs.declared.attempting.Halt.{Halt}
+use Rattle.ca_replace.specs.declared.attempting.Halt.TheVariants as halt
 use Rattle.ca_adapt.specs.Splits.{attempts_at_first}
 use Rattle.ca_base.specs.Splitting.{IsSplit}
 use Rattle.ca_model.specs.declared.outcome.Outcome.{Outcome}
@@ -11,8 +13,6 @@ use Rattle.ca_node.specs.Links.{IsIn}
 use Rattle.ca_node.specs.Place.{HasKey}
 use Rattle.ca_node.specs.Row.{pair}
 use Rattle.ca_node.specs.TreeView.{Note, Division, TreeView}
-use Rattle.ca_replace.specs.declared.attempting.Stop.{Stop}
-use Rattle.ca_replace.specs.declared.attempting.Stop.TheVariants as stop
 use Rattle.ca_rows.specs.declared.sizes.Sizes.{Sizes}
 
 -- The base is full, and the key that the call may add, if any, is led to it: no object there has it.
@@ -43,13 +43,11 @@ HasCutBehind true z before v = HasCutDue z before v
 HasCutBehind false z before v = v.cuts ≡ before
 
 -- One attempt of a call that may add this key, if any.
-abbrev pub HasCut : {T : Type 0} → (T → Bool) → Sizes → Option (List ℕ) → Result T Stop → TreeView → TreeView → Type 0
+abbrev pub HasCut : {T : Type 0} → (T → Bool) → Sizes → Option (List ℕ) → Result T Halt → TreeView → TreeView → Type 0
 HasCut edits z adds (Ok x) u v = HasCutBehind (edits x) z u.cuts v
-HasCut edits z adds (Err stop.Split) u v = (x : Division) × (v.cuts ≡ x ∷ u.cuts) × IsFullFor z adds x.old × IsCutInTwo z x
-HasCut edits z adds (Err stop.Lost) u v = v.cuts ≡ u.cuts
-HasCut edits z adds (Err stop.Empty) u v = v.cuts ≡ u.cuts
-HasCut edits z adds (Err stop.Worn) u v = v.cuts ≡ u.cuts
-HasCut edits z adds (Err stop.Deep) u v = v.cuts ≡ u.cuts
+HasCut edits z adds (Err halt.Split) u v = (x : Division) × (v.cuts ≡ x ∷ u.cuts) × IsFullFor z adds x.old × IsCutInTwo z x
+HasCut edits z adds (Err halt.Deep) u v = v.cuts ≡ u.cuts
+HasCut edits z adds (Err (halt.Stopped why)) u v = v.cuts ≡ u.cuts
 
 -- Full bases were split before the update, and after it the one that is due, if it is; where none was carried out, none but full ones.
 abbrev pub HasCutForEdit : Bool → Sizes → Option (List ℕ) → TreeView → TreeView → Type 0

@@ -2,12 +2,12 @@
 use Rattle.std.specs.Prelude.{◌≡◌, ◌⊎◌, ℕ, ◌+◌, ◌<◌, ◌≤◌, max, List, [], length, Result, Ok, Err}
 use Rattle.std.specs.declared.option.Option.{Option}
 use Rattle.std.specs.declared.option.Option.TheVariants.{None, Some}
+use Rattle.ca_replace.specs.declared.attempting.Halt.{Halt}
+use Rattle.ca_replace.specs.declared.attempting.Halt.TheVariants as halt
 use Rattle.ca_model.specs.History.{after}
 use Rattle.ca_node.specs.Links.{IsIn}
 use Rattle.ca_node.specs.Place.{Place, HasKey, part}
 use Rattle.ca_node.specs.TreeView.{TreeView}
-use Rattle.ca_replace.specs.declared.attempting.Stop.{Stop}
-use Rattle.ca_replace.specs.declared.attempting.Stop.TheVariants as stop
 use Rattle.ca_rows.specs.declared.sizes.Sizes.{Sizes}
 
 -- The tree has so many linked rows and bases more, at most, by so many splits. The most rows that it ever had at once are as many as before, or so many more
@@ -37,13 +37,11 @@ HasRoomFor z (Some key) u = HasRoom z key u
 
 -- One attempt of a call that may add this key, if any. It splits a base that had no room for the key; there is room then. Or it does the call: by one
 -- object row more at most, and by one split at most, one that is due. Or the tree has what it had.
-abbrev pub HasGrown : {T : Type 0} → Sizes → Option (List ℕ) → Result T Stop → TreeView → TreeView → Type 0
+abbrev pub HasGrown : {T : Type 0} → Sizes → Option (List ℕ) → Result T Halt → TreeView → TreeView → Type 0
 HasGrown z adds (Ok x) u v = Grows 1 3 1 u v
-HasGrown z adds (Err stop.Split) u v = Grows 1 2 1 u v × HasRoomFor z adds v × ¬ HasRoomFor z adds u
-HasGrown z adds (Err stop.Lost) u v = IsSameTree u v
-HasGrown z adds (Err stop.Empty) u v = IsSameTree u v
-HasGrown z adds (Err stop.Worn) u v = IsSameTree u v
-HasGrown z adds (Err stop.Deep) u v = IsSameTree u v
+HasGrown z adds (Err halt.Split) u v = Grows 1 2 1 u v × HasRoomFor z adds v × ¬ HasRoomFor z adds u
+HasGrown z adds (Err halt.Deep) u v = IsSameTree u v
+HasGrown z adds (Err (halt.Stopped why)) u v = IsSameTree u v
 
 -- Attempts of which none did the call: one base was split at most, which had no room for the key, and then there is room.
 abbrev pub HasWaited : Sizes → Option (List ℕ) → TreeView → TreeView → Type 0

@@ -1,25 +1,25 @@
 //! What follows an update: the statistic of its new base, and what is due to it.
-ghost use Rattle.std.specs.Prelude.{◌≡◌, ◌≢◌, ◌↔◌, ◌<◌, Err, IsTrue, Ok, true, slice_index};
+ghost use Rattle.std.specs.Prelude.{◌≡◌, ◌≢◌, ◌↔◌, ◌<◌, Err, IsOk, IsTrue, slice_index};
 ghost use Rattle.ca_adapt.specs.declared.adapted.Adapted.TheVariants.{Split as IsSplit};
 ghost use Rattle.ca_base.specs.Finding.{IsReadable};
 ghost use Rattle.ca_base.specs.Progress.{IsFurther};
 ghost use Rattle.ca_node.specs.Told.{IsKnown};
 ghost use Rattle.ca_node.specs.States.{IsAlone};
 ghost use Rattle.ca_node.specs.TreeView.{Note};
-ghost use Rattle.ca_replace.specs.Adapting.{HasAdapted, HasLookedAgain, HasSettled, IsCauseMet, IsMoved, IsNew};
+ghost use Rattle.ca_replace.specs.Adapting.{HasAdapted, HasLookedAgain, HasSettled, IsCauseMet, IsMoved, IsNew, noted};
 ghost use Rattle.ca_replace.specs.Growing.{Grows};
 ghost use Rattle.ca_replace.specs.Cutting.{HasCutDue};
-ghost use Rattle.ca_replace.specs.declared.attempting.Stop.TheVariants.{Deep as IsDeep};
+ghost use Rattle.ca_replace.specs.declared.attempting.Halt.TheVariants.{Deep as IsDeep};
 ghost use Rattle.ca_replace.specs.Attempting.{IsPaid, come_to};
 ghost use Rattle.ca_rows.specs.Told.{met_of};
 ghost use Rattle.ca_rows.specs.Passes.{OnlyReads, IsReading, sizes, known};
 ghost use Rattle.ca_node.specs.TreePasses.{tree_of};
 ghost use Rattle.ca_base.specs.Readiness.{IsReady, StaysReady};
 
-use crate::attempting::{Stop, outcome_of};
+use crate::attempting::{Halt, outcome_of};
 use crate::tree::Tree;
 use ca_adapt::{Adapted, Due, statistic_of, try_split};
-use ca_base::{NoRow, statistic_word};
+use ca_base::{Exchange, Stop, statistic_word};
 use ca_model::Spent;
 use ca_node::{Spot, TreePass, walk};
 
@@ -70,33 +70,41 @@ pub(crate) fn settle(
     pass: &mut TreePass,
     placed: &Placed<'_>,
     statistic: i32,
-    tried: Result<bool, NoRow>,
+    tried: Result<(), Stop>,
     course: &mut Course,
-) -> Result<(), Stop>
+) -> Result<(), Halt>
     requires ready { IsReady tree.now.space pass.old }
     requires known { IsKnown (sizes tree.now.space) (tree_of pass.old) }
-    requires placed { tried ≡ Ok true → IsNew placed.now.row placed.now.key.now (met_of (known pass.old)) (tree_of pass.old) }
+    requires placed { IsOk tried → IsNew placed.now.row placed.now.key.now (met_of (known pass.old)) (tree_of pass.old) }
     ensures frame { StaysReady tree.now.space pass.old pass.new }
     ensures come { result ≡ come_to tried }
     ensures deep { result ≢ Err IsDeep }
     ensures further { IsFurther (tree_of pass.old) (tree_of pass.new) × IsKnown (sizes tree.now.space) (tree_of pass.new) }
-    ensures met { tried ≡ Ok true → IsCauseMet course.new.adapting.last.adapted (met_of (known pass.new)) (tree_of pass.new) }
+    ensures met { IsOk tried → IsCauseMet course.new.adapting.last.adapted (met_of (known pass.new)) (tree_of pass.new) }
     ensures settled { HasSettled (sizes tree.now.space) tree.now.tuning statistic tried course.old.adapting course.new.adapting (known pass.old) (known pass.new) }
     ensures counted { IsPaid course.old.spent course.new.spent (known pass.old) (known pass.new) }
     ensures grows { IsAlone (sizes tree.now.space) (tree_of pass.old) → Grows 1 2 1 (tree_of pass.old) (tree_of pass.new) }
-    ensures won { IsAlone (sizes tree.now.space) (tree_of pass.old) → tried ≡ Ok true → ((tree_of pass.new).lost ≡ (tree_of pass.old).lost)
+    ensures won { IsAlone (sizes tree.now.space) (tree_of pass.old) → IsOk tried → ((tree_of pass.new).lost ≡ (tree_of pass.old).lost)
         × ((tree_of pass.new).last.row ≡ (tree_of pass.new).renewal.new.row) }
     ensures cut { HasCutDue (sizes tree.now.space) (tree_of pass.old).cuts (tree_of pass.new) }
 {
     match tried {
-        Ok(true) => {
+        Ok(()) => {
             let adapted = adapt(tree, pass, placed, statistic, &mut course.spent);
             course.adapting.last = Last { statistic, adapted };
         }
-        Ok(false) => course.adapting.lost = true,
-        Err(_) => {}
+        Err(why) => note_stop(&mut course.adapting, why),
     }
     outcome_of(tried)
+}
+
+/// Notes why a try came to nothing: whether an exchange of a link was lost.
+pub(crate) fn note_stop(adapting: &mut Adapting, why: Stop)
+    ensures { adapting.new ≡ noted why adapting.old }
+{
+    if matches!(why, Stop::Lost(Exchange::Link)) {
+        adapting.lost = true;
+    }
 }
 
 // Does what is due to a base that was just put in place, which has this statistic. A due join isn't tried as yet.

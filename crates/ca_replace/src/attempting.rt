@@ -4,7 +4,7 @@ ghost use Rattle.std.specs.declared.option.Option.{Option};
 ghost use Rattle.ca_model.specs.Places.{IsPlace};
 ghost use Rattle.ca_model.specs.Event.{Event, Remove};
 ghost use Rattle.ca_node.specs.Row.{pair};
-ghost use Rattle.ca_replace.specs.declared.attempting.Stop.TheVariants.{Deep as IsDeep, Split as IsSplit};
+ghost use Rattle.ca_replace.specs.declared.attempting.Halt.TheVariants.{Deep as IsDeep, Split as IsSplit};
 ghost use Rattle.ca_replace.specs.Causes.{IsFullSince};
 ghost use Rattle.ca_replace.specs.Cutting.{IsFullFor};
 ghost use Rattle.ca_replace.specs.Attempting.{IsLooking, HasFetched, HasSeenAlike, HasTriedTo, come_to, split_to};
@@ -21,23 +21,19 @@ ghost use Rattle.ca_rows.specs.Passes.{IsReading, sizes, known};
 ghost use Rattle.ca_node.specs.TreePasses.{tree_of};
 ghost use Rattle.ca_base.specs.Readiness.{IsReady, StaysReady, shown_last};
 
-use crate::adapting::{Course, Placed, next_statistic, settle};
+use crate::adapting::{Course, Placed, next_statistic, note_stop, settle};
 use crate::looking::copy_at;
 use crate::tree::Tree;
 use ca_adapt::{first_attempt, word_of};
-use ca_base::{Insertion, NoRow, Removal, Target, count, put_at, remove_at, search, split_at};
+use ca_base::{Insertion, Removal, Stop, Target, count, put_at, remove_at, search, split_at};
 use ca_model::Code;
 use ca_node::{Cursor, Spot, TreePass, TreeSpace, walk};
 
 /// Why an attempt came to nothing.
 #[derive(Clone, Copy)]
-pub(crate) enum Stop {
-    /// An exchange was lost to another pass.
-    Lost,
-    /// No row was free.
-    Empty,
-    /// The pool's tag can rise no more.
-    Worn,
+pub(crate) enum Halt {
+    /// What it tried came to nothing.
+    Stopped(Stop),
     /// The base that must take a new key has as many as it may, and stands at the last level.
     Deep,
     /// That base was split, and so there may be room now.
@@ -75,7 +71,7 @@ pub(crate) trait Attempt {
         left: &mut Self::Left,
         room: &mut Self::Room,
         course: &mut Course,
-    ) -> Result<Self::Answer, Stop>
+    ) -> Result<Self::Answer, Halt>
         requires ready { IsReady tree.now.space pass.old }
         requires may { may self.now (sizes tree.now.space) }
         requires known { IsKnown (sizes tree.now.space) (tree_of pass.old) }
@@ -127,7 +123,7 @@ pub(crate) fn put_there(
     cursor: Cursor,
     insertion: &Insertion<'_>,
     course: &mut Course,
-) -> Result<(), Stop>
+) -> Result<(), Halt>
     requires ready { IsReady tree.now.space pass.old }
     requires looking { IsLooking (sizes tree.now.space) (tree_of pass.old) (key_in insertion.now.keyed) cursor }
     requires keyed { IsKeyed (sizes tree.now.space).keypos insertion.now.keyed }
@@ -169,7 +165,7 @@ fn make_room(
     cursor: Cursor,
     many: u32,
     course: &mut Course,
-) -> Stop
+) -> Halt
     requires ready { IsReady tree.now.space pass.old }
     requires looking { (key : List ℕ) × IsLooking (sizes tree.now.space) (tree_of pass.old) key cursor }
     requires many { (many ≡ length (shown_last pass.old).objects) × (tree.now.tuning.leaf ≤ many) }
@@ -182,35 +178,32 @@ fn make_room(
         tree.now.tuning course.old course.new (met_of (known pass.new)) (Err result) (known pass.old) (known pass.new) }
 {
     if cursor.level >= tree.tuning.levels {
-        return Stop::Deep;
+        return Halt::Deep;
     }
     let space = &tree.space;
     let spent = &mut course.spent;
     let split = split_at(space, pass, cursor, many, first_attempt(space), spent);
     note_split(course, &split);
-    stop_of(split)
+    halt_of(split)
 }
 
 // Notes what became of the split of a full base: a turn where it was split, and that an exchange of a link was lost where that was.
-fn note_split(course: &mut Course, split: &Result<bool, NoRow>)
+fn note_split(course: &mut Course, split: &Result<(), Stop>)
     ensures { course.new ≡ course_after split.now course.old }
 {
     match split {
-        Ok(true) => course.spent.passed = course.spent.passed.saturating_add(1),
-        Ok(false) => course.adapting.lost = true,
-        Err(_) => {}
+        Ok(()) => course.spent.passed = course.spent.passed.saturating_add(1),
+        Err(why) => note_stop(&mut course.adapting, *why),
     }
 }
 
-// What an attempt comes to that split a full base, by what became of its exchange.
-fn stop_of(split: Result<bool, NoRow>) -> Stop
+// What an attempt comes to that tried to split a full base, by what became of it.
+fn halt_of(split: Result<(), Stop>) -> Halt
     ensures { result ≡ split_to split }
 {
     match split {
-        Ok(true) => Stop::Split,
-        Ok(false) | Err(NoRow::Lost) => Stop::Lost,
-        Err(NoRow::Empty) => Stop::Empty,
-        Err(NoRow::Worn) => Stop::Worn,
+        Ok(()) => Halt::Split,
+        Err(why) => Halt::Stopped(why),
     }
 }
 
@@ -221,7 +214,7 @@ pub(crate) fn remove_there(
     cursor: Cursor,
     removal: &Removal<'_>,
     course: &mut Course,
-) -> Result<(), Stop>
+) -> Result<(), Halt>
     requires ready { IsReady tree.now.space pass.old }
     requires looking { IsLooking (sizes tree.now.space) (tree_of pass.old) removal.now.key.now cursor }
     requires place { IsPlace (map pair (shown_last pass.old).objects) removal.now.key.now (Ok removal.now.at) }
@@ -249,17 +242,11 @@ pub(crate) fn remove_there(
 }
 
 /// What an attempt comes to, by what became of its exchange.
-pub(crate) fn outcome_of(tried: Result<bool, NoRow>) -> Result<(), Stop>
+pub(crate) fn outcome_of(tried: Result<(), Stop>) -> Result<(), Halt>
     ensures value { result ≡ come_to tried }
     ensures deep { result ≢ Err IsDeep }
 {
-    match tried {
-        Ok(true) => Ok(()),
-        Ok(false) => Err(Stop::Lost),
-        Err(NoRow::Lost) => Err(Stop::Lost),
-        Err(NoRow::Empty) => Err(Stop::Empty),
-        Err(NoRow::Worn) => Err(Stop::Worn),
-    }
+    tried.map_err(Halt::Stopped)
 }
 
 // Whether there is room for one item more beside so many, where it isn't put in the place of another one.

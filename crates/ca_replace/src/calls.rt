@@ -1,9 +1,10 @@
 //! Calls of a pass that rests: attempts, the turns of each, and how a call ends.
 ghost use Rattle.std.specs.Prelude.{◌⊎◌, ◌≡◌, ◌≢◌, ◌↔◌, ◌<◌, ◌≤◌, Err, None, [], IfErr, IsTrue};
 ghost use Rattle.ca_model.specs.Answer.{IfBusy, IfDone, IfRefused};
-ghost use Rattle.ca_replace.specs.declared.attempting.Stop.TheVariants.{Deep as IsDeep, Empty as IsEmpty, Lost as IsLost, Split as IsSplit};
+ghost use Rattle.ca_base.specs.declared.stop.Stop.TheVariants.{Empty as IsEmpty};
+ghost use Rattle.ca_replace.specs.declared.attempting.Halt.TheVariants.{Deep as IsDeep, Stopped as IsStopped};
 ghost use Rattle.ca_node.specs.Told.{with_upper};
-ghost use Rattle.ca_replace.specs.Attempting.{IsPaid, total, HasAttempted, HasDoneSuch, HasMetInAttempt, HasTriedTo, IfDeep, refused_as};
+ghost use Rattle.ca_replace.specs.Attempting.{IsPaid, total, HasAttempted, HasDoneSuch, HasNext, HasStopped, HasTriedTo, IfDeep, refused_as};
 ghost use Rattle.ca_replace.specs.Called.{HasTold};
 ghost use Rattle.ca_replace.specs.Causes.{EndsAtLag, HasPinned, IsCaused, IsFullSince, KeepsFew};
 ghost use Rattle.ca_replace.specs.Seen.{store_of};
@@ -15,10 +16,11 @@ ghost use Rattle.ca_node.specs.TreePasses.{tree_of};
 ghost use Rattle.ca_replace.specs.Resting.{IsAtRest, StaysAtRest};
 
 use crate::adapting::{Adapting, Course, Last};
-use crate::attempting::{Attempt, Stop};
+use crate::attempting::{Attempt, Halt};
 use crate::giving::{add, keep_few, refill, spent_in_all};
 use crate::refusing::{outcome_by, refuse};
 use crate::tree::Tree;
+use ca_base::Stop;
 use ca_model::{Cause, Code, Counter, Outcome, Spent};
 use ca_node::TreePass;
 
@@ -128,26 +130,26 @@ fn attempts<A: Attempt>(
 }
 
 // Whether an attempt found no free row.
-fn is_empty<T>(tried: &Result<T, Stop>) -> bool
-    ensures { IsTrue result ↔ (tried.now ≡ Err IsEmpty) }
+fn is_empty<T>(tried: &Result<T, Halt>) -> bool
+    ensures { IsTrue result ↔ (tried.now ≡ Err (IsStopped IsEmpty)) }
 {
-    matches!(tried, Err(Stop::Empty))
+    matches!(tried, Err(Halt::Stopped(Stop::Empty)))
 }
 
 // What an attempt came to that found the rows it wanted.
-fn or_refusal<T>(tried: Result<T, Stop>, spent: Spent, levels: u16) -> Result<T, Cause>
-    requires { tried ≢ Err IsEmpty }
+fn or_refusal<T>(tried: Result<T, Halt>, spent: Spent, levels: u16) -> Result<T, Cause>
+    requires { tried ≢ Err (IsStopped IsEmpty) }
     ensures { result ≡ refused_as tried spent levels }
 {
     match tried {
         Ok(answer) => Ok(answer),
-        Err(Stop::Lost | Stop::Split | Stop::Empty) => Err(Cause::Busy(spent)),
-        Err(Stop::Deep) => Err(Cause::Deep(levels)),
-        Err(Stop::Worn) => Err(Cause::Worn(Counter::PoolTag)),
+        Err(Halt::Split | Halt::Stopped(Stop::Lost(_) | Stop::Empty)) => Err(Cause::Busy(spent)),
+        Err(Halt::Deep) => Err(Cause::Deep(levels)),
+        Err(Halt::Stopped(Stop::Worn)) => Err(Cause::Worn(Counter::PoolTag)),
     }
 }
 
-// The turns of an attempt, until one isn't lost to another pass and doesn't split a full base, or the budget is spent.
+// Attempts, until one isn't lost to another pass and doesn't split a full base, or the budget is spent. What the last one comes to is the answer.
 fn turns<A: Attempt>(
     tree: &Tree,
     pass: &mut TreePass,
@@ -155,35 +157,37 @@ fn turns<A: Attempt>(
     left: &mut A::Left,
     room: &mut A::Room,
     course: &mut Course,
-) -> Result<A::Answer, Stop>
+) -> Result<A::Answer, Halt>
     requires resting { IsAtRest tree.now.space pass.old }
     requires may { A.may order.now.what.now (sizes tree.now.space) }
+    requires unspent { total course.old.spent < order.now.budget }
     ensures frame { StaysAtRest tree.now.space pass.old pass.new }
     ensures tried { HasTriedTo (λ answer. A.tells order.now.what.now answer left.new) (sizes tree.now.space) result (tree_of pass.old) (tree_of pass.new) }
     ensures deep { result ≡ Err IsDeep → IsFullSince (sizes tree.now.space) (A.adds order.now.what.now) (tree_of pass.new) }
     ensures counted { IsPaid course.old.spent course.new.spent (known pass.old) (known pass.new) }
-    ensures found { HasMetInAttempt result (known pass.old) (known pass.new) }
-    ensures pinned { total course.old.spent < order.now.budget → HasPinned (known pass.old) (known pass.new) }
-    ensures lost { result ≡ Err IsLost → order.now.budget ≤ total course.new.spent }
-    ensures no_split { result ≢ Err IsSplit }
+    ensures found { HasStopped result (known pass.old) (known pass.new) }
+    ensures pinned { HasPinned (known pass.old) (known pass.new) }
+    ensures lost { HasNext result → order.now.budget ≤ total course.new.spent }
     ensures turns { AreTurns (A.edits order.now.what.now) (A.adds order.now.what.now) (sizes tree.now.space) tree.now.tuning course.old course.new
         (view pass.new).pin.left result (known pass.old) (known pass.new) }
 {
     let budget = order.budget();
-    while spent_in_all(&course.spent) < budget {
+    loop {
         let tried = once(tree, pass, order.what, left, room, course);
-        if !has_next(&tried) {
+        if !has_next(&tried) || spent_in_all(&course.spent) >= budget {
             return tried;
         }
     }
-    Err(Stop::Lost)
 }
 
 // Whether another turn may follow an attempt: it was lost to another pass, or split a full base.
-fn has_next<T>(tried: &Result<T, Stop>) -> bool
-    ensures { IsTrue result ↔ ((tried.now ≡ Err IsLost) ⊎ (tried.now ≡ Err IsSplit)) }
+fn has_next<T>(tried: &Result<T, Halt>) -> bool
+    ensures { IsTrue result ↔ HasNext tried.now }
 {
-    matches!(tried, Err(Stop::Lost | Stop::Split))
+    matches!(
+        tried,
+        Err(Halt::Split | Halt::Stopped(Stop::Lost(_)))
+    )
 }
 
 // One attempt of a call, while the pass is pinned.
@@ -194,7 +198,7 @@ fn once<A: Attempt>(
     left: &mut A::Left,
     room: &mut A::Room,
     course: &mut Course,
-) -> Result<A::Answer, Stop>
+) -> Result<A::Answer, Halt>
     requires resting { IsAtRest tree.now.space pass.old }
     requires may { A.may what.now (sizes tree.now.space) }
     ensures frame { StaysAtRest tree.now.space pass.old pass.new }

@@ -5,7 +5,7 @@ ghost use Rattle.ca_replace.specs.Adapting.{is_put};
 ghost use Rattle.ca_replace.specs.Tells.{Alters};
 
 use crate::adapting::Course;
-use crate::attempting::{Attempt, Stop, fetch, put_there};
+use crate::attempting::{Attempt, Halt, fetch, put_there};
 use crate::ending::{Read, enter};
 use crate::tree::Tree;
 use ca_base::{Insertion, Keyed, Putting};
@@ -41,7 +41,7 @@ impl<F: Fn(&[u8], &mut Code, &mut usize) -> bool> Attempt for ChangeCall<'_, F> 
         old: &mut Code,
         new: &mut Code,
         course: &mut Course,
-    ) -> Result<Changed, Stop> {
+    ) -> Result<Changed, Halt> {
         let (key, f) = (self.key, self.f);
         let (cursor, place) = fetch(&tree.space, pass, key, old);
         let Ok(at) = place else {

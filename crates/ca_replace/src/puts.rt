@@ -4,7 +4,7 @@ ghost use Rattle.ca_model.specs.Event.{Write, WriteNew};
 ghost use Rattle.ca_base.specs.Targets.{IsKeyed, key_in};
 
 use crate::adapting::Course;
-use crate::attempting::{Attempt, Stop, find, put_there};
+use crate::attempting::{Attempt, Halt, find, put_there};
 use crate::ending::{Read, enter};
 use crate::tree::Tree;
 use ca_base::{Insertion, Keyed, Putting};
@@ -44,7 +44,7 @@ impl Attempt for PutCall<'_> {
         _left: &mut (),
         _room: &mut (),
         course: &mut Course,
-    ) -> Result<(), Stop> {
+    ) -> Result<(), Halt> {
         let keyed = self.keyed;
         let key = &keyed.object[keyed.key_at..keyed.key_end];
         let (cursor, place) = find(&tree.space, pass, key);
@@ -76,7 +76,7 @@ impl Attempt for PutNewCall<'_> {
         _left: &mut (),
         _room: &mut (),
         course: &mut Course,
-    ) -> Result<bool, Stop> {
+    ) -> Result<bool, Halt> {
         let keyed = self.keyed;
         let key = &keyed.object[keyed.key_at..keyed.key_end];
         let (cursor, place) = find(&tree.space, pass, key);

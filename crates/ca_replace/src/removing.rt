@@ -5,7 +5,7 @@ ghost use Rattle.ca_replace.specs.Adapting.{is_put};
 ghost use Rattle.ca_replace.specs.Tells.{Removes, RemovesIf};
 
 use crate::adapting::Course;
-use crate::attempting::{Attempt, Stop, fetch, remove_there};
+use crate::attempting::{Attempt, Halt, fetch, remove_there};
 use crate::ending::{Read, enter};
 use crate::tree::Tree;
 use ca_base::Removal;
@@ -40,7 +40,7 @@ impl Attempt for RemoveCall<'_> {
         old: &mut Code,
         _room: &mut (),
         course: &mut Course,
-    ) -> Result<bool, Stop> {
+    ) -> Result<bool, Halt> {
         let key = self.key;
         let (cursor, place) = fetch(&tree.space, pass, key, old);
         let Ok(at) = place else {
@@ -84,7 +84,7 @@ impl<F: Fn(&[u8]) -> bool> Attempt for RemoveIfCall<'_, F> {
         old: &mut Code,
         _room: &mut (),
         course: &mut Course,
-    ) -> Result<Changed, Stop> {
+    ) -> Result<Changed, Halt> {
         let (key, f) = (self.key, self.f);
         let (cursor, place) = fetch(&tree.space, pass, key, old);
         let Ok(at) = place else {

@@ -7,6 +7,7 @@ use crate::trees::{ZERO, tree_of, tuning_of};
 use ca_replace::TreeStore;
 use std::alloc::{AllocError, Global};
 use std::thread::{Threads, for_each_mut};
+use std::time::Clock;
 
 // How many turns each client plays, and how many keys they share.
 const TURNS: u32 = 4_000;
@@ -14,12 +15,12 @@ const TURNS: u32 = 4_000;
 const SHARED: u32 = 6;
 
 // All clients work, each on a thread of its own.
-fn work_all<T: Threads + Sync>(rt: &T, clients: &mut [Player<'_>], work: Work) {
+fn work_all<T: Threads + Clock + Sync>(rt: &T, clients: &mut [Player<'_>], work: Work) {
     for_each_mut(
         rt,
         clients,
         4,
-        &|_number, client: &mut Player<'_>| { client.carry_out(work) },
+        &|_number, client: &mut Player<'_>| { client.carry_out(rt, work) },
     );
 }
 

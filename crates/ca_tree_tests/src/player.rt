@@ -7,11 +7,20 @@ use crate::objects::value_of;
 use ca_model::{Changed, Code, Outcome};
 use ca_replace::TreeStore;
 use std::alloc::Global;
+use std::thread::sleep;
+use std::time::{Clock, Duration};
 
-// How many turns a call may lose to others, and how often one that is refused is tried again: as long as another client may be kept from going on.
+// How many turns a call may lose to others.
 const BUDGET: u32 = 1_000;
 
-const TRIES: u32 = 1_000_000;
+// How often a call that is refused is tried again, a millisecond later each time. While another client's thread is kept from going on in the middle
+// of a call, rows that were retired since can't come free, so the others are refused once they used up the rest.
+const TRIES: u32 = 30_000;
+
+// Lets others go on, before a call that was refused is tried again.
+fn wait(clock: &impl Clock) {
+    sleep(clock, Duration::from_millis(1));
+}
 
 /// What clients do, each on a thread of its own.
 #[derive(Clone, Copy)]
@@ -88,16 +97,16 @@ impl<'t> Player<'t> {
     }
 
     /// Does its part of the work.
-    pub(crate) fn carry_out(&mut self, work: Work) {
+    pub(crate) fn carry_out(&mut self, clock: &impl Clock, work: Work) {
         match work {
             Work::Play(turns, shared) => {
                 for _ in 0..turns {
-                    self.play(shared);
+                    self.play(clock, shared);
                 }
             }
             Work::Count(turns, counter) => {
                 for _ in 0..turns {
-                    self.raise(counter);
+                    self.raise(clock, counter);
                 }
             }
         }
@@ -118,14 +127,14 @@ impl<'t> Player<'t> {
     }
 
     // A turn.
-    fn play(&mut self, shared: u32) {
+    fn play(&mut self, clock: &impl Clock, shared: u32) {
         let drawn = self.draw();
         let at = drawn / 16 % shared.saturating_add(1);
         let key = if at < shared { at } else { self.own_key() };
         match drawn % 8 {
-            0 if key % 2 == 0 => self.put(key),
-            0 | 1 => self.put_new(key),
-            2 | 3 => self.remove(key),
+            0 if key % 2 == 0 => self.put(clock, key),
+            0 | 1 => self.put_new(clock, key),
+            2 | 3 => self.remove(clock, key),
             _ => self.get(key),
         }
     }
@@ -158,29 +167,30 @@ impl<'t> Player<'t> {
         self.note(key, Event::Got(found));
     }
 
-    fn put(&mut self, key: u32) {
+    fn put(&mut self, clock: &impl Clock, key: u32) {
         let value = self.new_value();
         for _ in 0..TRIES {
             if put(&mut self.store, key, value, BUDGET) == Outcome::Done(()) {
                 return self.note(key, Event::Put(value));
             }
+            wait(clock);
         }
         self.refuse();
     }
 
-    fn put_new(&mut self, key: u32) {
+    fn put_new(&mut self, clock: &impl Clock, key: u32) {
         let value = self.new_value();
         for _ in 0..TRIES {
             match put_new(&mut self.store, key, value, BUDGET) {
                 Outcome::Done(true) => return self.note(key, Event::PutNew(value)),
                 Outcome::Done(false) => return self.note(key, Event::NotNew),
-                _ => {}
+                _ => wait(clock),
             }
         }
         self.refuse();
     }
 
-    fn remove(&mut self, key: u32) {
+    fn remove(&mut self, clock: &impl Clock, key: u32) {
         let mut old = Code::new();
         for _ in 0..TRIES {
             match remove(&mut self.store, key, &mut old, BUDGET) {
@@ -189,13 +199,13 @@ impl<'t> Player<'t> {
                     return self.note(key, Event::Removed(Some(value)));
                 }
                 Outcome::Done(false) => return self.note(key, Event::Removed(None)),
-                _ => {}
+                _ => wait(clock),
             }
         }
         self.refuse();
     }
 
-    fn raise(&mut self, key: u32) {
+    fn raise(&mut self, clock: &impl Clock, key: u32) {
         let mut old = Code::new();
         for _ in 0..TRIES {
             match raise(&mut self.store, key, true, &mut old, BUDGET) {
@@ -204,7 +214,7 @@ impl<'t> Player<'t> {
                     return self.note(key, Event::Raised(Some(value)));
                 }
                 Outcome::Done(_) => return self.note(key, Event::Raised(None)),
-                _ => {}
+                _ => wait(clock),
             }
         }
         self.refuse();

@@ -16,19 +16,19 @@ use Rattle.ca_rows.specs.declared.view.Pin.{Pin}
 use Rattle.ca_base.proofs.Tallies.{tallied_as}
 use Rattle.ca_base.proofs.removing.remove_at.Goals as goal
 
-pub returns-in-Err-clause-frame : goal.returns-in-Err-clause-frame
-returns-in-Err-clause-frame c = record {
+pub returns-in_err-new-clause-frame : goal.returns-in_err-new-clause-frame
+returns-in_err-new-clause-frame c = record {
   same = search rules;
   number = search rules;
   tally = search rules;
   pin = search rules;
-  none = c.in-Err.ensures.taken [] (omega arith) c.requires.ready.none;
+  none = c.in_err-new.ensures.taken [] (omega arith) c.requires.ready.none;
 }
 
 pub write_base_without-old-requires-clause-row : goal.write_base_without-old-requires-clause-row
 write_base_without-old-requires-clause-row c =
-    let taken = c.in-Ok.ensures.taken [] (omega arith) c.requires.ready.none in
-    let each = taken.1.0.each c.in-Ok.row (in_first c.in-Ok.row []) in record {
+    let taken = c.in_ok-new.ensures.taken [] (omega arith) c.requires.ready.none in
+    let each = taken.1.0.each c.in_ok-new.new (in_first c.in_ok-new.new []) in record {
       reading = record {
         own = (
           c.take.ensures.frame.same.0 ∙ c.requires.ready.own.0,
@@ -65,10 +65,10 @@ pub swap_in-requires-clause-held : goal.swap_in-requires-clause-held
 swap_in-requires-clause-held c = let v = c.write_base_without-old.ensures.written in
     written_row c.args.space.now.table.shared.key.rows c.take.new.pass.kept
     c.write_base_without-old.new.pass.kept c.take.new.pass.seat.me
-    c.write_base_without-old.new.pass.seat.me (c.in-Ok.row ∷ []) c.in-Ok.row v.0
-    (in_first c.in-Ok.row []) v.1.long v.2
+    c.write_base_without-old.new.pass.seat.me (c.in_ok-new.new ∷ []) c.in_ok-new.new v.0
+    (in_first c.in_ok-new.new []) v.1.long v.2
     c.write_base_without-old.ensures.frame.kept
-    (c.in-Ok.ensures.taken [] (omega arith) c.requires.ready.none).1
+    (c.in_ok-new.ensures.taken [] (omega arith) c.requires.ready.none).1
 
 pub swap_in-requires-clause-old_base : goal.swap_in-requires-clause-old_base
 swap_in-requires-clause-old_base c = subst
@@ -97,7 +97,7 @@ swap_in-requires-clause-update c = let v = c.write_base_without-old.ensures.writ
     let r = c.requires in
     let one = c.take.ensures.frame.same in let two = c.write_base_without-old.ensures.frame.same in
     ready_without c.args.space.now.table.shared.key c.args.pass.now.seat.me c.take.new.pass.seat.me
-    c.write_base_without-old.new.pass.seat.me c.in-Ok.row
+    c.write_base_without-old.new.pass.seat.me c.in_ok-new.new
     c.args.target.now.cursor.base c.args.removal.now.at c.args.target.now.statistic
     c.args.removal.now.key.now v.0 r.target.shown (two.4 ∙ one.4) r.place
     (spells_there c.args.pass.now.seat.me.0.upper c.take.new.pass.seat.me.0.upper
@@ -109,7 +109,7 @@ pub returns-clause-removed : goal.returns-clause-removed
 returns-clause-removed c = let v = c.write_base_without-old.ensures.written in let r = c.requires in
     let one = c.take.ensures.frame.same in let two = c.write_base_without-old.ensures.frame.same in
     removed c.args.space.now.table.shared.key c.args.pass.now.seat.me c.take.new.pass.seat.me
-    c.write_base_without-old.new.pass.seat.me c.in-Ok.row
+    c.write_base_without-old.new.pass.seat.me c.in_ok-new.new
     c.args.target.now.cursor.base c.args.removal.now.at c.args.target.now.statistic
     c.args.removal.now.key.now v.0 r.target.shown (two.4 ∙ one.4) r.place
     (spells_there c.args.pass.now.seat.me.0.upper c.take.new.pass.seat.me.0.upper
@@ -122,7 +122,7 @@ pub returns-clause-renewed : goal.returns-clause-renewed
 returns-clause-renewed c = let v = c.write_base_without-old.ensures.written in let r = c.requires in
     let one = c.take.ensures.frame.same in let two = c.write_base_without-old.ensures.frame.same in
     renewed_without c.args.space.now.table.shared.key c.args.pass.now.seat.me
-    c.take.new.pass.seat.me c.write_base_without-old.new.pass.seat.me c.in-Ok.row
+    c.take.new.pass.seat.me c.write_base_without-old.new.pass.seat.me c.in_ok-new.new
     c.args.target.now.cursor.base c.args.removal.now.at c.args.target.now.statistic
     c.args.removal.now.key.now v.0 r.target.shown (two.4 ∙ one.4) r.place
     (spells_there c.args.pass.now.seat.me.0.upper c.take.new.pass.seat.me.0.upper
@@ -163,7 +163,7 @@ returns-clause-won c alone listed =
     won_then c.args.space.now.table.shared.key c.args.pass.now.seat.me.0.upper
     c.write_base_without-old.new.pass.seat.me.0.upper c.swap_in.result
     (c.write_base_without-old.ensures.frame.same.4
-    ∙ c.take.ensures.frame.same.4) c.swap_in.ensures.won alone listed _ refl
+    ∙ c.take.ensures.frame.same.4) c.swap_in.ensures.won alone listed
 
 pub swap_in-requires-clause-own : goal.swap_in-requires-clause-own
 swap_in-requires-clause-own c = (
@@ -178,5 +178,5 @@ returns-clause-back c =
     cleared_after c.swap_in.result c.args.pass.now.seat.me
     c.write_base_without-old.new.pass.seat.me c.swap_in.new.pass.seat.me c.args.pass.now.kept
     c.take.new.pass.kept c.write_base_without-old.new.pass.kept c.swap_in.new.pass.kept
-    (ap losses c.write_base_without-old.ensures.written.2.only ∙ c.in-Ok.ensures.found.1)
-    c.in-Ok.ensures.back c.write_base_without-old.ensures.frame.kept c.swap_in.ensures.back
+    (ap losses c.write_base_without-old.ensures.written.2.only ∙ c.in_ok-new.ensures.found.1)
+    c.in_ok-new.ensures.back c.write_base_without-old.ensures.frame.kept c.swap_in.ensures.back

@@ -20,7 +20,7 @@ use Rattle.ca_base.proofs.splitting.split_at.Goals as goal
 
 pub write_half-requires-clause-row : goal.write_half-requires-clause-row
 write_half-requires-clause-row c =
-    let each = c.in-Ok.ensures.taken.1.0.each c.in-Ok.rows.1 (1, refl) in record {
+    let each = c.in_ok-route.ensures.taken.1.0.each c.in_ok-route.left (1, refl) in record {
       reading = record {
         own = (
           c.take_three.ensures.frame.same.0 ∙ c.requires.ready.own.0,
@@ -33,9 +33,9 @@ write_half-requires-clause-row c =
     }
 
 pub write_half-requires-2-clause-row : goal.write_half-requires-2-clause-row
-write_half-requires-2-clause-row c = let t = c.in-Ok.ensures.taken in
-    let each = t.1.0.each c.in-Ok.rows.2 (2, refl) in let own = each.2 in
-    let apart = three_apart c.in-Ok.rows.0 c.in-Ok.rows.1 c.in-Ok.rows.2 t.0 in record {
+write_half-requires-2-clause-row c = let t = c.in_ok-route.ensures.taken in
+    let each = t.1.0.each c.in_ok-route.right (2, refl) in let own = each.2 in
+    let apart = three_apart c.in_ok-route.route c.in_ok-route.left c.in_ok-route.right t.0 in record {
       reading = record {
         own = (
           c.write_half.ensures.frame.same.0
@@ -52,7 +52,7 @@ write_half-requires-2-clause-row c = let t = c.in-Ok.ensures.taken in
         (
           own.0,
           own.1,
-          c.write_half.ensures.written.2.others c.in-Ok.rows.2 (λ e. apart.2 (sym e))
+          c.write_half.ensures.written.2.others c.in_ok-route.right (λ e. apart.2 (sym e))
               ∙ own.2,
         ),
       );
@@ -100,9 +100,9 @@ copy_key-requires c = let r = c.requires in let u = c.args.pass.now.seat.me.0.up
     }
 
 pub write_route-requires-clause-row : goal.write_route-requires-clause-row
-write_route-requires-clause-row c = let t = c.in-Ok.ensures.taken in
-    let each = t.1.0.each c.in-Ok.rows.0 (0, refl) in let own = each.2 in
-    let apart = three_apart c.in-Ok.rows.0 c.in-Ok.rows.1 c.in-Ok.rows.2 t.0 in
+write_route-requires-clause-row c = let t = c.in_ok-route.ensures.taken in
+    let each = t.1.0.each c.in_ok-route.route (0, refl) in let own = each.2 in
+    let apart = three_apart c.in_ok-route.route c.in_ok-route.left c.in_ok-route.right t.0 in
     let still = c.copy_key.ensures.frame.still ∙ c.item-first.ensures.frame.still in record {
       own = (
         c.copy_key.ensures.frame.same.0
@@ -121,9 +121,9 @@ write_route-requires-clause-row c = let t = c.in-Ok.ensures.taken in
         (
           own.0,
           own.1,
-          ap (λ (m : MyTree). claim_of m.0.claims c.in-Ok.rows.0) still
-              ∙ (c.write_half-2.ensures.written.2.others c.in-Ok.rows.0 apart.1
-              ∙ (c.write_half.ensures.written.2.others c.in-Ok.rows.0 apart.0 ∙ own.2)),
+          ap (λ (m : MyTree). claim_of m.0.claims c.in_ok-route.route) still
+              ∙ (c.write_half-2.ensures.written.2.others c.in_ok-route.route apart.1
+              ∙ (c.write_half.ensures.written.2.others c.in_ok-route.route apart.0 ∙ own.2)),
         ),
       );
     }
@@ -132,7 +132,7 @@ pub divide_in-requires-clause-division : goal.divide_in-requires-clause-division
 divide_in-requires-clause-division c = let r = c.requires in
     let u = c.args.pass.now.seat.me.0.upper in
     let its : List ℕ = get_or (first_note u.notes).objects (c.args.many / 2) [] in
-    let t = c.in-Ok.ensures.taken in let one = c.take_three.ensures.frame.same in
+    let t = c.in_ok-route.ensures.taken in let one = c.take_three.ensures.frame.same in
     let two = c.write_half.ensures.frame.same in
     let three = c.write_half-2.ensures.frame.same in
     let four = c.write_route.ensures.frame.same in
@@ -151,7 +151,7 @@ divide_in-requires-clause-division c = let r = c.requires in
     (sym c.item-first.ensures.frame.still) told in
     divides_of z c.args.pass.now.seat.me c.take_three.new.pass.seat.me c.write_half.new.pass.seat.me
     c.write_half-2.new.pass.seat.me
-    c.write_route.new.pass.seat.me c.in-Ok.rows.0 c.in-Ok.rows.1 c.in-Ok.rows.2 c.args.many
+    c.write_route.new.pass.seat.me c.in_ok-route.route c.in_ok-route.left c.in_ok-route.right c.args.many
     c.args.attempt c.args.cursor first.0 last.0 over.0
     record {
       shown = r.target.shown;
@@ -163,7 +163,7 @@ divide_in-requires-clause-division c = let r = c.requires in
       wrote_left = first.2;
       wrote_right = last.2;
       wrote_route = subst
-          (λ (m : MyTree). IsRewritten c.in-Ok.rows.0 over.0 m c.write_route.new.pass.seat.me) still
+          (λ (m : MyTree). IsRewritten c.in_ok-route.route over.0 m c.write_route.new.pass.seat.me) still
           over.2;
       is_left = subst
           (λ (v : TreeView).
@@ -177,7 +177,7 @@ divide_in-requires-clause-division c = let r = c.requires in
           4294967296 last.0) (two.4 ∙ one.4) last.1;
       is_route = subst
           (λ (k : List ℕ).
-          SpellsRoute c.args.cursor.level k c.in-Ok.rows.1 c.in-Ok.rows.2 c.args.attempt over.0)
+          SpellsRoute c.args.cursor.level k c.in_ok-route.left c.in_ok-route.right c.args.attempt over.0)
           (c.deref.ensures.0 ∙ c.copy_key.ensures.key its shown) over.1;
       short = short_key its told.long;
       is_pinned = r.ready.pinned;
@@ -187,8 +187,8 @@ divide_in-requires-clause-division c = let r = c.requires in
     }
 
 pub divide_in-requires-clause-held : goal.divide_in-requires-clause-held
-divide_in-requires-clause-held c = let t = c.in-Ok.ensures.taken in
-    let rows : List ℕ = c.in-Ok.rows.0 ∷ c.in-Ok.rows.1 ∷ c.in-Ok.rows.2 ∷ [] in
+divide_in-requires-clause-held c = let t = c.in_ok-route.ensures.taken in
+    let rows : List ℕ = c.in_ok-route.route ∷ c.in_ok-route.left ∷ c.in_ok-route.right ∷ [] in
     let all = c.args.space.now.table.shared.key.rows in let first = c.write_half.ensures.written in
     let last = c.write_half-2.ensures.written in
     let over = c.write_route.ensures.written in
@@ -196,13 +196,13 @@ divide_in-requires-clause-held c = let t = c.in-Ok.ensures.taken in
     let kept = c.copy_key.ensures.frame.kept ∙ c.item-first.ensures.frame.kept in
     let one = written_row all c.take_three.new.pass.kept c.write_half.new.pass.kept
     c.take_three.new.pass.seat.me c.write_half.new.pass.seat.me rows
-    c.in-Ok.rows.1 first.0 (1, refl) first.1.long first.2 c.write_half.ensures.frame.kept t.1 in
+    c.in_ok-route.left first.0 (1, refl) first.1.long first.2 c.write_half.ensures.frame.kept t.1 in
     let two = written_row all c.write_half.new.pass.kept c.write_half-2.new.pass.kept
     c.write_half.new.pass.seat.me c.write_half-2.new.pass.seat.me rows
-    c.in-Ok.rows.2 last.0 (2, refl) last.1.long last.2 c.write_half-2.ensures.frame.kept one in
+    c.in_ok-route.right last.0 (2, refl) last.1.long last.2 c.write_half-2.ensures.frame.kept one in
     written_row all c.copy_key.new.pass.kept c.write_route.new.pass.kept c.copy_key.new.pass.seat.me
     c.write_route.new.pass.seat.me rows
-    c.in-Ok.rows.0 over.0 (0, refl) over.1.long over.2 c.write_route.ensures.frame.kept
+    c.in_ok-route.route over.0 (0, refl) over.1.long over.2 c.write_route.ensures.frame.kept
     (subst (λ (x : MyTree × KeptRows). AreHeld all x.1.rows x.0.0 rows)
     (λ i. (sym still i, sym kept i)) two)
 
@@ -262,7 +262,7 @@ returns-clause-won c alone listed = let still = c.copy_key.ensures.frame.still
     (c.write_route.ensures.frame.same.4 ∙ (ap (λ (m : MyTree). m.0.upper) still
     ∙ (c.write_half-2.ensures.frame.same.4
     ∙ (c.write_half.ensures.frame.same.4 ∙ c.take_three.ensures.frame.same.4))))
-    c.divide_in.ensures.won alone listed _ refl
+    c.divide_in.ensures.won alone listed
 
 pub item-first-requires-clause-reading : goal.item-first-requires-clause-reading
 item-first-requires-clause-reading c = record {
@@ -302,8 +302,8 @@ returns-clause-back c =
     c.take_three.new.pass.kept c.write_route.new.pass.kept c.divide_in.new.pass.kept
     (ap losses c.write_route.ensures.written.2.only ∙ (ap losses still
     ∙ (ap losses c.write_half-2.ensures.written.2.only
-    ∙ (ap losses c.write_half.ensures.written.2.only ∙ c.in-Ok.ensures.found.1))))
-    c.in-Ok.ensures.back
+    ∙ (ap losses c.write_half.ensures.written.2.only ∙ c.in_ok-route.ensures.found.1))))
+    c.in_ok-route.ensures.back
     (c.write_route.ensures.frame.kept ∙ (c.copy_key.ensures.frame.kept
     ∙ (c.item-first.ensures.frame.kept
     ∙ (c.write_half-2.ensures.frame.kept ∙ c.write_half.ensures.frame.kept))))

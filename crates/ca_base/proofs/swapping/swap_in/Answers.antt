@@ -93,7 +93,7 @@ returns-clause-renewed g c = let first = c.retire_unlinked.ensures in
 
 pub returns-clause-placed : goal.returns-clause-placed
 returns-clause-placed g c =
-    λ _. placed c.args.space.now.table.shared.key c.args.pass.now.kept.rows c.args.pass.now.seat.me
+    placed c.args.space.now.table.shared.key c.args.pass.now.kept.rows c.args.pass.now.seat.me
     c.args.rows.now.new g.K.Intent.update
     c.requires.update c.requires.old_base c.requires.last
     (subst (λ (xs : List ℕ).

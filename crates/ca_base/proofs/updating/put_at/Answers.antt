@@ -17,10 +17,10 @@ use Rattle.ca_base.proofs.Tallies.{tallied_as}
 use Rattle.ca_base.proofs.updating.put_at.Goals as goal
 
 pub write_object-requires-clause-row : goal.write_object-requires-clause-row
-write_object-requires-clause-row c = let t = c.in-Ok.ensures.taken in
-    let each = t.1.0.each c.in-Ok.rows.1
-    (in_rest c.in-Ok.rows.1 c.in-Ok.rows.0 (c.in-Ok.rows.1 ∷ [])
-    (in_first c.in-Ok.rows.1 [])) in record {
+write_object-requires-clause-row c = let t = c.in_ok-new.ensures.taken in
+    let each = t.1.0.each c.in_ok-new.row
+    (in_rest c.in_ok-new.row c.in_ok-new.new (c.in_ok-new.row ∷ [])
+    (in_first c.in_ok-new.row [])) in record {
       own = (
         c.take_two.ensures.frame.same.0 ∙ c.requires.ready.own.0,
         c.take_two.ensures.frame.same.2 ∙ c.requires.ready.own.1,
@@ -29,9 +29,9 @@ write_object-requires-clause-row c = let t = c.in-Ok.ensures.taken in
     }
 
 pub write_base_with-old-requires-clause-row : goal.write_base_with-old-requires-clause-row
-write_base_with-old-requires-clause-row c = let t = c.in-Ok.ensures.taken in
+write_base_with-old-requires-clause-row c = let t = c.in_ok-new.ensures.taken in
     let w = c.write_object.ensures.written in
-    let each = t.1.0.each c.in-Ok.rows.0 (in_first c.in-Ok.rows.0 (c.in-Ok.rows.1 ∷ [])) in
+    let each = t.1.0.each c.in_ok-new.new (in_first c.in_ok-new.new (c.in_ok-new.row ∷ [])) in
     let own = each.2 in record {
       reading = record {
         own = (
@@ -43,7 +43,7 @@ write_base_with-old-requires-clause-row c = let t = c.in-Ok.ensures.taken in
         pinned = ap (λ (e : Pin). e.pinned) (c.write_object.ensures.frame.same.3
             ∙ c.take_two.ensures.frame.same.3) ∙ c.requires.ready.pinned;
       };
-      held = (each.1, (own.0, own.1, w.2.others c.in-Ok.rows.0 t.0 ∙ own.2));
+      held = (each.1, (own.0, own.1, w.2.others c.in_ok-new.new t.0 ∙ own.2));
     }
 
 pub write_base_with-old-requires-clause-shown : goal.write_base_with-old-requires-clause-shown
@@ -75,19 +75,19 @@ write_base_with-old-requires-clause-place c =
     c.requires.room c.requires.target.leaf
 
 pub swap_in-requires-clause-held : goal.swap_in-requires-clause-held
-swap_in-requires-clause-held c = let t = c.in-Ok.ensures.taken in
+swap_in-requires-clause-held c = let t = c.in_ok-new.ensures.taken in
     let w = c.write_object.ensures.written in
     let v = c.write_base_with-old.ensures.written in
-    let rows : List ℕ = c.in-Ok.rows.0 ∷ c.in-Ok.rows.1 ∷ [] in
+    let rows : List ℕ = c.in_ok-new.new ∷ c.in_ok-new.row ∷ [] in
     written_row c.args.space.now.table.shared.key.rows c.write_object.new.pass.kept
     c.write_base_with-old.new.pass.kept c.write_object.new.pass.seat.me
-    c.write_base_with-old.new.pass.seat.me rows c.in-Ok.rows.0 v.0
-    (in_first c.in-Ok.rows.0 (c.in-Ok.rows.1 ∷ [])) v.1.long v.2
+    c.write_base_with-old.new.pass.seat.me rows c.in_ok-new.new v.0
+    (in_first c.in_ok-new.new (c.in_ok-new.row ∷ [])) v.1.long v.2
     c.write_base_with-old.ensures.frame.kept
     (written_row c.args.space.now.table.shared.key.rows c.take_two.new.pass.kept
     c.write_object.new.pass.kept c.take_two.new.pass.seat.me
-    c.write_object.new.pass.seat.me rows c.in-Ok.rows.1 w.0
-    (in_rest c.in-Ok.rows.1 c.in-Ok.rows.0 (c.in-Ok.rows.1 ∷ []) (in_first c.in-Ok.rows.1 []))
+    c.write_object.new.pass.seat.me rows c.in_ok-new.row w.0
+    (in_rest c.in_ok-new.row c.in_ok-new.new (c.in_ok-new.row ∷ []) (in_first c.in_ok-new.row []))
     w.1.long w.2 c.write_object.ensures.frame.kept t.1)
 
 pub swap_in-requires-clause-old_base : goal.swap_in-requires-clause-old_base
@@ -114,14 +114,14 @@ swap_in-requires-clause-rows c = let one = c.take_two.ensures.frame.same in
     )
 
 pub swap_in-requires-clause-update : goal.swap_in-requires-clause-update
-swap_in-requires-clause-update c = let t = c.in-Ok.ensures.taken in
+swap_in-requires-clause-update c = let t = c.in_ok-new.ensures.taken in
     let w = c.write_object.ensures.written in
     let v = c.write_base_with-old.ensures.written in let r = c.requires in
     let one = c.take_two.ensures.frame.same in let two = c.write_object.ensures.frame.same in
     let three = c.write_base_with-old.ensures.frame.same in
     ready c.args.space.now.table.shared.key c.args.pass.now.seat.me c.take_two.new.pass.seat.me
     c.write_object.new.pass.seat.me
-    c.write_base_with-old.new.pass.seat.me c.in-Ok.rows.1 c.in-Ok.rows.0
+    c.write_base_with-old.new.pass.seat.me c.in_ok-new.row c.in_ok-new.new
     c.args.target.now.cursor.base c.args.insertion.now.place c.args.insertion.now.why
     c.args.insertion.now.keyed.object.now
     c.args.insertion.now.keyed.key_at c.args.insertion.now.keyed.key_end c.args.target.now.statistic
@@ -137,7 +137,7 @@ swap_in-requires-clause-update c = let t = c.in-Ok.ensures.taken in
 
 pub swap_in-requires-clause-apart : goal.swap_in-requires-clause-apart
 swap_in-requires-clause-apart c = (
-  two_apart c.in-Ok.rows.0 c.in-Ok.rows.1 c.in-Ok.ensures.taken.0,
+  two_apart c.in_ok-new.new c.in_ok-new.row c.in_ok-new.ensures.taken.0,
   subst AreApart (sym (c.gone.ensures _ c.write_base_with-old.ensures.gone))
       (gone_apart c.args.insertion.now.place _),
 )
@@ -150,13 +150,13 @@ swap_in-requires-clause-few c = (
 )
 
 pub returns-clause-put : goal.returns-clause-put
-returns-clause-put c = let t = c.in-Ok.ensures.taken in let w = c.write_object.ensures.written in
+returns-clause-put c = let t = c.in_ok-new.ensures.taken in let w = c.write_object.ensures.written in
     let v = c.write_base_with-old.ensures.written in let r = c.requires in
     let one = c.take_two.ensures.frame.same in let two = c.write_object.ensures.frame.same in
     let three = c.write_base_with-old.ensures.frame.same in
     tried c.args.space.now.table.shared.key c.args.pass.now.seat.me c.take_two.new.pass.seat.me
     c.write_object.new.pass.seat.me
-    c.write_base_with-old.new.pass.seat.me c.in-Ok.rows.1 c.in-Ok.rows.0
+    c.write_base_with-old.new.pass.seat.me c.in_ok-new.row c.in_ok-new.new
     c.args.target.now.cursor.base c.args.insertion.now.place c.args.insertion.now.why
     c.args.insertion.now.keyed.object.now
     c.args.insertion.now.keyed.key_at c.args.insertion.now.keyed.key_end c.args.target.now.statistic
@@ -167,14 +167,14 @@ returns-clause-put c = let t = c.in-Ok.ensures.taken in let w = c.write_object.e
     c.swap_in.result c.swap_in.new.pass.seat.me.0.upper c.swap_in.ensures.done
 
 pub returns-clause-renewed : goal.returns-clause-renewed
-returns-clause-renewed c = let t = c.in-Ok.ensures.taken in
+returns-clause-renewed c = let t = c.in_ok-new.ensures.taken in
     let w = c.write_object.ensures.written in
     let v = c.write_base_with-old.ensures.written in let r = c.requires in
     let one = c.take_two.ensures.frame.same in let two = c.write_object.ensures.frame.same in
     let three = c.write_base_with-old.ensures.frame.same in
     renewed_so c.args.space.now.table.shared.key c.args.pass.now.seat.me c.take_two.new.pass.seat.me
     c.write_object.new.pass.seat.me
-    c.write_base_with-old.new.pass.seat.me c.in-Ok.rows.1 c.in-Ok.rows.0
+    c.write_base_with-old.new.pass.seat.me c.in_ok-new.row c.in_ok-new.new
     c.args.target.now.cursor.base c.args.insertion.now.place c.args.insertion.now.why
     c.args.insertion.now.keyed.object.now
     c.args.insertion.now.keyed.key_at c.args.insertion.now.keyed.key_end c.args.target.now.statistic
@@ -224,7 +224,7 @@ returns-clause-won c alone listed =
     c.write_base_with-old.new.pass.seat.me.0.upper c.swap_in.result
     (c.write_base_with-old.ensures.frame.same.4
     ∙ (c.write_object.ensures.frame.same.4 ∙ c.take_two.ensures.frame.same.4))
-    c.swap_in.ensures.won alone listed _ refl
+    c.swap_in.ensures.won alone listed
 
 pub swap_in-requires-clause-own : goal.swap_in-requires-clause-own
 swap_in-requires-clause-own c = (
@@ -238,8 +238,8 @@ swap_in-requires-clause-own c = (
 
 pub word_of_item-word-requires : goal.word_of_item-word-requires
 word_of_item-word-requires c = let few = c.args.space.now.few.1 in
-    let each = c.in-Ok.ensures.taken.1.0.each c.in-Ok.rows.1
-    (in_rest c.in-Ok.rows.1 c.in-Ok.rows.0 (c.in-Ok.rows.1 ∷ []) (in_first c.in-Ok.rows.1 [])) in
+    let each = c.in_ok-new.ensures.taken.1.0.each c.in_ok-new.row
+    (in_rest c.in_ok-new.row c.in_ok-new.new (c.in_ok-new.row ∷ []) (in_first c.in_ok-new.row [])) in
     let inside = each.1 in omega arith
 
 pub returns-clause-back : goal.returns-clause-back
@@ -248,7 +248,7 @@ returns-clause-back c =
     c.write_base_with-old.new.pass.seat.me c.swap_in.new.pass.seat.me c.args.pass.now.kept
     c.take_two.new.pass.kept c.write_base_with-old.new.pass.kept c.swap_in.new.pass.kept
     (ap losses c.write_base_with-old.ensures.written.2.only
-    ∙ (ap losses c.write_object.ensures.written.2.only ∙ c.in-Ok.ensures.found.1))
-    c.in-Ok.ensures.back
+    ∙ (ap losses c.write_object.ensures.written.2.only ∙ c.in_ok-new.ensures.found.1))
+    c.in_ok-new.ensures.back
     (c.write_base_with-old.ensures.frame.kept ∙ c.write_object.ensures.frame.kept)
     c.swap_in.ensures.back

@@ -1,8 +1,8 @@
+use Rattle.ca_replace.specs.declared.attempting.Halt.{Halt}
 use Rattle.ca_replace.proofs.Tuning.{tuned_on}
 use Rattle.ca_replace.proofs.FullBases.{room_found, room_paid, room_waits}
 use Rattle.ca_replace.proofs.GoingOn.{split_further}
 use Rattle.std.proofs.Common.{true, Err, Some, refl, sym, subst, arith}
-use Rattle.ca_replace.specs.declared.attempting.Stop.{Stop}
 use Rattle.ca_replace.proofs.Growing.{made_room}
 use Rattle.ca_replace.proofs.Showing.{shown_last}
 use Rattle.ca_replace.proofs.Cutting.{made_cut}
@@ -36,9 +36,9 @@ returns-clause-turn c key looking full = let z = c.args.tree.now.space.table.sha
     let course = record c.args.course.now { spent = c.split_at-split.new.spent } in
     let least = (tuned_on c.args.tree.now).allowed.least_leaf in
     let leaf = (tuned_on c.args.tree.now).leaf in let over = c.requires.many.1 in
-    subst (λ (x : Stop × Course). IsTurn {T = Unit {0}} (λ _. true) (Some key) z
+    subst (λ (x : Halt × Course). IsTurn {T = Unit {0}} (λ _. true) (Some key) z
     c.args.tree.now.tuning c.args.course.now x.1 (met_of m') (Err x.0) m m')
-    (λ i. (sym c.stop_of.ensures i, sym c.note_split.ensures i)) record {
+    (λ i. (sym c.halt_of.ensures i, sym c.note_split.ensures i)) record {
       met_as = tt;
       gone_on = room_waits c.args.many _ r c.args.course.now.adapting course m.0.upper m'.0.upper
           refl split;

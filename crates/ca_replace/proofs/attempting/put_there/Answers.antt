@@ -1,5 +1,7 @@
 use Rattle.std.proofs.Common.{◌≡◌, ◌≤◌, ℕ, ℤ, Result, OnOk, Ok, Err, Some, get_or, to_z, of_z, w32, Bool, true, false, length, sym, ap, ◌∙◌, subst, arith, ◌<◌, [], map, rules}
 use Rattle.std.proofs.lemmas.Int.{ints, to_z-of_z}
+use Rattle.ca_replace.specs.declared.attempting.Halt.{Halt}
+use Rattle.ca_replace.specs.declared.attempting.Halt.TheVariants as halt
 use Rattle.ca_base.specs.Targets.{key_in, edit_of, event_of}
 use Rattle.ca_model.specs.History.{Put}
 use Rattle.ca_base.specs.Finding.{IsReadable, IsAtCursor}
@@ -7,8 +9,6 @@ use Rattle.ca_node.specs.Place.{HasKey}
 use Rattle.ca_node.specs.Told.{MyTree, IsKnown}
 use Rattle.ca_node.specs.TreeView.{TreeView}
 use Rattle.ca_base.specs.Putting.{IsRoom, IsShownLast, first_note, object_at, put_event}
-use Rattle.ca_replace.specs.declared.attempting.Stop.{Stop}
-use Rattle.ca_replace.specs.declared.attempting.Stop.TheVariants.{Deep as IsDeep}
 use Rattle.ca_replace.specs.Adapting.{IsMoved, IsCauseMet}
 use Rattle.ca_replace.proofs.Tuning.{tuned_on}
 use Rattle.ca_replace.proofs.Settling.{IsSettling}
@@ -45,8 +45,8 @@ no_place P (Ok at) many leaf n = absurd (n tt)
 no_place P (Err at) many leaf n = tt
 
 -- why an attempt came to nothing
-abbrev why_of : Result (Unit {0}) Stop → Stop
-why_of (Ok x) = IsDeep
+abbrev why_of : Result (Unit {0}) Halt → Halt
+why_of (Ok x) = halt.Deep
 why_of (Err why) = why
 
 pub count-many-requires-clause-readable : goal.count-many-requires-clause-readable

@@ -1,11 +1,12 @@
 use Rattle.std.proofs.Common.{◌≡◌, ℕ, ◌<◌, refl, ap, ◌∙◌, sym, subst, inl, inr, vec_len, Result, false, true, arith}
+use Rattle.ca_base.specs.declared.stop.Stop.TheVariants as stop
+use Rattle.ca_replace.specs.declared.attempting.Halt.{Halt}
+use Rattle.ca_replace.specs.declared.attempting.Halt.TheVariants as halt
 use Rattle.ca_node.specs.TreeView.{TreeView}
 use Rattle.ca_base.specs.Progress.{IsFurther}
-use Rattle.ca_replace.specs.declared.attempting.Stop.{Stop}
-use Rattle.ca_replace.specs.declared.attempting.Stop.TheVariants as stop
 use Rattle.ca_replace.specs.Adapting.{IsCauseMet, IsCauseMetInAttempts, Waits}
 use Rattle.ca_replace.specs.Causes.{IsFullSince, IsRefill}
-use Rattle.ca_replace.specs.Attempting.{HasMetInAttempt, total}
+use Rattle.ca_replace.specs.Attempting.{HasStopped, total}
 use Rattle.ca_replace.specs.Growing.{HasWaited}
 use Rattle.ca_replace.proofs.Causing.{caused_as, few_from, nearer, refill_caused}
 use Rattle.ca_replace.proofs.Pinning.{begun_with, empty_before}
@@ -22,6 +23,13 @@ use Rattle.ca_replace.proofs.Cutting.{cut_refused, cuts_so_far, none_full, stopp
 use Rattle.ca_replace.proofs.Winning.{stop_won, won_behind, won_refused}
 use Rattle.ca_rows.specs.declared.sizes.Sizes.{Sizes}
 use Rattle.ca_replace.proofs.calls.attempts.Goals as goal
+
+-- what an attempt comes to that found no row
+abbrev empty_halt : Halt
+empty_halt = halt.Stopped stop.Empty
+
+pub turns-come-requires-clause-unspent : goal.turns-come-requires-clause-unspent
+turns-come-requires-clause-unspent g c = c.loop-come.invariant.unspent
 
 pub loop-come-init : goal.loop-come-init
 loop-come-init g c = record {
@@ -75,21 +83,21 @@ loop-come-preserved g c = let i = c.loop-come.invariant in
     let behind = c.turns-come.new.pass.seat.me in
     let last = c.refill.new.pass.seat.me in let empty = c.if-is_empty.ensures.0 refl in
     let met = subst
-    (λ (x : Result _ Stop). HasMetInAttempt x before behind) empty c.turns-come.ensures.found in
+    (λ (x : Result _ Halt). HasStopped x before behind) empty c.turns-come.ensures.found in
     let given = c.refill.ensures.gave.met in record {
       number = c.refill.ensures.frame.number ∙ (c.turns-come.ensures.frame.number ∙ i.number);
       resting = c.refill.ensures.frame.resting;
       further = subst (IsFurther start.0.upper) (sym c.refill.ensures.gave.upper)
           (further_on start.0.upper before.0.upper behind.0.upper i.further
           (stopped_further tells c.args.tree.now.space.table.shared.key c.turns-come.result
-          stop.Empty before.0.upper behind.0.upper empty
+          empty_halt before.0.upper behind.0.upper empty
           c.turns-come.ensures.tried));
       counted = paid_both c.args.course.now.spent c.turns-come.new.course.spent c.refill.new.spent
           start behind last
           (paid_both c.args.course.now.spent c.loop-come.course.spent c.turns-come.new.course.spent
           start before behind i.counted c.turns-come.ensures.counted)
           c.refill.ensures.counted;
-      looks = let before = i.looks in let same = (c.turns-come.ensures.pinned i.unspent).looks in
+      looks = let before = i.looks in let same = c.turns-come.ensures.pinned.looks in
           let more = c.refill.ensures.looked in omega arith;
       waits = subst (Waits c.args.course.now.adapting c.turns-come.new.course.adapting
           start.0.upper) (sym c.refill.ensures.gave.upper)
@@ -99,10 +107,10 @@ loop-come-preserved g c = let i = c.loop-come.invariant in
           (λ (x : _). g.A.Attempt.edits c.args.order.now.what.now x)
           c.args.tree.now.space.table.shared.key c.args.tree.now.tuning
           c.loop-come.course.adapting c.turns-come.new.course.adapting c.turns-come.result
-          stop.Empty before.0.upper behind.0.upper empty c.turns-come.ensures.turns.gone_on));
+          empty_halt before.0.upper behind.0.upper empty c.turns-come.ensures.turns.gone_on));
       won = λ alone. ap (λ (u : TreeView). u.lost) c.refill.ensures.gave.upper
           ∙ (stop_won (λ (x : _). g.A.Attempt.edits c.args.order.now.what.now x)
-          c.turns-come.result stop.Empty before.0.upper behind.0.upper empty
+          c.turns-come.result empty_halt before.0.upper behind.0.upper empty
           (c.turns-come.ensures.turns.won (alone_on
           c.args.tree.now.space.table.shared.key start.0.upper before.0.upper i.further.number
           alone)) ∙ i.won alone);
@@ -110,7 +118,7 @@ loop-come-preserved g c = let i = c.loop-come.invariant in
           subst (HasWaited c.args.tree.now.space.table.shared.key
           (g.A.Attempt.adds c.args.order.now.what.now) start.0.upper) (sym c.refill.ensures.gave.upper)
           (has_waited c.args.tree.now.space.table.shared.key
-          (g.A.Attempt.adds c.args.order.now.what.now) c.turns-come.result stop.Empty
+          (g.A.Attempt.adds c.args.order.now.what.now) c.turns-come.result empty_halt
           start.0.upper behind.0.upper
           empty
           (attempts_so_far tells c.args.tree.now.space.table.shared.key
@@ -122,21 +130,21 @@ loop-come-preserved g c = let i = c.loop-come.invariant in
           let z = c.args.tree.now.space.table.shared.key in
           let adds = g.A.Attempt.adds c.args.order.now.what.now in
           subst (HasCutFull z adds start.0.upper) (sym c.refill.ensures.gave.upper)
-          (stopped_cut edits z adds c.turns-come.result stop.Empty start.0.upper behind.0.upper
+          (stopped_cut edits z adds c.turns-come.result empty_halt start.0.upper behind.0.upper
           empty
           (cuts_so_far edits z adds c.turns-come.result start.0.upper before.0.upper behind.0.upper
           i.full c.turns-come.ensures.turns.cut));
       worn = omega (arith, i.worn, met.1, given.1);
       unspent = (c.in_default.ensures.again refl).unspent;
       lags = (c.in_default.ensures.again refl).unlagged
-          ∙ ((c.turns-come.ensures.pinned i.unspent).lags ∙ i.lags);
+          ∙ (c.turns-come.ensures.pinned.lags ∙ i.lags);
       first = inr (empty_before (vec_len c.loop-come.pass.kept.rows) c.kept-kept.result
           (vec_len c.refill.new.pass.kept.rows) start before behind last
           c.args.pass.now.kept.rows c.kept-kept.ensures (c.in_default.ensures.again refl).some
           (let one = i.counted.more in let two = c.turns-come.ensures.counted.more in
           omega arith)
           (c.in_default.ensures.again refl).begins i.first met given
-          (c.turns-come.ensures.pinned i.unspent) c.refill.ensures.gave.lags c.refill.ensures.looked);
+          c.turns-come.ensures.pinned c.refill.ensures.gave.lags c.refill.ensures.looked);
     }
 
 pub returns-in-Err-clause-few : goal.returns-in-Err-clause-few
@@ -144,7 +152,7 @@ returns-in-Err-clause-few g c =
     few_from c.args.pass.now.seat.me c.turns-come.new.pass.seat.me c.refill.new.pass.seat.me
     c.refill.new.pass.kept.rows
     (let before = c.loop-come.invariant.looks in
-    let same = (c.turns-come.ensures.pinned c.loop-come.invariant.unspent).looks in
+    let same = c.turns-come.ensures.pinned.looks in
     omega arith) (c.in-Err.ensures.few refl)
 
 pub returns-else-is_empty-clause-few : goal.returns-else-is_empty-clause-few
@@ -152,7 +160,7 @@ returns-else-is_empty-clause-few g c =
     few_from c.args.pass.now.seat.me c.turns-come.new.pass.seat.me c.keep_few.new.pass.seat.me
     c.keep_few.new.pass.kept.rows
     (let before = c.loop-come.invariant.looks in
-    let same = (c.turns-come.ensures.pinned c.loop-come.invariant.unspent).looks in
+    let same = c.turns-come.ensures.pinned.looks in
     omega arith) c.keep_few.ensures.few
 
 pub returns-in-Err-clause-come : goal.returns-in-Err-clause-come
@@ -162,7 +170,7 @@ returns-in-Err-clause-come g c = let i = c.loop-come.invariant in
     let behind = c.turns-come.new.pass.seat.me.0.upper in
     subst (IsFurther u) (sym c.refill.ensures.gave.upper)
     (further_on u before behind i.further
-    (stopped_further tells c.args.tree.now.space.table.shared.key c.turns-come.result stop.Empty
+    (stopped_further tells c.args.tree.now.space.table.shared.key c.turns-come.result empty_halt
     before behind (c.if-is_empty.ensures.0 refl) c.turns-come.ensures.tried))
 
 pub returns-else-is_empty-clause-come : goal.returns-else-is_empty-clause-come
@@ -181,7 +189,7 @@ returns-in-Err-clause-caused g c = let i = c.loop-come.invariant in
     let behind = c.turns-come.new.pass.seat.me in let last = c.refill.new.pass.seat.me in
     let z = c.args.tree.now.space.table.shared.key in
     let met = subst
-    (λ (x : Result _ Stop). HasMetInAttempt x before behind) (c.if-is_empty.ensures.0 refl)
+    (λ (x : Result _ Halt). HasStopped x before behind) (c.if-is_empty.ensures.0 refl)
     c.turns-come.ensures.found in
     refill_caused z c.args.pass.now.number c.args.order.now.budget c.kept-kept.result
     (g.A.Attempt.adds c.args.order.now.what.now) c.in-Err.why
@@ -199,9 +207,9 @@ returns-in-Err-clause-caused g c = let i = c.loop-come.invariant in
     c.args.pass.now.kept.rows c.loop-come.pass.kept.rows c.kept-kept.ensures i.resting.are_kept
     i.first
     (let two = c.turns-come.ensures.counted.more in let three = c.refill.ensures.counted.more in
-    omega arith) met c.refill.ensures.gave.met (c.turns-come.ensures.pinned i.unspent)
+    omega arith) met c.refill.ensures.gave.met c.turns-come.ensures.pinned
     c.refill.ensures.gave.lags)
-    (let more = i.looks in let same = (c.turns-come.ensures.pinned i.unspent).looks in omega arith)
+    (let more = i.looks in let same = c.turns-come.ensures.pinned.looks in omega arith)
     (subst (λ (k : ℕ).
     IsRefill z.passes k c.args.order.now.budget c.kept-kept.result c.refill.new.spent
     c.in-Err.why behind last c.refill.new.pass.kept.rows)
@@ -225,7 +233,6 @@ returns-else-is_empty-clause-caused g c = let i = c.loop-come.invariant in
     )
     record {
       full = λ e. let wrong : false ≡ true = c.if-is_empty.ensures.1 e in cc;
-      split = c.turns-come.ensures.no_split;
       deep = λ e. subst
           (λ (u : TreeView). IsFullSince z adds u) (sym upper)
           (c.turns-come.ensures.deep e);
@@ -243,22 +250,22 @@ returns-else-is_empty-clause-caused g c = let i = c.loop-come.invariant in
             last c.add-course.ensures.sum
             c.keep_few.ensures.lost upper);
       };
-      worn = λ e. let met = subst (λ (x : Result _ Stop). HasMetInAttempt x before behind) e found in
+      worn = λ e. let met = subst (λ (x : Result _ Halt). HasStopped x before behind) e found in
           omega (arith, i.worn, met.1, given.1);
     }
 
 pub returns-in-Err-clause-lags : goal.returns-in-Err-clause-lags
 returns-in-Err-clause-lags g c = let i = c.loop-come.invariant in
-    let same = (c.turns-come.ensures.pinned i.unspent).lags in let once = c.refill.ensures.gave.lags in (
+    let same = c.turns-come.ensures.pinned.lags in let once = c.refill.ensures.gave.lags in (
       (let before = i.lags in let one = once.0 in omega arith),
-      ap (λ (x : Met). x.lags) once.1 ∙ ((c.turns-come.ensures.pinned i.unspent).entered ∙ i.lags),
+      ap (λ (x : Met). x.lags) once.1 ∙ (c.turns-come.ensures.pinned.entered ∙ i.lags),
     )
 
 pub returns-else-is_empty-clause-lags : goal.returns-else-is_empty-clause-lags
 returns-else-is_empty-clause-lags g c = let i = c.loop-come.invariant in
-    let same = (c.turns-come.ensures.pinned i.unspent).lags in let once = c.keep_few.ensures.gave.lags in (
+    let same = c.turns-come.ensures.pinned.lags in let once = c.keep_few.ensures.gave.lags in (
       (let before = i.lags in let one = once.0 in omega arith),
-      ap (λ (x : Met). x.lags) once.1 ∙ ((c.turns-come.ensures.pinned i.unspent).entered ∙ i.lags),
+      ap (λ (x : Met). x.lags) once.1 ∙ (c.turns-come.ensures.pinned.entered ∙ i.lags),
     )
 
 pub returns-in-Err-clause-turns : goal.returns-in-Err-clause-turns
@@ -273,7 +280,7 @@ returns-in-Err-clause-turns g c = record {
       (stopped_waits
       (λ (x : _). g.A.Attempt.edits c.args.order.now.what.now x)
       c.args.tree.now.space.table.shared.key c.args.tree.now.tuning
-      c.loop-come.course.adapting c.turns-come.new.course.adapting c.turns-come.result stop.Empty
+      c.loop-come.course.adapting c.turns-come.new.course.adapting c.turns-come.result empty_halt
       c.loop-come.pass.seat.me.0.upper c.turns-come.new.pass.seat.me.0.upper
       (c.if-is_empty.ensures.0 refl) c.turns-come.ensures.turns.gone_on));
   grown = λ alone. let tells = λ (x : _).
@@ -283,7 +290,7 @@ returns-in-Err-clause-turns g c = record {
       let u = c.args.pass.now.seat.me.0.upper in
       let i = c.loop-come.invariant in
       subst (HasWaited z adds u) (sym c.refill.ensures.gave.upper)
-      (has_waited z adds c.turns-come.result stop.Empty u c.turns-come.new.pass.seat.me.0.upper
+      (has_waited z adds c.turns-come.result empty_halt u c.turns-come.new.pass.seat.me.0.upper
       (c.if-is_empty.ensures.0 refl)
       (attempts_so_far tells z adds c.turns-come.result u c.loop-come.pass.seat.me.0.upper
       c.turns-come.new.pass.seat.me.0.upper
@@ -292,7 +299,7 @@ returns-in-Err-clause-turns g c = record {
   won = λ alone. let i = c.loop-come.invariant in
       ap (λ (u : TreeView). u.lost) c.refill.ensures.gave.upper
       ∙ (stop_won
-      (λ (x : _). g.A.Attempt.edits c.args.order.now.what.now x) c.turns-come.result stop.Empty
+      (λ (x : _). g.A.Attempt.edits c.args.order.now.what.now x) c.turns-come.result empty_halt
       c.loop-come.pass.seat.me.0.upper c.turns-come.new.pass.seat.me.0.upper
       (c.if-is_empty.ensures.0 refl) (c.turns-come.ensures.turns.won (alone_on
       c.args.tree.now.space.table.shared.key c.args.pass.now.seat.me.0.upper
@@ -302,7 +309,7 @@ returns-in-Err-clause-turns g c = record {
       let adds = g.A.Attempt.adds c.args.order.now.what.now in
       let u = c.args.pass.now.seat.me.0.upper in
       subst (HasCutFull z adds u) (sym c.refill.ensures.gave.upper)
-      (stopped_cut edits z adds c.turns-come.result stop.Empty u
+      (stopped_cut edits z adds c.turns-come.result empty_halt u
       c.turns-come.new.pass.seat.me.0.upper (c.if-is_empty.ensures.0 refl)
       (cuts_so_far edits z adds c.turns-come.result u c.loop-come.pass.seat.me.0.upper
       c.turns-come.new.pass.seat.me.0.upper c.loop-come.invariant.full

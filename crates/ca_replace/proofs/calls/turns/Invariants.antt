@@ -1,4 +1,4 @@
-use Rattle.std.proofs.Common.{◌≡◌, ◌⊎◌, ◌-◌}
+use Rattle.std.proofs.Common.{◌≡◌, ◌⊎◌, ◌-◌, ◌<◌}
 use Rattle.ca_base.specs.Counting.{HasMet}
 use Rattle.ca_base.specs.Progress.{IsFurther}
 use Rattle.ca_node.specs.States.{IsAlone}
@@ -10,18 +10,18 @@ use Rattle.ca_replace.specs.Growing.{HasWaited}
 use Rattle.ca_replace.specs.Resting.{IsResting}
 use Rattle.ca_replace.proofs.calls.turns.Given as goal
 
-abbrev pub invariant-loop-pass : goal.invariant-loop-pass
-invariant-loop-pass g l = record {
+abbrev pub invariant-loop-course : goal.invariant-loop-course
+invariant-loop-course g l = record {
   number : l.pass.number ≡ l.fn.pass.number;
   resting : IsResting l.tree.space.table.shared.table_id l.tree.space.table.shared.key l.pass.number
       l.pass.tally l.pass.kept.rows l.pass.seat;
   further : IsFurther l.fn.pass.seat.me.0.upper l.pass.seat.me.0.upper;
   counted : IsPaid l.fn.course.spent l.course.spent l.fn.pass.seat.me l.pass.seat.me;
   -- No turn was made yet, or the pass pinned.
-  pinned : ((l.course.spent ≡ l.fn.course.spent)
-      × (l.pass.seat.me.0.pin ≡ l.fn.pass.seat.me.0.pin)
+  pinned : ((l.pass.seat.me.0.pin ≡ l.fn.pass.seat.me.0.pin)
       × (l.pass.seat.me.0.claims ≡ l.fn.pass.seat.me.0.claims))
       ⊎ HasPinned l.fn.pass.seat.me l.pass.seat.me;
+  unspent : total l.course.spent < l.order.budget;
   met : HasMet 0 0 l.fn.pass.seat.me l.pass.seat.me;
   waits : Waits l.fn.course.adapting l.course.adapting l.fn.pass.seat.me.0.upper
       l.pass.seat.me.0.upper;
@@ -34,5 +34,5 @@ invariant-loop-pass g l = record {
       l.fn.pass.seat.me.0.upper l.pass.seat.me.0.upper;
 }
 
-abbrev pub decreases-loop-pass : goal.decreases-loop-pass
-decreases-loop-pass g l = l.budget - total l.course.spent
+abbrev pub decreases-loop-course : goal.decreases-loop-course
+decreases-loop-course g l = l.budget - total l.course.spent

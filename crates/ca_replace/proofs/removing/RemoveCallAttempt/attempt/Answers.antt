@@ -15,11 +15,12 @@ use Rattle.ca_replace.proofs.Meeting.{further_on}
 use Rattle.ca_replace.proofs.Cutting.{entered_cut, looked_cut, stop_cut}
 use Rattle.ca_base.specs.Counting.{losses}
 use Rattle.ca_rows.specs.declared.view.Pin.{Pin}
-use Rattle.ca_replace.proofs.Counted.{none_paid, done_stopped, stop_stopped}
+use Rattle.ca_replace.proofs.Counted.{none_paid, stop_stopped}
 use Rattle.ca_replace.proofs.Entries.{held_upper, held_looked, read_by}
 use Rattle.ca_replace.proofs.Growing.{alone_on, entered_grown, looked_grown, stop_grown}
 use Rattle.ca_replace.proofs.Winning.{won_on}
 use Rattle.ca_replace.proofs.Numbering.{numbered_as}
+use Rattle.ca_replace.proofs.Behind.{frame_behind, frame_entered, ready_behind, turn_edited, turn_entered, turn_halted}
 use Rattle.ca_replace.proofs.removing.RemoveCallAttempt.attempt.Goals as goal
 
 pub fetch-place-requires-clause-unanswered : goal.fetch-place-requires-clause-unanswered
@@ -71,63 +72,16 @@ returns-in-Ok-remove_there-clause-tried c = let key : List ℕ = c.args.self.now
     c.in-Ok-remove_there.ensures.tried
 
 pub returns-in_default-clause-frame : goal.returns-in_default-clause-frame
-returns-in_default-clause-frame c = record {
-  same = (
-    c.enter.ensures.frame.same.0 ∙ c.fetch-place.ensures.looked.same.0,
-    c.enter.ensures.frame.same.1 ∙ c.fetch-place.ensures.looked.same.1,
-  );
-  number = c.enter.ensures.frame.number ∙ c.fetch-place.ensures.looked.number;
-  tally = λ h.
-      tallied_read c.fetch-place.new.pass.tally c.enter.new.pass.tally
-      c.fetch-place.new.pass.seat.me
-      c.enter.new.pass.seat.me _ c.enter.ensures.frame.tally c.enter.ensures.entered
-      (c.fetch-place.ensures.looked.tally h);
-  pin = (
-    ap (λ (m : MyTree). m.0.sizes) c.enter.ensures.entered.now ∙ c.fetch-place.ensures.looked.still.0,
-    ap (λ (m : MyTree). m.0.pin) c.enter.ensures.entered.now ∙ c.fetch-place.ensures.looked.still.1,
-  );
-  none = held_upper c.args.tree.now.space.table.shared.key.rows c.fetch-place.new.pass.kept
-      c.enter.new.pass.kept
-      c.fetch-place.new.pass.seat.me c.enter.new.pass.seat.me _ []
-      (held_looked c.args.tree.now.space.table.shared.key.rows c.args.pass.now.kept
-      c.fetch-place.new.pass.kept c.args.pass.now.seat.me
-      c.fetch-place.new.pass.seat.me [] c.requires.ready.none
-      c.fetch-place.ensures.looked.kept c.fetch-place.ensures.looked.still.2
-      c.fetch-place.ensures.looked.quiet.most) c.enter.ensures.entered.now
-      c.enter.ensures.frame.kept;
-}
+returns-in_default-clause-frame c =
+    frame_entered c.fetch-place.ensures.looked c.requires.ready c.requires.known c.enter.new.pass _ c.enter.ensures.frame c.enter.ensures.entered
 
 pub returns-in-Ok-remove_there-clause-frame : goal.returns-in-Ok-remove_there-clause-frame
-returns-in-Ok-remove_there-clause-frame c = record {
-  same = (
-    c.remove_there.ensures.frame.same.0 ∙ c.fetch-place.ensures.looked.same.0,
-    c.remove_there.ensures.frame.same.1
-        ∙ c.fetch-place.ensures.looked.same.1,
-  );
-  number = c.remove_there.ensures.frame.number ∙ c.fetch-place.ensures.looked.number;
-  tally = λ h. c.remove_there.ensures.frame.tally (c.fetch-place.ensures.looked.tally h);
-  pin = (
-    c.remove_there.ensures.frame.pin.0 ∙ c.fetch-place.ensures.looked.still.0,
-    c.remove_there.ensures.frame.pin.1
-        ∙ c.fetch-place.ensures.looked.still.1,
-  );
-  none = c.remove_there.ensures.frame.none;
-}
+returns-in-Ok-remove_there-clause-frame c =
+    frame_behind c.fetch-place.ensures.looked c.requires.ready c.requires.known c.remove_there.new.pass c.remove_there.ensures.frame
 
 pub returns-in-Err-clause-frame : goal.returns-in-Err-clause-frame
-returns-in-Err-clause-frame c = record {
-  same = (
-    c.remove_there.ensures.frame.same.0 ∙ c.fetch-place.ensures.looked.same.0,
-    c.remove_there.ensures.frame.same.1 ∙ c.fetch-place.ensures.looked.same.1,
-  );
-  number = c.remove_there.ensures.frame.number ∙ c.fetch-place.ensures.looked.number;
-  tally = λ h. c.remove_there.ensures.frame.tally (c.fetch-place.ensures.looked.tally h);
-  pin = (
-    c.remove_there.ensures.frame.pin.0 ∙ c.fetch-place.ensures.looked.still.0,
-    c.remove_there.ensures.frame.pin.1 ∙ c.fetch-place.ensures.looked.still.1,
-  );
-  none = c.remove_there.ensures.frame.none;
-}
+returns-in-Err-clause-frame c =
+    frame_behind c.fetch-place.ensures.looked c.requires.ready c.requires.known c.remove_there.new.pass c.remove_there.ensures.frame
 
 pub returns-in-Err-clause-tried : goal.returns-in-Err-clause-tried
 returns-in-Err-clause-tried c = (
@@ -138,112 +92,20 @@ returns-in-Err-clause-tried c = (
 )
 
 pub remove_there-requires-clause-ready : goal.remove_there-requires-clause-ready
-remove_there-requires-clause-ready c = record {
-  own = (
-    c.fetch-place.ensures.looked.same.0 ∙ c.requires.ready.own.0,
-    c.fetch-place.ensures.looked.still.0 ∙ c.requires.ready.own.1,
-  );
-  numbered = numbered_as c.args.pass.now.number c.fetch-place.new.pass.number
-      c.args.pass.now.seat.me.0.pin c.fetch-place.new.pass.seat.me.0.pin c.fetch-place.ensures.looked.number
-      (ap (λ (p : Pin). p.number) c.fetch-place.ensures.looked.still.1) c.requires.ready.numbered;
-  pinned = ap (λ (p : Pin). p.pinned) c.fetch-place.ensures.looked.still.1
-      ∙ c.requires.ready.pinned;
-  number = subst
-      (λ n. 0 < n) (sym c.fetch-place.ensures.looked.further.number) c.requires.ready.number;
-  none = held_looked c.args.tree.now.space.table.shared.key.rows c.args.pass.now.kept
-      c.fetch-place.new.pass.kept
-      c.args.pass.now.seat.me c.fetch-place.new.pass.seat.me []
-      c.requires.ready.none c.fetch-place.ensures.looked.kept c.fetch-place.ensures.looked.still.2
-      c.fetch-place.ensures.looked.quiet.most;
-}
+remove_there-requires-clause-ready c =
+    ready_behind c.fetch-place.ensures.looked c.requires.ready c.requires.known
 
 pub returns-in_default-clause-turn : goal.returns-in_default-clause-turn
-returns-in_default-clause-turn c = record {
-  met_as = tt;
-  gone_on = entered_waits c.args.course.now.adapting c.args.pass.now.seat.me.0.upper
-      c.fetch-place.new.pass.seat.me.0.upper
-      c.fetch-place.new.pass.seat.me c.enter.new.pass.seat.me _ refl
-      c.fetch-place.ensures.looked.quiet.idle c.enter.ensures.entered;
-  counted = none_paid c.args.course.now.spent c.args.pass.now.seat.me c.enter.new.pass.seat.me
-      (ap losses c.enter.ensures.entered.now
-      ∙ c.fetch-place.ensures.looked.quiet.lost) (ap (λ (m : MyTree). m.0.upper.turns) c.enter.ensures.entered.now
-      ∙ c.fetch-place.ensures.looked.quiet.same_turns);
-  found = done_stopped _ c.args.pass.now.seat.me c.enter.new.pass.seat.me;
-  grown = λ alone.
-      entered_grown c.args.pass.now.seat.me c.fetch-place.new.pass.seat.me c.enter.new.pass.seat.me
-      _
-      c.fetch-place.ensures.looked.quiet c.enter.ensures.entered;
-  won = λ alone. ap (λ (m : MyTree). m.0.upper.lost) c.enter.ensures.entered.now
-      ∙ c.fetch-place.ensures.looked.quiet.idle.1;
-  cut = entered_cut c.args.pass.now.seat.me c.fetch-place.new.pass.seat.me c.enter.new.pass.seat.me
-      _
-      c.fetch-place.ensures.looked.quiet c.enter.ensures.entered;
-}
+returns-in_default-clause-turn c =
+    turn_entered c.fetch-place.ensures.looked c.requires.ready c.requires.known c.enter.new.pass _ c.enter.ensures.frame c.enter.ensures.entered
+    (λ (was : Bool). was) None c.args.tree.now.tuning c.args.course.now _ false refl
 
 pub returns-in-Ok-remove_there-clause-turn : goal.returns-in-Ok-remove_there-clause-turn
-returns-in-Ok-remove_there-clause-turn c = record {
-  met_as = c.in-Ok-remove_there.ensures.turn.met_as;
-  gone_on = adapts_after c.args.tree.now.space.table.shared.key c.args.tree.now.tuning
-      c.args.course.now.adapting
-      c.remove_there.new.course.adapting.last c.args.pass.now.seat.me.0.upper
-      c.fetch-place.new.pass.seat.me.0.upper c.remove_there.new.pass.seat.me.0.upper
-      c.fetch-place.ensures.looked.quiet.idle c.in-Ok-remove_there.ensures.turn.gone_on;
-  counted = paid_behind c.args.course.now.spent c.remove_there.new.course.spent
-      c.args.pass.now.seat.me c.fetch-place.new.pass.seat.me
-      c.remove_there.new.pass.seat.me c.fetch-place.ensures.looked.quiet
-      c.remove_there.ensures.turn.counted;
-  found = done_stopped _ c.args.pass.now.seat.me c.remove_there.new.pass.seat.me;
-  grown = looked_grown {T = Unit {0}} c.args.tree.now.space.table.shared.key None (Ok tt)
-      c.args.pass.now.seat.me
-      c.fetch-place.new.pass.seat.me c.remove_there.new.pass.seat.me.0.upper c.requires.known
-      c.fetch-place.ensures.looked.looking.known c.fetch-place.ensures.looked.further
-      c.fetch-place.ensures.looked.quiet c.in-Ok-remove_there.ensures.turn.grown;
-  won = λ alone. won_on true c.args.pass.now.seat.me.0.upper c.fetch-place.new.pass.seat.me.0.upper
-      c.remove_there.new.pass.seat.me.0.upper
-      c.fetch-place.ensures.looked.quiet.idle.1
-      (c.in-Ok-remove_there.ensures.turn.won
-      (alone_on c.args.tree.now.space.table.shared.key c.args.pass.now.seat.me.0.upper
-      c.fetch-place.new.pass.seat.me.0.upper
-      c.fetch-place.ensures.looked.further.number alone));
-  cut = looked_cut
-      (λ (_ : Unit {0}). true) c.args.tree.now.space.table.shared.key None (Ok tt)
-      c.args.pass.now.seat.me
-      c.fetch-place.new.pass.seat.me c.remove_there.new.pass.seat.me.0.upper
-      c.fetch-place.ensures.looked.quiet c.in-Ok-remove_there.ensures.turn.cut;
-}
+returns-in-Ok-remove_there-clause-turn c =
+    turn_edited c.fetch-place.ensures.looked c.requires.ready c.requires.known c.remove_there.new.pass (λ (was : Bool). was) None None
+    c.args.tree.now.tuning c.args.course.now c.remove_there.new.course _ true refl c.in-Ok-remove_there.ensures.turn
 
 pub returns-in-Err-clause-turn : goal.returns-in-Err-clause-turn
-returns-in-Err-clause-turn c = record {
-  met_as = tt;
-  gone_on = waits_on c.args.course.now.adapting c.args.course.now.adapting
-      c.remove_there.new.course.adapting c.args.pass.now.seat.me.0.upper
-      c.fetch-place.new.pass.seat.me.0.upper c.remove_there.new.pass.seat.me.0.upper
-      (idle_waits c.args.course.now.adapting c.args.pass.now.seat.me.0.upper
-      c.fetch-place.new.pass.seat.me.0.upper c.fetch-place.ensures.looked.quiet.idle)
-      c.in-Err.ensures.turn.gone_on;
-  counted = paid_behind c.args.course.now.spent c.remove_there.new.course.spent
-      c.args.pass.now.seat.me c.fetch-place.new.pass.seat.me
-      c.remove_there.new.pass.seat.me c.fetch-place.ensures.looked.quiet
-      c.remove_there.ensures.turn.counted;
-  found = stop_stopped (Unit {0}) Bool c.in-Err.stop c.args.pass.now.seat.me
-      c.fetch-place.new.pass.seat.me
-      c.remove_there.new.pass.seat.me c.fetch-place.ensures.looked.quiet
-      c.in-Err.ensures.turn.found;
-  grown = stop_grown (Unit {0}) Bool c.args.tree.now.space.table.shared.key None c.in-Err.stop
-      c.args.pass.now.seat.me
-      c.fetch-place.new.pass.seat.me c.remove_there.new.pass.seat.me.0.upper c.requires.known
-      c.fetch-place.ensures.looked.looking.known c.fetch-place.ensures.looked.further
-      c.fetch-place.ensures.looked.quiet c.in-Err.ensures.turn.grown;
-  won = λ alone. won_on false c.args.pass.now.seat.me.0.upper c.fetch-place.new.pass.seat.me.0.upper
-      c.remove_there.new.pass.seat.me.0.upper
-      c.fetch-place.ensures.looked.quiet.idle.1
-      (c.in-Err.ensures.turn.won
-      (alone_on c.args.tree.now.space.table.shared.key c.args.pass.now.seat.me.0.upper
-      c.fetch-place.new.pass.seat.me.0.upper
-      c.fetch-place.ensures.looked.further.number alone));
-  cut = stop_cut (Unit {0}) Bool (λ _. true)
-      (λ (was : Bool). was) c.args.tree.now.space.table.shared.key None c.in-Err.stop
-      c.args.pass.now.seat.me c.fetch-place.new.pass.seat.me c.remove_there.new.pass.seat.me.0.upper
-      c.fetch-place.ensures.looked.quiet
-      c.in-Err.ensures.turn.cut;
-}
+returns-in-Err-clause-turn c =
+    turn_halted c.fetch-place.ensures.looked c.requires.ready c.requires.known c.remove_there.new.pass (λ (was : Bool). was) None None
+    c.args.tree.now.tuning c.args.course.now c.remove_there.new.course _ c.in-Err.stop (λ _. refl) c.in-Err.ensures.turn
