@@ -4,7 +4,8 @@ use Rattle.ca_model.specs.declared.outcome.Spent.{Spent}
 use Rattle.ca_node.specs.Told.{MyTree}
 use Rattle.ca_base.specs.declared.stop.Stop.{Stop}
 use Rattle.ca_base.specs.declared.stop.Stop.TheVariants as stop
-use Rattle.ca_base.specs.Counting.{losses, IsSpent, HasCleared, HasMet, HasStoppedBy, PutsBack, TakesKept, lost_by}
+use Rattle.ca_base.specs.Counting.{losses, IsSpent, HasCleared, HasFound, HasMet, HasStoppedBy, PutsBack, TakesKept, lost_by}
+use Rattle.ca_base.specs.Writing.{IsRewritten}
 use Rattle.ca_rows.specs.declared.kept.Kept.{Kept}
 use Rattle.ca_rows.specs.declared.kept.KeptRows.{KeptRows}
 
@@ -94,3 +95,22 @@ cleared_after (Ok x) k m l kept kept0 kept1 kept' same first list h = tt
 cleared_after (Err why) k m l kept kept0 kept1 kept' same first list h =
     as_begun (lost_by why) k m l kept kept1 kept' same
     (first.0, first.1 ∙ ap (λ (x : KeptRows). first.0 ++ x.rows.items) (sym list)) h
+
+-- Rows were taken, and nothing was lost from then until a base was to be exchanged.
+pub counted_after : (a b c : Spent) (k m m' n : MyTree) → IsSpent a b k m → losses m' ≡ losses m
+    → IsSpent b c m' n → IsSpent a c k n
+counted_after a b c k m m' n x same y =
+    spent_both a b c k m n x (spent_both b b c m m' n (none_spent b m m' same) y)
+
+-- A row that was written tells nothing of the pool.
+pub written_met : (row : ℕ) (its : List ℕ) (m m' : MyTree) → IsRewritten row its m m' → HasMet 0 0 m m'
+written_met row its m m' w = let empty = ap (λ (y : MyTree). y.0.empty) w.only in
+    let worn = ap (λ (y : MyTree). y.0.worn) w.only in (omega arith, omega arith)
+
+pub ended_after : (r : Result (Unit {0}) Stop) (k m n : MyTree) → HasMet 0 0 k m
+    → losses m ≡ losses k → HasFound r m n → HasFound r k n
+ended_after (Ok x) k m n met same h = (met_both 0 0 0 0 k m n met h.0, h.1 ∙ same)
+ended_after (Err (stop.Lost x)) k m n met same h = let more = h.0 in
+    (omega arith, met_both 0 0 0 0 k m n met h.1)
+ended_after (Err stop.Empty) k m n met same h = met_both 0 0 1 0 k m n met h
+ended_after (Err stop.Worn) k m n met same h = met_both 0 0 0 1 k m n met h

@@ -6,17 +6,20 @@ use mathlib.Core.Option.{some, none}
 use Rattle.ca_model.specs.StoreMap.{IsStoreMap}
 use Rattle.ca_node.specs.Laws.{in_nothing}
 use Rattle.ca_node.specs.Links.{IsIn, AreApart}
-use Rattle.ca_node.specs.Row.{count, items, key, pair, item_words, row_in}
+use Rattle.ca_node.specs.Row.{count, items, key, pair, item_words, row_in, IsHeaded}
 use Rattle.ca_node.specs.Told.{MyTree, IsLastThere, IsDivision, IsDivided, given}
 use Rattle.ca_node.specs.TreeView.{Note, TreeView, Division}
 use Rattle.ca_node.specs.declared.cursor.Cursor.{Cursor}
 use Rattle.ca_node.proofs.HeldRows.{given_fewer, taken_out_more}
 use Rattle.ca_node.proofs.Looking.{in_more}
 use Rattle.ca_base.specs.Finding.{IsAtCursor, IsReadable}
-use Rattle.ca_base.specs.Putting.{IsShownLast, first_note, words_of, last_words}
+use Rattle.ca_base.specs.Putting.{IsShownLast, first_note, words_of}
 use Rattle.ca_base.specs.Splitting.{SpellsRoute, IsHalving, division_by, division_of}
 use Rattle.ca_base.specs.Taking.{HasHeld, AreHeld, AreUnlinked}
-use Rattle.ca_base.specs.Writing.{IsRewritten, SpellsBase}
+use Rattle.ca_base.specs.Prefixes.{SpellsHalf, worded}
+use Rattle.ca_base.specs.Writing.{IsRewritten}
+use Rattle.ca_base.proofs.NewFronts.{half_items, half_headed}
+use Rattle.ca_rows.specs.Layout.{row_limit}
 use Rattle.ca_base.proofs.Halves.{half_long}
 use Rattle.ca_base.proofs.Rebasing.{last_there, note_is}
 use Rattle.ca_base.proofs.Unlinking.{few_at_once, unlinked_then}
@@ -92,10 +95,10 @@ pub record AreWritten (z : Sizes) (m0 m1 m2 m3 m4 : MyTree) (route left right ma
   pub wrote_left : IsRewritten left l m1 m2
   pub wrote_right : IsRewritten right r m2 m3
   pub wrote_route : IsRewritten route t m3 m4
-  pub is_left : SpellsBase (take (many / 2) (drop 0 (last_words m0.0.upper))) (cursor.level + 1)
-      4294967296 l
-  pub is_right : SpellsBase (take (many - many / 2) (drop (many / 2) (last_words m0.0.upper)))
-      (cursor.level + 1) 4294967296 r
+  pub is_left : SpellsHalf (first_note m0.0.upper.notes) 0 (many / 2) (cursor.level + 1) l
+  pub is_right : SpellsHalf (first_note m0.0.upper.notes) (many / 2) (many - many / 2)
+      (cursor.level + 1) r
+  pub few_rows : z.rows < row_limit
   pub is_route : SpellsRoute cursor.level
       (key (get_or (first_note m0.0.upper.notes).objects (many / 2) [])) left right attempt t
   pub short : length (key (get_or (first_note m0.0.upper.notes).objects (many / 2) [])) ≤ 1000
@@ -110,30 +113,49 @@ module _ (z : Sizes) (m0 m1 m2 m3 m4 : MyTree) (route left right many attempt : 
   abbrev note : Note
   note = first_note m0.0.upper.notes
 
-  abbrev these : List ℕ
-  these = last_words m0.0.upper
-
-  as_many : length these ≡ many
-  as_many = sym (w.many_are ∙ (w.shown.is_base.as_many ∙ length-map these row_in))
+  as_many : length (items note.its) ≡ many
+  as_many = sym (w.many_are ∙ w.shown.is_base.as_many)
 
   few : many ≤ z.leaf
-  few = let a = as_many in let b = w.shown.is_base.few in
-      omega (arith, length-take (count note.its) (drop items_word note.its))
+  few = let a = as_many in let b = w.shown.is_base.few in omega (
+    arith,
+    length-map (item_words note.its) row_in,
+    length-take (count note.its) (drop items_word note.its),
+  )
 
-  left_many : length (take (many / 2) (drop 0 these)) ≡ many / 2
-  left_many = let a = as_many in half_long these 0 (many / 2) (omega arith)
+  small : (r : ℕ) → IsIn r (items note.its) → r < row_limit
+  small r i = let named = w.shown.is_base.named r i in let all = w.few_rows in omega (arith, named.1)
 
-  right_many : length (take (many - many / 2) (drop (many / 2) these)) ≡ many - many / 2
-  right_many = let a = as_many in half_long these (many / 2) (many - many / 2) (omega arith)
+  left_items : items l ≡ take (many / 2) (items note.its)
+  left_items = half_items note 0 (many / 2) (cursor.level + 1) l w.is_left w.shown.is_base.as_many
+      small (let a = w.many_are in omega arith) (let a = w.some_left in omega arith)
+
+  right_items : items r ≡ take (many - many / 2) (drop (many / 2) (items note.its))
+  right_items = half_items note (many / 2) (many - many / 2) (cursor.level + 1) r w.is_right
+      w.shown.is_base.as_many small (let a = w.many_are in omega arith)
+      (let a = w.some_left in omega arith)
 
   -- The middle is where the left half ends.
   middle : length (items l) ≡ many / 2
-  middle = length-map (item_words l) row_in ∙ (ap (λ (xs : List ℕ). length xs) w.is_left.words_are ∙ left_many)
+  middle = let a = as_many in ap (λ (xs : List ℕ). length xs) left_items
+      ∙ half_long (items note.its) 0 (many / 2) (omega arith)
 
   -- The right half is all that the left one isn't.
-  rest : take (many - many / 2) (drop (many / 2) these) ≡ drop (many / 2) these
-  rest = ap (λ (n : ℕ). take (n - many / 2) (drop (many / 2) these)) (sym as_many)
-      ∙ take_rest these (many / 2)
+  rest : {A : Type 0} (xs : List A) → length xs ≡ many
+      → take (many - many / 2) (drop (many / 2) xs) ≡ drop (many / 2) xs
+  rest xs long = ap (λ (n : ℕ). take (n - many / 2) (drop (many / 2) xs)) (sym long)
+      ∙ take_rest xs (many / 2)
+
+  left_headed : IsHeaded l (take (many / 2) note.objects)
+  left_headed = half_headed note 0 (many / 2) (cursor.level + 1) l w.is_left
+      w.shown.is_base.as_many small (let a = w.many_are in omega arith)
+      (let a = w.some_left in omega arith)
+
+  right_headed : IsHeaded r (drop (many / 2) note.objects)
+  right_headed = subst (IsHeaded r) (rest note.objects (sym w.many_are))
+      (half_headed note (many / 2) (many - many / 2) (cursor.level + 1) r w.is_right
+      w.shown.is_base.as_many small (let a = w.many_are in omega arith)
+      (let a = w.some_left in omega arith))
 
   others : (route ≢ left) × (route ≢ right) × (left ≢ right)
   others = three_apart route left right w.apart
@@ -168,18 +190,21 @@ module _ (z : Sizes) (m0 m1 m2 m3 m4 : MyTree) (route left right many attempt : 
     middle_is = let a = middle in let b = w.many_are in let c = w.some_left in omega arith;
     key_is = w.is_route.key_is ∙ ap (λ (n : ℕ). key (get_or note.objects n [])) (sym middle);
     is_left = record {
-      is_base = w.is_left.is_base;
-      level_is = w.is_left.level_is ∙ ap (λ (n : ℕ). n + 1) (sym w.at.level);
-      few = let a = w.is_left.count_is in let b = left_many in let c = few in omega arith;
-      unmarked = w.is_left.unmarked;
-      words_are = w.is_left.words_are ∙ ap (λ (n : ℕ). take n these) (sym middle);
+      is_base = w.is_left.spells.is_base;
+      level_is = w.is_left.spells.level_is ∙ ap (λ (n : ℕ). n + 1) (sym w.at.level);
+      few = let a = few in omega (arith, w.is_left.spells.count_is, length-take (many / 2) (worded (length w.is_left.prefix) (items note.its) note.objects));
+      unmarked = w.is_left.spells.unmarked;
+      items_are = left_items ∙ ap (λ (n : ℕ). take n (items note.its)) (sym middle);
+      headed = subst (λ (n : ℕ). IsHeaded l (take n note.objects)) (sym middle) left_headed;
     };
     is_right = record {
-      is_base = w.is_right.is_base;
-      level_is = w.is_right.level_is ∙ ap (λ (n : ℕ). n + 1) (sym w.at.level);
-      few = let a = w.is_right.count_is in let b = right_many in let c = few in omega arith;
-      unmarked = w.is_right.unmarked;
-      words_are = w.is_right.words_are ∙ (rest ∙ ap (λ (n : ℕ). drop n these) (sym middle));
+      is_base = w.is_right.spells.is_base;
+      level_is = w.is_right.spells.level_is ∙ ap (λ (n : ℕ). n + 1) (sym w.at.level);
+      few = let a = few in omega (arith, w.is_right.spells.count_is, length-take (many - many / 2) (drop (many / 2) (worded (length w.is_right.prefix) (items note.its) note.objects)));
+      unmarked = w.is_right.spells.unmarked;
+      items_are = right_items ∙ (rest (items note.its) as_many
+          ∙ ap (λ (n : ℕ). drop n (items note.its)) (sym middle));
+      headed = subst (λ (n : ℕ). IsHeaded r (drop n note.objects)) (sym middle) right_headed;
     };
   }
 
@@ -187,8 +212,8 @@ module _ (z : Sizes) (m0 m1 m2 m3 m4 : MyTree) (route left right many attempt : 
   halves : IsHalving many attempt (division_by note route left right t l r)
   halves = record {
     middle_is = middle;
-    left_statistic = w.is_left.statistic_is;
-    right_statistic = w.is_right.statistic_is;
+    left_statistic = w.is_left.spells.statistic_is;
+    right_statistic = w.is_right.spells.statistic_is;
     attempts = w.is_route.join_is;
   }
 

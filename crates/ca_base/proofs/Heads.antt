@@ -19,11 +19,11 @@ use Rattle.ca_node.proofs.WordOrder.{bytes_long}
 abbrev pub AreSmall : ℕ → List ℕ → Type 0
 AreSmall n bytes = (i : ℕ) → i < n → get_or bytes i 0 < 256
 
-rest_small : (n x : ℕ) (xs : List ℕ) → AreSmall (suc n) (x ∷ xs) → AreSmall n xs
+pub rest_small : (n x : ℕ) (xs : List ℕ) → AreSmall (suc n) (x ∷ xs) → AreSmall n xs
 rest_small n x xs small i l = small (suc i) (omega arith)
 
 -- So many bytes are less than that power of 256.
-front_fits : (n : ℕ) (bytes : List ℕ) → AreSmall n bytes → front_of n bytes < 256 ^ n
+pub front_fits : (n : ℕ) (bytes : List ℕ) → AreSmall n bytes → front_of n bytes < 256 ^ n
 front_fits zero bytes small = omega arith
 front_fits (suc n) [] small = base_pos (suc n)
 front_fits (suc n) (x ∷ xs) small = let first = small 0 (omega arith) in let rest = front_fits n xs (rest_small n x xs small) in
@@ -117,8 +117,8 @@ take_small n xs small i = ⊎_elim
     (cases_lt i n)
 
 -- The bytes of an object's key are bytes.
-pub key_small : (n : ℕ) (its : List ℕ) → AreSmall n (key its)
-key_small n its i _ = take_small (key_length its) (drop (key_place its) (object its))
+pub key_small : (i : ℕ) (its : List ℕ) → get_or (key its) i 0 < 256
+key_small i its = take_small (key_length its) (drop (key_place its) (object its))
     (λ j. subst (λ (x : ℕ). x < 256) (sym (get_or-drop (key_place its) (object its) j 0))
     (take_small (count its) (bytes_in (code_words its)) (bytes_small (code_words its)) (key_place its + j))) i
 
@@ -130,12 +130,3 @@ head_word key w fits has = front_same 5 key (to_be_bytes w64 w)
     ∙ (ap (λ (xs : List ℕ). get_or xs i 0) (sym has.front) ∙ get_or-take (length key) (to_be_bytes w64 w) i 0 inside))
     (λ (behind : length key ≤ i). get_or-eq_default key 0 behind ∙ sym (has.zeros i behind))
     (cases_lt i (length key))) ∙ front_word w fits
-
--- The bytes of a key that a word has are bytes.
-pub front_small : (key : List ℕ) (w : ℕ) → HasBytes key w → AreSmall 5 key
-front_small key w has i l = ⊎_elim
-    (λ (inside : i < length key). subst (λ (x : ℕ). x < 256)
-    (sym (get_or-take (length key) (to_be_bytes w64 w) i 0 inside)
-    ∙ (ap (λ (xs : List ℕ). get_or xs i 0) has.front ∙ get_or-take 8 key i 0 (omega arith))) (byte_small w i))
-    (λ (behind : length key ≤ i). subst (λ (x : ℕ). x < 256) (sym (get_or-eq_default key 0 behind)) (omega arith))
-    (cases_lt i (length key))

@@ -3,7 +3,7 @@ use Rattle.std.proofs.Common.{◌≡◌, ℕ, zero, suc, ◌+◌, ◌%◌, ◌<�
 use Rattle.std.proofs.lemmas.List.{get_or-take, get_or-drop, length-take-le, get_or-map, length-map}
 use mathlib.Core.Option.{some}
 use lib.ListN.{get_elem?}
-use Rattle.ca_node.specs.Row.{count, items, item_words, row_in, head_in, head_of}
+use Rattle.ca_node.specs.Row.{count, items, item_words, row_in, head_in, head_of, prefix_length}
 use Rattle.ca_node.specs.Told.{IsShown, IsShownWord}
 use Rattle.ca_node.specs.TreeView.{Note, TreeView}
 use Rattle.ca_base.specs.Finding.{IsReadable, IsObjectShown}
@@ -39,7 +39,7 @@ module _ (z : Sizes) (u : TreeView) (base : ℕ) (note : Note) (r : IsReadable z
   words_many = let few = r.few in let long = r.is_base.long in
       length-take-le (count note.its) (drop items_word note.its) (omega (arith, length-drop items_word note.its))
 
-  many : length (items note.its) ≡ count note.its
+  pub many : length (items note.its) ≡ count note.its
   many = length-map (item_words note.its) row_in ∙ words_many
 
   -- Its first word says how many objects it has.
@@ -63,12 +63,12 @@ module _ (z : Sizes) (u : TreeView) (base : ℕ) (note : Note) (r : IsReadable z
   pub head_is : (place word : ℕ)
       → ((its : List ℕ) → IsShown u base its → word ≡ get_or its (items_word + place) 0)
       → place < length note.objects
-      → head_in word ≡ head_of (get_or note.objects place [])
+      → head_in word ≡ head_of (prefix_length note.its) (get_or note.objects place [])
   head_is place word is l = let m = many in let w = words_many in let a = r.is_base.as_many in
       sym (get_or-map head_in (item_words note.its) place 0 0 (omega arith)
       ∙ ap head_in (word_is place word is l))
-      ∙ (ap (λ (hs : List ℕ). get_or hs place 0) r.is_base.headed
-      ∙ get_or-map head_of note.objects place [] 0 l)
+      ∙ (ap (λ (hs : List ℕ). get_or hs place 0) r.is_base.headed.headed
+      ∙ get_or-map (head_of (prefix_length note.its)) note.objects place [] 0 l)
 
   -- It names its object row.
   pub item_is : (place word : ℕ)

@@ -1,11 +1,11 @@
 -- The items of the base that was shown last, and a new base with some of them.
-use Rattle.std.proofs.Common.{◌≡◌, ℕ, ◌+◌, ◌-◌, ◌*◌, ◌<◌, ◌≤◌, List, length, take, drop, ◌++◌, get_or, sym, refl, ap, ◌∙◌, subst, inl, arith, length-take, length-drop, length-append}
+use Rattle.std.proofs.Common.{◌≡◌, ℕ, ◌+◌, ◌-◌, ◌<◌, ◌≤◌, List, length, take, drop, ◌++◌, get_or, sym, refl, ap, ◌∙◌, subst, inl, arith, length-take, length-drop, length-append}
 use Rattle.std.proofs.lemmas.List.{get_or-take, get_or-drop, get_or_append_left, get_or-append_right, length-take-le, get_or-map}
 use Rattle.ca_node.specs.Row.{count, row_in}
 use Rattle.ca_node.specs.Told.{MyTree, IsShown}
 use Rattle.ca_node.specs.TreeView.{Note, TreeView}
 use Rattle.ca_base.specs.Putting.{IsShownLast, first_note, last_items, last_words}
-use Rattle.ca_base.specs.Writing.{IsHeld, HasFilled, HasWritten, SpellsBase, base_head}
+use Rattle.ca_base.specs.Writing.{IsHeld, HasFilled, HasWritten, SpellsBase, HasEight, IsHeadWord, base_head}
 use Rattle.ca_base.proofs.Filling.{filled_as, filled_on, rewritten_again}
 use Rattle.ca_base.proofs.Spelling.{spells_base}
 use Rattle.ca_rows.specs.declared.sizes.Sizes.{Sizes}
@@ -35,19 +35,35 @@ module _ (z : Sizes) (u : TreeView) (base : ℕ) (shown : IsShownLast z u base) 
       → row_in word ≡ get_or (last_items u) k 0
   last_item k word is l = ap row_in (last_word k word is l) ∙ sym (get_or-map row_in (last_words u) k 0 0 l)
 
+-- The words before a base's items, the last ones of which have the prefix.
+pub head_written : (row : ℕ) (front : List ℕ) (at_level many statistic : ℕ) (k m n : MyTree)
+    → HasFilled row 0 7
+    (λ i word. word ≡ get_or (base_head (length front) at_level many statistic) i 0) k m
+    → HasFilled row 7 4 (HasEight front) m n
+    → HasFilled row 0 11 (IsHeadWord front at_level many statistic) k n
+head_written row front at_level many statistic k m n f g =
+    filled_on row 0 7 4 (IsHeadWord front at_level many statistic) k m n
+    (filled_as row 0 7 (λ i word. word ≡ get_or (base_head (length front) at_level many statistic) i 0)
+    (IsHeadWord front at_level many statistic) k m
+    (λ i word l is. record { head = λ _. is; prefix = λ h. absurd (omega arith) }) f)
+    (filled_as row 7 4 (HasEight front) (λ j. IsHeadWord front at_level many statistic (7 + j)) m n
+    (λ j word l is. let back : 7 + j - 7 ≡ j = omega arith in record {
+      head = λ h. absurd (omega arith);
+      prefix = λ _. subst (λ (i : ℕ). HasEight front i word) (sym back) is;
+    }) g)
+
 -- A row that was filled with a base's words is a base.
-pub base_written : (row at_level many statistic : ℕ) (these : List ℕ) (k m n : MyTree)
-    → IsHeld k row → at_level < 65536 → many ≡ length these
+pub base_written : (row at_level many statistic : ℕ) (front these : List ℕ) (k m n : MyTree)
+    → IsHeld k row → at_level < 65536 → many ≡ length these → length front ≤ 32
     → length these ≤ 120
-    → HasFilled row 0 7 (λ i word. word ≡ get_or (base_head at_level many statistic) i 0) k m
+    → HasFilled row 0 11 (IsHeadWord front at_level many statistic) k m
     → HasFilled row items_word (length these) (λ i word. word ≡ get_or these i 0) m n
-    → HasWritten row (SpellsBase these at_level statistic) k n
-base_written row at_level many statistic these k m n h low is few f g = let one = f h.0 h.1 h.2 in
+    → HasWritten row (SpellsBase front these at_level statistic) k n
+base_written row at_level many statistic front these k m n h low is short few f g =
+    let one = subst (λ (i : ℕ). HasFilled row 0 11 (IsHeadWord front at_level i statistic) k m) is f h.0 h.1 h.2 in
     let two = g one.0 (one.1.long ∙ h.1) one.2.here in (
       two.0,
-      spells_base these at_level (144115188075855872 + at_level * 65536 + many) statistic h.0 one.0
-          two.0 h.1 low
-          (ap (λ (i : ℕ). 144115188075855872 + at_level * 65536 + i) is) few one.1 two.1,
+      spells_base front these at_level statistic h.0 one.0 two.0 h.1 low short few one.1 two.1,
       rewritten_again row one.0 two.0 k m n one.2 two.2,
     )
 
@@ -92,18 +108,19 @@ module _ (xs these : List ℕ) (before behind : ℕ) (low : before ≤ length xs
   )
 
   -- Where they were written in turn, they are the items of the new base.
-  pub around_written : (row at_level many statistic : ℕ) (a b d e f : MyTree) → IsHeld a row
-      → at_level < 65536
+  pub around_written : (row at_level many statistic : ℕ) (front : List ℕ) (a b d e f : MyTree)
+      → IsHeld a row → at_level < 65536 → length front ≤ 32
       → many ≡ before + length these + (length xs - behind) → many ≤ 120
-      → HasFilled row 0 7 (λ i word. word ≡ get_or (base_head at_level many statistic) i 0) a b
+      → HasFilled row 0 11 (IsHeadWord front at_level many statistic) a b
       → HasFilled row (items_word + 0) before (λ k word. word ≡ get_or xs (0 + k) 0) b d
       → HasFilled row (items_word + before) (length these) (λ k word. word ≡ get_or these k 0) d e
       → HasFilled row (items_word + (before + length these)) (length xs - behind)
       (λ k word. word ≡ get_or xs (behind + k) 0) e f
-      → HasWritten row (SpellsBase around at_level statistic) a f
-  around_written row at_level many statistic a b d e f h lower is few head one two three =
-      let m = many_are in
-      base_written row at_level many statistic around a b f h lower (omega arith) (omega arith) head
+      → HasWritten row (SpellsBase front around at_level statistic) a f
+  around_written row at_level many statistic front a b d e f h lower short is few head one two
+      three = let m = many_are in
+      base_written row at_level many statistic front around a b f h lower (omega arith) short
+      (omega arith) head
       (subst (λ (n : ℕ). HasFilled row items_word n says b f) (sym m)
       (filled_on row items_word (before + length these) (length xs - behind) says b e f
       (filled_on row items_word before (length these) says b d e

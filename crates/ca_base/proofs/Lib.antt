@@ -1,7 +1,10 @@
 pub mod Alone
+pub mod Behind
 pub mod Counts
 pub mod Divisions
 pub mod Filling
+pub mod Fronted
+pub mod HalfFronts
 pub mod Halves
 pub mod Heads
 pub mod Held
@@ -9,10 +12,12 @@ pub mod Inserting
 pub mod Items
 pub mod KeyOrder
 pub mod LastItems
+pub mod NewFronts
 pub mod Oldest
 pub mod ObjectBytes
 pub mod Readying
 pub mod Rebasing
+pub mod Removed
 pub mod Renewing
 pub mod Replacing
 pub mod Rest

@@ -8,14 +8,15 @@ use Rattle.ca_model.specs.History.{Edit, Put}
 use Rattle.ca_model.specs.StoreMap.{IsPair}
 use Rattle.ca_model.specs.Places.{IsPlace}
 use Rattle.ca_node.specs.Place.{HasKey}
-use Rattle.ca_node.specs.Row.{count, object, key, pair, row_in, head_in, front_of}
+use Rattle.ca_node.specs.Row.{count, object, key, pair, row_in, front_of, item_words, prefix}
 use Rattle.ca_node.specs.Told.{MyTree, IsUpdate}
 use Rattle.ca_node.specs.TreeView.{Note, TreeView}
 use Rattle.ca_base.specs.declared.updating.Putting.{Putting}
 use Rattle.ca_rows.specs.declared.view.Met.{Met}
 use Rattle.ca_base.specs.declared.stop.Stop.{Stop}
 use Rattle.ca_base.specs.Putting.{put_in, object_at, IsRoom, IsPlaceFor, IsFor, IsShownLast, HasRenewed, HasTried, first_note, words_of, put_event, put_update, put_update_of, last_words}
-use Rattle.ca_base.specs.Writing.{IsRewritten, SpellsObject, SpellsBase}
+use Rattle.ca_base.specs.Writing.{IsRewritten, SpellsObject}
+use Rattle.ca_base.specs.Prefixes.{IsTrimmed, SpellsPut, reheaded}
 use Rattle.ca_base.proofs.Rebasing.{new_base, note_is, words_are}
 use Rattle.ca_base.proofs.Replacing.{in_range_of, is_put}
 use Rattle.ca_base.proofs.Inserting.{IsInRange}
@@ -31,12 +32,11 @@ finds_place (Ok at) n leaf l r few = l
 finds_place (Err at) n leaf l r few = (l, omega arith)
 
 module _ (z : Sizes) (m0 m1 m2 m3 : MyTree) (row new base : ℕ) (place : Result ℕ ℕ) (why : Putting)
-    (bytes : List ℕ)
-    (key_at key_end statistic word : ℕ) (a b : List ℕ) (is_row : row_in word ≡ row)
-    (is_head : head_in word ≡ front_of 5 (slice_range bytes key_at key_end)) (shown : IsShownLast z m0.0.upper base)
+    (bytes : List ℕ) (key_at key_end statistic : ℕ) (a b : List ℕ)
+    (shown : IsShownLast z m0.0.upper base)
     (upper : m3.0.upper ≡ m0.0.upper) (other : row ≢ new)
     (one : SpellsObject bytes key_at key_end a) (wrote : IsRewritten row a m1 m2)
-    (two : SpellsBase (put_in (last_words m0.0.upper) place word)
+    (two : SpellsPut (first_note m0.0.upper.notes) place (slice_range bytes key_at key_end) row
     (first_note m0.0.upper.notes).place.level statistic b)
     (wrote_too : IsRewritten new b m2 m3) where
   abbrev note : Note
@@ -62,10 +62,13 @@ module _ (z : Sizes) (m0 m1 m2 m3 : MyTree) (row new base : ℕ) (place : Result
       subst (λ (x : Note × List ℕ × List ℕ).
       IsUpdate z m3 new (put_update x.0 row x.1 x.2 place why))
       (λ i. (sym is_note i, sym is_a i, sym (words_are new b m2 m3 wrote_too) i))
-      (is_put z m3 note row new place why statistic word a b is_row
-      (is_head ∙ ap (front_of 5) (sym one.key_is))
-      (new_base z m0 m2 m3 new base (put_in (last_words m0.0.upper) place word) statistic b shown
-      is_pinned is_pass upper pin two wrote_too)
+      (is_put z m3 note row new place why two.front two.lead two.bytes statistic two.word a b two.is_row
+      (two.is_head ∙ ap (λ (k : List ℕ). front_of 5 (drop (length two.front) k)) (sym one.key_is))
+      (new_base z m0 m2 m3 new base two.front
+      (put_in (map (reheaded two.lead two.bytes) (item_words note.its)) place two.word) statistic b
+      shown is_pinned is_pass upper pin two.spells wrote_too)
+      (subst (λ (k : List ℕ). IsTrimmed (prefix note.its) k two.front two.lead two.bytes)
+      (sym one.key_is) two.trimmed)
       record {
         object_held = object_held;
         is_object = one.is_object;
@@ -103,20 +106,19 @@ module _ (z : Sizes) (m0 m1 m2 m3 : MyTree) (row new base : ℕ) (place : Result
       (λ (x : ℕ × Edit × TreeView). HasRenewed z met x.0 x.1 r x.2 v)
       (λ i. (
         (ap (λ (its : List ℕ). get_or its 1 0) (words_are new b m2 m3 wrote_too)
-            ∙ two.statistic_is) i,
+            ∙ two.spells.statistic_is) i,
         (ap (λ (its : List ℕ). Put (key its) (object its)) is_a
             ∙ ap (λ (x : List ℕ × List ℕ). Put x.0 x.1) (λ j. (one.key_is j, one.object_is j))) i,
         upper i,
       )) h
 
 -- What was written at the level of a cursor is at that of the base.
-pub spells_there : (first now : TreeView) (these : List ℕ → List ℕ) (there here statistic : ℕ)
-    (its : List ℕ) → now ≡ first → there ≡ here
-    → SpellsBase (these (last_words now)) here statistic its
-    → SpellsBase (these (last_words first)) there statistic its
-spells_there first now these there here statistic its same is s = subst
-    (λ (u : TreeView). SpellsBase (these (last_words u)) there statistic its) same
-    (subst (λ (n : ℕ). SpellsBase (these (last_words now)) n statistic its) (sym is) s)
+pub spells_there : (first now : TreeView) (Spells : Note → ℕ → List ℕ → Type 0) (there here : ℕ)
+    (its : List ℕ) → now ≡ first → there ≡ here → Spells (first_note now.notes) here its
+    → Spells (first_note first.notes) there its
+spells_there first now Spells there here its same is s = subst
+    (λ (u : TreeView). Spells (first_note u.notes) there its) same
+    (subst (λ (n : ℕ). Spells (first_note now.notes) n its) (sym is) s)
 
 -- It has as many items as objects, and the place is among them.
 pub many_are : (z : Sizes) (u : TreeView) (base many : ℕ) → IsShownLast z u base

@@ -13,7 +13,7 @@ use Rattle.ca_node.specs.Laws.{in_nothing}
 use Rattle.ca_node.specs.Inventory.{AreOnce, row_itself}
 use Rattle.ca_node.specs.Links.{IsIn}
 use Rattle.ca_node.specs.Place.{HasKey, edit_key}
-use Rattle.ca_node.specs.Row.{items, pair, row_in, head_in, head_of}
+use Rattle.ca_node.specs.Row.{items, pair, row_in, IsHeaded}
 use Rattle.ca_node.specs.Told.{MyTree, Update, IsBaseNote, IsObjectOf, IsLastThere, IsUpdate}
 use Rattle.ca_node.specs.TreeView.{Note, TreeView}
 use Rattle.ca_node.proofs.Looking.{in_more}
@@ -24,15 +24,16 @@ use Rattle.ca_rows.specs.declared.view.Claim.TheVariants.{Holds}
 use Rattle.ca_rows.specs.declared.view.Pin.{Pin}
 use Rattle.ca_rows.specs.Claims.{claim_of}
 
--- The seat is pinned, was shown the old base, and holds a new one with these words for its items.
-pub record IsNewBase (z : Sizes) (m : MyTree) (new : ℕ) (old : Note) (these : List ℕ)
+-- The seat is pinned, was shown the old base, and holds a new one with this prefix and these words
+-- for its items.
+pub record IsNewBase (z : Sizes) (m : MyTree) (new : ℕ) (old : Note) (front these : List ℕ)
     (statistic : ℕ) (b : List ℕ) : Type 0 where
   pub is_pinned : m.0.pin.pinned ≡ true
   pub is_pass : 0 < m.0.upper.number
   pub shown : (rest : List Note) × (m.0.upper.notes ≡ old ∷ rest)
   pub is_base : IsBaseNote z old
   pub held : claim_of m.0.claims new ≡ some (Holds b)
-  pub spells : SpellsBase these old.place.level statistic b
+  pub spells : SpellsBase front these old.place.level statistic b
 
 -- Where the new base has the row at all, it is one that comes, or stood in another place of the old
 -- base.
@@ -58,11 +59,11 @@ pub record IsMade (keypos : ℕ) (m : MyTree) (x : Update) (these : List ℕ) : 
   pub is_edit : IsEdit keypos x.edit
   pub about : HasKey x.old.place.span (edit_key x.edit)
 
-pub is_update : (z : Sizes) (m : MyTree) (new : ℕ) (x : Update) (words these : List ℕ)
-    (statistic : ℕ) → IsNewBase z m new x.old words statistic x.its
-    → map row_in words ≡ these → map head_in words ≡ map head_of x.objects
+pub is_update : (z : Sizes) (m : MyTree) (new : ℕ) (x : Update) (front words these : List ℕ)
+    (statistic : ℕ) → IsNewBase z m new x.old front words statistic x.its
+    → map row_in words ≡ these → IsHeaded x.its x.objects
     → length these ≤ z.leaf → IsMade z.keypos m x these → IsUpdate z m new x
-is_update z m new x words these statistic n rows headed few made =
+is_update z m new x front words these statistic n rows headed few made =
     let are = ap (map row_in) n.spells.words_are ∙ rows in
     let as_long = ap (λ (xs : List ℕ). length xs) rows in let long = length-map words row_in in
     let h = subst (IsMade z.keypos m x) (sym are) made in record {
@@ -76,7 +77,7 @@ is_update z m new x words these statistic n rows headed few made =
       few = let c = n.spells.count_is in omega arith;
       unmarked = n.spells.unmarked;
       as_many = h.as_many;
-      headed = ap (map head_in) n.spells.words_are ∙ headed;
+      headed = headed;
       are_objects = h.are_objects;
       come = h.come;
       come_once = h.come_once;
@@ -102,14 +103,14 @@ is_first [] i = absurd (in_nothing (first_note []) [] refl i)
 is_first (note ∷ notes) i = (notes, refl)
 
 -- The base was written since the pass was shown the old one.
-pub new_base : (z : Sizes) (first before now : MyTree) (new base : ℕ) (these : List ℕ)
+pub new_base : (z : Sizes) (first before now : MyTree) (new base : ℕ) (front these : List ℕ)
     (statistic : ℕ) (b : List ℕ) → IsShownLast z first.0.upper base
     → first.0.pin.pinned ≡ true → 0 < first.0.upper.number → now.0.upper ≡ first.0.upper
     → now.0.pin ≡ first.0.pin
-    → SpellsBase these (first_note first.0.upper.notes).place.level statistic b
+    → SpellsBase front these (first_note first.0.upper.notes).place.level statistic b
     → IsRewritten new b before now
-    → IsNewBase z now new (first_note first.0.upper.notes) these statistic b
-new_base z first before now new base these statistic b shown is_pinned is_pass upper pin spells
+    → IsNewBase z now new (first_note first.0.upper.notes) front these statistic b
+new_base z first before now new base front these statistic b shown is_pinned is_pass upper pin spells
     wrote = record {
       is_pinned = ap (λ (e : Pin). e.pinned) pin ∙ is_pinned;
       is_pass = subst (λ (u : TreeView). 0 < u.number) (sym upper) is_pass;

@@ -13,7 +13,7 @@ use Rattle.ca_model.proofs.Places.{placed_is}
 use Rattle.ca_model.specs.Places.{IsPlace}
 use Rattle.ca_node.specs.Links.{IsIn}
 use Rattle.ca_node.specs.Place.{HasKey}
-use Rattle.ca_node.specs.Row.{IsObjectRow, items, count, object, key, pair, item_words, row_in, head_in, head_of}
+use Rattle.ca_node.specs.Row.{IsObjectRow, items, count, object, key, pair, item_words, row_in, head_in, head_of, prefix, IsHeaded}
 use Rattle.ca_node.specs.Told.{MyTree, Update, IsUpdate}
 use Rattle.ca_node.specs.TreeView.{Note}
 use Rattle.ca_node.proofs.Looking.{in_more}
@@ -21,6 +21,8 @@ use Rattle.ca_node.specs.Laws.{in_nothing}
 use Rattle.ca_base.specs.declared.updating.Putting.{Putting}
 use Rattle.ca_base.specs.declared.updating.Putting.TheVariants as putting
 use Rattle.ca_base.specs.Putting.{put_in, gone, object_at, IsRoom, put_event, IsFor, put_update}
+use Rattle.ca_base.specs.Prefixes.{IsTrimmed, reheaded}
+use Rattle.ca_base.proofs.NewFronts.{put_headed, rows_same}
 use Rattle.ca_base.proofs.Rebasing.{IsNewBase, IsElsewhere, gone_is, is_found_at, is_update}
 use Rattle.ca_base.proofs.Inserting.{IsInRange, put_length, elem_or, within, put_both, length_put, map_put, map_put_in, here_put, in_inserted}
 use Rattle.ca_rows.specs.declared.sizes.Sizes.{Sizes}
@@ -95,8 +97,11 @@ pub record IsPut (z : Sizes) (m : MyTree) (note : Note) (row : ℕ) (place : Res
   pub about : HasKey note.place.span (key a)
 
 module _ (z : Sizes) (m : MyTree) (note : Note) (row new : ℕ) (place : Result ℕ ℕ) (why : Putting)
-    (statistic word : ℕ) (a b : List ℕ) (is_row : row_in word ≡ row) (is_head : head_in word ≡ head_of a)
-    (n : IsNewBase z m new note (put_in (item_words note.its) place word) statistic b)
+    (front : List ℕ) (lead bytes statistic word : ℕ) (a b : List ℕ) (is_row : row_in word ≡ row)
+    (is_head : head_in word ≡ head_of (length front) a)
+    (n : IsNewBase z m new note front
+    (put_in (map (reheaded lead bytes) (item_words note.its)) place word) statistic b)
+    (trimmed : IsTrimmed (prefix note.its) (key a) front lead bytes)
     (h : IsPut z m note row place why a) where
   abbrev x : Update
   x = put_update note row a b place why
@@ -109,21 +114,25 @@ module _ (z : Sizes) (m : MyTree) (note : Note) (row new : ℕ) (place : Result 
   few_items = let few = n.is_base.few in
       omega (arith, length-map (item_words note.its) row_in, length-take (count note.its) (drop items_word note.its))
 
-  rows_put : map row_in (put_in (item_words note.its) place word) ≡ put_in (items note.its) place row
-  rows_put = map_put_in place row_in (item_words note.its) word ∙ ap (put_in (items note.its) place) is_row
+  rows_put : map row_in (put_in (map (reheaded lead bytes) (item_words note.its)) place word)
+      ≡ put_in (items note.its) place row
+  rows_put = map_put_in place row_in (map (reheaded lead bytes) (item_words note.its)) word
+      ∙ (ap (λ (rs : List ℕ). put_in rs place (row_in word))
+      (rows_same lead bytes (item_words note.its)) ∙ ap (put_in (items note.its) place) is_row)
 
-  heads_put : map head_in (put_in (item_words note.its) place word) ≡ map head_of (put_in note.objects place a)
-  heads_put = map_put_in place head_in (item_words note.its) word
-      ∙ (ap (λ (hs : List ℕ). put_in hs place (head_in word)) n.is_base.headed
-      ∙ (ap (put_in (map head_of note.objects) place) is_head ∙ sym (map_put_in place head_of note.objects a)))
+  headed_put : IsHeaded b (put_in note.objects place a)
+  headed_put = put_headed note.its note.objects n.is_base.headed n.is_base.long (key a) front lead
+      bytes trimmed place word note.place.level statistic a b refl n.spells is_head
+      (subst (IsInRange place) (sym n.is_base.as_many) range)
 
   few : length (put_in (items note.its) place row) ≤ z.leaf
   few = let l = length_put place (items note.its) row range in
       let f = few_enough place (length (items note.its)) z.leaf few_items h.room in omega arith
 
   pub is_put : IsUpdate z m new x
-  is_put = is_update z m new x (put_in (item_words note.its) place word) (put_in (items note.its) place row)
-      statistic n rows_put heads_put few record {
+  is_put = is_update z m new x front
+      (put_in (map (reheaded lead bytes) (item_words note.its)) place word)
+      (put_in (items note.its) place row) statistic n rows_put headed_put few record {
         as_many = length_put place note.objects a
             (subst (IsInRange place) (sym n.is_base.as_many) range)
             ∙ (ap (put_length place) n.is_base.as_many

@@ -1,5 +1,5 @@
 -- A key's place among the objects of a base, by comparisons with two of them at most.
-use Rattle.std.proofs.Common.{◌≡◌, ℕ, zero, suc, ◌-◌, ◌<◌, ◌≤◌, List, [], ◌∷◌, length, map, get_or, sym, refl, ap, ◌∙◌, subst, Ok, Err, Some, Result, arith}
+use Rattle.std.proofs.Common.{◌≡◌, ◌≢◌, ℕ, zero, suc, ◌-◌, ◌<◌, ◌≤◌, List, [], ◌∷◌, length, length-take, map, take, get_or, sym, refl, ap, ◌∙◌, subst, Ok, Err, Some, Result, arith}
 use Rattle.std.proofs.lemmas.List.{length-map}
 use Rattle.std.specs.Ordering.{ordering_index}
 use Rattle.std.specs.declared.cmp.Ordering.{Ordering}
@@ -8,7 +8,12 @@ use Rattle.ca_model.specs.StoreMap.{Pair, StoreMap, bytes_cmp, IsFound, IsStoreM
 use Rattle.ca_model.specs.Slab.{nothing}
 use Rattle.ca_model.proofs.Places.{searched, is_found}
 use Rattle.ca_model.specs.Places.{IsPlace}
-use Rattle.ca_node.specs.Row.{pair}
+use Rattle.ca_node.specs.Row.{pair, prefix, prefix_length}
+use Rattle.ca_node.specs.Row as Row
+use Rattle.ca_term.proofs.Bytes.{same_bytes}
+use Rattle.ca_base.proofs.Behind.{prefix_decides}
+use Rattle.ca_base.proofs.Fronted.{prefix_long}
+use Rattle.ca_base.proofs.Items.{at_place as elem_at}
 use Rattle.ca_node.specs.TreeView.{Note, TreeView}
 use Rattle.ca_base.specs.Finding.{IsReadable}
 use Rattle.ca_base.specs.Objects.{IsOrderAt}
@@ -80,6 +85,44 @@ place_is z u base many key note (Err at) r e p =
     absent z.keypos note key r.ordered at (omega arith)
     (λ l. sym (p.1 l note r (omega arith)))
     (λ l. sym (p.2 (omega arith) note r l))
+
+-- A base's prefix is not that of a key.
+module _ (z : Sizes) (u : TreeView) (base : ℕ) (key : List ℕ) (note : Note)
+    (r : IsReadable z u base note) (len : ℕ) (same : len ≡ prefix_length note.its) where
+  begins_at : (k : ℕ) → k < length note.objects
+      → take (length (prefix note.its)) (Row.key (get_or note.objects k [])) ≡ prefix note.its
+  begins_at k l = ap (λ (n : ℕ). take n (Row.key (get_or note.objects k [])))
+      (prefix_long note.its r.is_base.long r.is_base.headed.short)
+      ∙ r.is_base.headed.begin k (get_or note.objects k []) (elem_at note.objects k [] l)
+
+  -- Each object stands to the key as the prefix does.
+  all_stand : (o : Ordering) → o ≢ Equal → o ≡ bytes_cmp (prefix note.its) (take len key)
+      → (k : ℕ) → k < length note.objects → stands note key k ≡ o
+  all_stand o not is k l = let long = prefix_long note.its r.is_base.long r.is_base.headed.short in
+      let e : bytes_cmp (prefix note.its) (take (length (prefix note.its)) key) ≡ o =
+      ap (λ (n : ℕ). bytes_cmp (prefix note.its) (take n key)) (long ∙ sym same) ∙ sym is in
+      prefix_decides (prefix note.its) (Row.key (get_or note.objects k [])) key (begins_at k l)
+      (λ f. not (sym e ∙ f)) ∙ e
+
+  pub behind_all : (many : ℕ) → many ≡ length note.objects
+      → Less ≡ bytes_cmp (prefix note.its) (take len key)
+      → IsPlace (map pair note.objects) key (Err many)
+  behind_all many e is = absent z.keypos note key r.ordered many (omega arith)
+      (λ l. all_stand Less (λ f. cc) is (many - 1) (omega arith)) (λ l. absurd (omega arith))
+
+  pub before_all : Greater ≡ bytes_cmp (prefix note.its) (take len key)
+      → IsPlace (map pair note.objects) key (Err 0)
+  before_all is = absent z.keypos note key r.ordered 0 (omega arith) (λ l. absurd (omega arith))
+      (λ l. all_stand Greater (λ f. cc) is 0 l)
+
+  -- Where they are equal, the key begins with the prefix.
+  pub begins_so : Equal ≡ bytes_cmp (prefix note.its) (take len key)
+      → (take (prefix_length note.its) key ≡ prefix note.its) × (len ≤ length key)
+  begins_so is = let alike = same_bytes (prefix note.its) (take len key) (sym is) in
+      let long = prefix_long note.its r.is_base.long r.is_base.headed.short in (
+        ap (λ (n : ℕ). take n key) (sym same) ∙ sym alike,
+        omega (arith, ap (λ (xs : List ℕ). length xs) alike, length-take len key),
+      )
 
 -- The object at the key's place is what the map has at the key.
 pub found_object : (note : Note) (key object : List ℕ) (at : ℕ)

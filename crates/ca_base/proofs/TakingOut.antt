@@ -1,10 +1,10 @@
 -- A base without one of its objects is an update of the base that was shown.
-use Rattle.std.proofs.Common.{◌≡◌, ◌≢◌, ℕ, zero, suc, ◌<◌, ◌≤◌, List, [], ◌∷◌, length, map, take, drop, get_or, Result, true, Some, Ok, sym, refl, ap, ◌∙◌, subst, inl, inr, arith}
-use Rattle.std.proofs.lemmas.List.{get_or-map, length-map, length-take, map-append, take-map, drop-map}
+use Rattle.std.proofs.Common.{◌≡◌, ℕ, ◌<◌, ◌≤◌, List, [], length, map, drop, get_or, Result, true, Some, Ok, sym, refl, ap, ◌∙◌, subst, inl, inr, arith}
+use Rattle.std.proofs.lemmas.List.{get_or-map, length-map, length-take}
 use Rattle.std.proofs.lemmas.List.Edits.{length-remove}
 use Rattle.std.specs.List.{remove}
 use mathlib.Core.Logic.{dite}
-use mathlib.Core.Option.{some, some-ne-none}
+use mathlib.Core.Option.{some}
 use native.Mathlib.Decide.{ℕ_discrete}
 use lib.ListN.{get_elem?}
 use Rattle.ca_model.specs.Event.{Event, Remove}
@@ -14,55 +14,23 @@ use Rattle.ca_model.specs.Slab.{nothing}
 use Rattle.ca_model.proofs.Places.{is_found, removed_is}
 use Rattle.ca_model.specs.Places.{IsAt}
 use Rattle.ca_node.specs.Laws.{in_nothing}
-use Rattle.ca_node.specs.Links.{IsIn}
 use Rattle.ca_node.specs.Place.{HasKey}
-use Rattle.ca_node.specs.Row.{items, count, pair, item_words, row_in, head_in, head_of}
+use Rattle.ca_node.specs.Row.{items, count, pair, item_words, row_in, prefix, IsHeaded}
 use Rattle.ca_node.specs.Told.{MyTree, IsUpdate}
 use Rattle.ca_node.specs.TreeView.{Note, TreeView}
 use Rattle.ca_rows.specs.declared.view.Met.{Met}
-use Rattle.ca_base.specs.Putting.{object_at, IsShownLast, HasRenewed, HasTried, first_note, last_words}
+use Rattle.ca_base.specs.Putting.{object_at, IsShownLast, HasRenewed, HasTried, first_note}
 use Rattle.ca_base.specs.Removing.{key_at, take_update, update_of}
 use Rattle.ca_base.specs.declared.stop.Stop.{Stop}
 use Rattle.ca_base.specs.declared.swapping.Deed.TheVariants as deed
-use Rattle.ca_base.specs.Writing.{IsRewritten, SpellsBase}
+use Rattle.ca_base.specs.Writing.{IsRewritten}
 use Rattle.ca_base.proofs.Inserting.{elem_or}
+use Rattle.ca_base.specs.Prefixes.{SpellsLeft}
+use Rattle.ca_base.proofs.NewFronts.{left_headed}
+use Rattle.ca_base.proofs.Removed.{past, past_other, at_removed, still_in, map_removed}
 use Rattle.ca_base.proofs.Rebasing.{IsNewBase, gone_is, is_found_at, is_update, new_base, note_is, words_are}
 use Rattle.ca_rows.specs.declared.sizes.Sizes.{Sizes}
 use Rattle.ca_node.specs.Layout.{items_word}
-
--- where an element of a list stood from which one was removed
-abbrev past : ℕ → ℕ → ℕ
-past zero k = suc k
-past (suc at) zero = zero
-past (suc at) (suc k) = suc (past at k)
-
-past_other : (at k : ℕ) → past at k ≢ at
-past_other zero k e = omega arith
-past_other (suc at) zero e = omega arith
-past_other (suc at) (suc k) e = past_other at k (omega arith)
-
-at_removed : {A : Type 0} (xs : List A) (at k : ℕ)
-    → get_elem? (remove xs at) k ≡ get_elem? xs (past at k)
-at_removed [] zero k = refl
-at_removed [] (suc at) zero = refl
-at_removed [] (suc at) (suc k) = refl
-at_removed (x ∷ xs) zero k = refl
-at_removed (x ∷ xs) (suc at) zero = refl
-at_removed (x ∷ xs) (suc at) (suc k) = at_removed xs at k
-
--- What stood in another place is in the list still.
-still_in : (xs : List ℕ) (at i r : ℕ) → i ≢ at → get_elem? xs i ≡ some r → IsIn r (remove xs at)
-still_in [] at i r n e = absurd (some-ne-none r (sym e))
-still_in (x ∷ xs) zero zero r n e = absurd (n refl)
-still_in (x ∷ xs) zero (suc i) r n e = (i, e)
-still_in (x ∷ xs) (suc at) zero r n e = (0, e)
-still_in (x ∷ xs) (suc at) (suc i) r n e = let rest = still_in xs at i r (λ f. n (ap suc f)) e in
-    (suc rest.0, rest.1)
-
-map_removed : {A B : Type 0} (f : A → B) (xs : List A) (at : ℕ)
-    → map f (remove xs at) ≡ remove (map f xs) at
-map_removed f xs at = map-append f (take at xs) (drop (suc at) xs)
-    ∙ rw (take-map f at xs, drop-map f (suc at) xs) refl
 
 -- The key is that of the object at its place.
 pub key_is : (objects : List (List ℕ)) (k : List ℕ) (at : ℕ) → IsAt (map pair objects) k at
@@ -72,8 +40,10 @@ key_is objects k at h = let l = h.in_range in let long = length-map objects pair
     ∙ ap (λ (xs : List Pair). (get_or xs 0 nothing).0) (sym h.equal
     ∙ is_found (map pair objects) k at h)
 
-module _ (z : Sizes) (m : MyTree) (note : Note) (at new statistic : ℕ) (b : List ℕ)
-    (n : IsNewBase z m new note (remove (item_words note.its) at) statistic b)
+module _ (z : Sizes) (m : MyTree) (note : Note) (at new statistic : ℕ) (front b : List ℕ)
+    (n : IsNewBase z m new note front (remove (item_words note.its) at) statistic b)
+    (kept : 1 < length note.objects → front ≡ prefix note.its)
+    (none : length note.objects ≤ 1 → front ≡ [])
     (ordered : IsStoreMap z.keypos (map pair note.objects))
     (place : IsAt (map pair note.objects) (key_at at note.objects) at)
     (about : HasKey note.place.span (key_at at note.objects)) where
@@ -87,14 +57,16 @@ module _ (z : Sizes) (m : MyTree) (note : Note) (at new statistic : ℕ) (b : Li
   few = let f = n.is_base.few in let less = length-remove (items note.its) at in_items in
       omega (arith, length-map (item_words note.its) row_in, length-take (count note.its) (drop items_word note.its))
 
-  heads_left : map head_in (remove (item_words note.its) at) ≡ map head_of (remove note.objects at)
-  heads_left = map_removed head_in (item_words note.its) at
-      ∙ (ap (λ (hs : List ℕ). remove hs at) n.is_base.headed ∙ sym (map_removed head_of note.objects at))
+  headed_left : IsHeaded b (remove note.objects at)
+  headed_left = left_headed note.its note.objects front at note.place.level statistic b
+      n.is_base.headed n.is_base.long in_objects
+      (sym (n.is_base.as_many ∙ length-map (item_words note.its) row_in)) kept none n.spells
 
   pub is_taken_out : IsUpdate z m new (take_update note b at)
   is_taken_out =
-      is_update z m new (take_update note b at) (remove (item_words note.its) at)
-      (remove (items note.its) at) statistic n (map_removed row_in (item_words note.its) at) heads_left few record {
+      is_update z m new (take_update note b at) front (remove (item_words note.its) at)
+      (remove (items note.its) at) statistic n (map_removed row_in (item_words note.its) at)
+      headed_left few record {
         as_many = let many = n.is_base.as_many in let a = length-remove note.objects at in_objects in
             let i = length-remove (items note.its) at in_items in
             omega arith;
@@ -131,7 +103,7 @@ module _ (z : Sizes) (first before now : MyTree) (new base at statistic : ℕ) (
     (shown : IsShownLast z first.0.upper base)
     (upper : now.0.upper ≡ first.0.upper)
     (place : IsAt (map pair (first_note first.0.upper.notes).objects) k at)
-    (spells : SpellsBase (remove (last_words first.0.upper) at)
+    (left : SpellsLeft (first_note first.0.upper.notes) at
     (first_note first.0.upper.notes).place.level statistic b)
     (wrote : IsRewritten new b before now) where
   abbrev note : Note
@@ -146,9 +118,9 @@ module _ (z : Sizes) (first before now : MyTree) (new base at statistic : ℕ) (
   ready_without is_pinned is_pass pin ordered about = subst
       (λ (y : Note × List ℕ). IsUpdate z now new (take_update y.0 y.1 at))
       (λ i. (sym (note_is first now upper) i, sym (words_are new b before now wrote) i))
-      (is_taken_out z now note at new statistic b
-      (new_base z first before now new base (remove (last_words first.0.upper) at) statistic b shown
-      is_pinned is_pass upper pin spells wrote)
+      (is_taken_out z now note at new statistic left.front b
+      (new_base z first before now new base left.front (remove (item_words note.its) at) statistic b
+      shown is_pinned is_pass upper pin left.spells wrote) left.kept left.none
       ordered (subst (λ (q : List ℕ). IsAt (map pair note.objects) q at) (sym key_same) place)
       (subst (HasKey note.place.span) (sym key_same) about))
 
@@ -171,7 +143,7 @@ module _ (z : Sizes) (first before now : MyTree) (new base at statistic : ℕ) (
       (λ (x : ℕ × Edit × TreeView). HasRenewed z met x.0 x.1 r x.2 v)
       (λ i. (
         (ap (λ (its : List ℕ). get_or its 1 0) (words_are new b before now wrote)
-            ∙ spells.statistic_is) i,
+            ∙ left.spells.statistic_is) i,
         (ap (λ (x : Note). Del (key_at at x.objects)) (note_is first now upper)
             ∙ ap Del key_same) i,
         upper i,

@@ -10,7 +10,7 @@ use Rattle.ca_term.proofs.Bytes.{bytes_cmp, same_bytes}
 use Rattle.ca_term.proofs.Numbers.{same, base_pos, byte_is, high_first_cmp}
 
 -- A power of 256 is one of 2.
-pow256 : (k : ℕ) → 256 ^ k ≡ 2 ^ (8 * k)
+pub pow256 : (k : ℕ) → 256 ^ k ≡ 2 ^ (8 * k)
 pow256 zero = refl
 pow256 (suc k) = let one : suc k ≡ 1 + k = omega arith in
     let eight : 8 * suc k ≡ 8 + 8 * k = omega arith in

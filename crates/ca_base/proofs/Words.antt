@@ -1,7 +1,8 @@
 -- Words of eight bytes, and rows of them.
 use Rattle.std.proofs.Common.{◌≡◌, ℕ, zero, suc, ◌+◌, ◌*◌, ◌-◌, ◌/◌, ◌%◌, ◌<◌, ◌≤◌, min, List, [], ◌∷◌, ◌++◌, length, take, drop, get_or, sym, refl, ap, ◌∙◌, subst, ⊎_elim, arith, length-drop, length-append, append-nil}
 use Rattle.std.proofs.lemmas.Bool.{cases_lt}
-use Rattle.std.proofs.lemmas.List.{take_all, take_at, take-append-le, take-append-drop, length-take-le, get_or_append_left, get_or-append_right, get_or-take, get_or-drop, drop-drop}
+use Rattle.std.proofs.Math.ListN.{drop_of_length-le}
+use Rattle.std.proofs.lemmas.List.{take_all, take_rest, take_at, take-append-le, take-append-drop, length-take-le, get_or_append_left, get_or-append_right, get_or-take, get_or-drop, drop-drop}
 use Rattle.std.proofs.Math.Seq.{take-append-add}
 use Rattle.std.proofs.lemmas.Nat.{be_bytes_8}
 use Rattle.std.specs.Int.{to_be_bytes, from_be_bytes, w64}
@@ -122,6 +123,16 @@ eight_at bytes k w h = subst
       arith,
       length-drop (8 * k) bytes,
     ))) h
+
+-- The same of a slice from there or from the end on.
+pub eight_from : (bytes : List ℕ) (k from w : ℕ) → from ≡ min (8 * k) (length bytes)
+    → HasBytes (take (length bytes - from) (drop from bytes)) w → HasEight bytes k w
+eight_from bytes k from w e h = let rest = take_rest bytes from in
+    subst (λ (x : List ℕ). HasBytes x w) (rest ∙ ⊎_elim
+    (λ (l : length bytes < 8 * k). drop_of_length-le bytes (omega arith)
+    ∙ sym (drop_of_length-le bytes (omega arith)))
+    (λ (l : 8 * k ≤ length bytes). ap (λ (n : ℕ). drop n bytes) (omega arith))
+    (cases_lt (length bytes) (8 * k))) h
 
 -- Behind the bytes that words have there are zeros, to the end of the last one of these words.
 pub padded : (words bytes : List ℕ) (n i : ℕ) → length bytes ≤ i → i < 8 * n → n ≤ length words

@@ -6,11 +6,17 @@ use Rattle.ca_model.specs.StoreMap.{IsStoreMap}
 use Rattle.ca_model.specs.Places.{IsPlace}
 use Rattle.ca_node.specs.declared.cursor.Cursor.{Cursor}
 use Rattle.ca_node.specs.Links.{IsIn}
-use Rattle.ca_node.specs.Row.{bytes_in, count, items, pair, code_words, head_of}
+use Rattle.ca_node.specs.Row.{bytes_in, count, items, pair, code_words, head_of, prefix_length}
 use Rattle.ca_node.specs.Told.{IsBaseNote, IsShown, link_word}
 use Rattle.ca_node.specs.TreeView.{Note, TreeView}
 use Rattle.ca_rows.specs.declared.sizes.Sizes.{Sizes}
 use Rattle.ca_rows.specs.Layout.{row_words}
+
+-- The pass was shown the base, with its objects.
+pub record IsBaseShown (z : Sizes) (u : TreeView) (base : ℕ) (note : Note) : Type 0 where
+  pub noted : IsIn note u.notes
+  pub here : note.row ≡ base
+  pub is_base : IsBaseNote z note
 
 -- The pass was shown the base, with its objects. They are few enough for a row, and their keys ascend.
 pub record IsReadable (z : Sizes) (u : TreeView) (base : ℕ) (note : Note) : Type 0 where
@@ -45,10 +51,10 @@ abbrev pub IsItem : Sizes → TreeView → ℕ → ℕ → ℕ → Type 0
 IsItem z u base place row = (note : Note) → IsReadable z u base note → place < length note.objects
     → (get_elem? (items note.its) place ≡ some row) × IsObjectShown u row (slice_index_or note.objects place [])
 
--- The key of the object at this place has this head.
+-- The key of the object at this place has this head behind the base's prefix.
 abbrev pub HasHead : Sizes → TreeView → ℕ → ℕ → ℕ → Type 0
 HasHead z u base place head = (note : Note) → IsReadable z u base note → place < length note.objects
-    → head ≡ head_of (slice_index_or note.objects place [])
+    → head ≡ head_of (prefix_length note.its) (slice_index_or note.objects place [])
 
 -- Among the objects of the base that it was shown this is the key's place: that of the object which has the key, or where one would stand.
 abbrev pub IsPlaceIn : Sizes → TreeView → ℕ → List ℕ → Result ℕ ℕ → Type 0

@@ -2,6 +2,7 @@ pub mod Counting
 pub mod Finding
 pub mod Holding
 pub mod Objects
+pub mod Prefixes
 pub mod Progress
 pub mod Putting
 pub mod Readiness
@@ -9,4 +10,5 @@ pub mod Removing
 pub mod Splitting
 pub mod Taking
 pub mod Targets
+pub mod Trimming
 pub mod Writing

@@ -1,9 +1,9 @@
 -- The objects of a base that a pass was shown, in a line, and a key that is looked for among them.
-use Rattle.std.specs.Prelude.{◌≡◌, ℕ, ◌<◌, ◌≤◌, true, List, [], length, slice_index_or}
+use Rattle.std.specs.Prelude.{◌≡◌, ℕ, ◌<◌, ◌≤◌, true, List, [], length, take, drop, slice_index, slice_index_or}
 use Rattle.std.proofs.Common.{refl, subst, sym, ap, ◌∙◌}
 use Rattle.std.specs.declared.cmp.Ordering.{Ordering}
 use Rattle.ca_model.specs.StoreMap.{bytes_cmp}
-use Rattle.ca_node.specs.Row.{front_of, pair}
+use Rattle.ca_node.specs.Row.{front_of, pair, prefix, prefix_length}
 use Rattle.ca_node.specs.Told.{MyTree}
 use Rattle.ca_node.specs.TreePasses.{tree_of}
 use Rattle.ca_node.specs.TreeView.{Note, TreeView}
@@ -26,13 +26,15 @@ module _ {R : Type 0} where
     pub inside : row ≤ (sizes space).rows
     pub shown : (its : List ℕ) × IsObjectShown (tree_of pass) row its
 
-  -- The pass is pinned, and was shown the base, which has an object at this place; of the key that is looked for, this is the head, and this
-  -- word has the first bytes.
+  -- The pass is pinned, and was shown the base, which has an object at this place; the key that is looked for begins with the base's prefix, this is its
+  -- head behind it, and this word has its first bytes.
   pub record IsComparable (space : Space R TreeView) (pass : Pass R TreeView) (base : ℕ) (key : List ℕ) (head front place : ℕ) : Type 0 where
     pub reading : IsReading space pass
     pub there : HasPlace (sizes space) (tree_of pass) base place
-    pub head_is : head ≡ front_of 5 key
+    pub begins : (note : Note) → IsReadable (sizes space) (tree_of pass) base note → take (prefix_length note.its) key ≡ prefix note.its
+    pub head_is : (note : Note) → IsReadable (sizes space) (tree_of pass) base note → head ≡ front_of 5 (drop (prefix_length note.its) key)
     pub front_is : HasBytes key front
+    pub small : (i : ℕ) → slice_index key i < 256
 
   -- Reading nothing is only reading, and so is only reading twice.
   pub reads_none : (a : Pass R TreeView) → OnlyReads a a
@@ -60,6 +62,8 @@ module _ {R : Type 0} where
       pinned = subst (λ (m : MyTree). m.0.pin.pinned ≡ true) still known.reading.pinned;
     };
     there = subst (λ (m : MyTree). HasPlace (sizes space) m.0.upper base place) still known.there;
-    head_is = known.head_is;
+    begins = λ note r. known.begins note (subst (λ (m : MyTree). IsReadable (sizes space) m.0.upper base note) on.still r);
+    head_is = λ note r. known.head_is note (subst (λ (m : MyTree). IsReadable (sizes space) m.0.upper base note) on.still r);
     front_is = known.front_is;
+    small = known.small;
   }

@@ -1,12 +1,12 @@
 -- Rows that a seat holds, and what is written into them.
-use Rattle.std.specs.Prelude.{◌≡◌, ◌≢◌, ℕ, ◌+◌, ◌*◌, ◌<◌, ◌≤◌, List, [], ◌∷◌, length, take, drop, slice_index, slice_set, slice_range}
+use Rattle.std.specs.Prelude.{◌≡◌, ◌≢◌, ℕ, ◌+◌, ◌-◌, ◌*◌, ◌<◌, ◌≤◌, List, [], ◌∷◌, length, take, drop, slice_index, slice_set, slice_range}
 use Rattle.std.specs.Int.{to_be_bytes, w64}
 use mathlib.Core.Option.{some}
 use Rattle.ca_rows.specs.declared.sizes.Sizes.{Sizes}
 use Rattle.ca_rows.specs.declared.view.Claim.TheVariants.{Holds}
 use Rattle.ca_rows.specs.Claims.{claim_of, held_count}
 use Rattle.ca_node.specs.Told.{MyTree}
-use Rattle.ca_node.specs.Row.{IsObjectRow, IsBaseRow, count, level, IsUnmarked, object, key, item_words}
+use Rattle.ca_node.specs.Row.{IsObjectRow, IsBaseRow, count, level, IsUnmarked, object, key, item_words, bytes_in, prefix, prefix_length, prefix_words}
 use Rattle.ca_rows.specs.Layout.{row_words}
 
 -- The seat holds the row.
@@ -56,19 +56,29 @@ pub record SpellsObject (bytes : List ℕ) (key_at key_end : ℕ) (its : List �
   pub object_is : object its ≡ bytes
   pub key_is : key its ≡ slice_range bytes key_at key_end
 
--- The words are a base's: these words for its items, at this level, with this word for the statistic, and no mark.
-pub record SpellsBase (these : List ℕ) (at_level statistic : ℕ) (its : List ℕ) : Type 0 where
+-- The words are a base's: this prefix, these words for its items, at this level, with this word for the statistic, and no mark.
+pub record SpellsBase (front these : List ℕ) (at_level statistic : ℕ) (its : List ℕ) : Type 0 where
   pub long : length its ≡ row_words
   pub is_base : IsBaseRow its
+  pub length_is : prefix_length its ≡ length front
+  pub prefix_is : prefix its ≡ front
+  pub zeros : (i : ℕ) → length front ≤ i → i < 32 → slice_index (bytes_in (prefix_words its)) i ≡ 0
   pub words_are : item_words its ≡ these
   pub level_is : level its ≡ at_level
   pub count_is : count its ≡ length these
   pub unmarked : IsUnmarked its
   pub statistic_is : slice_index its 1 ≡ statistic
 
--- the words of a base row from the first one up to the mark's bound: so many items, at this level, this word for the statistic, and no mark
-abbrev pub base_head : ℕ → ℕ → ℕ → List ℕ
-base_head at_level many statistic = (144115188075855872 + at_level * 65536 + many) ∷ statistic ∷ 0 ∷ 0 ∷ 0 ∷ 0 ∷ 0 ∷ []
+-- the words of a base row from the first one up to the mark's bound: so many bytes of a prefix, this level, so many items, this word for the statistic, and
+-- no mark
+abbrev pub base_head : ℕ → ℕ → ℕ → ℕ → List ℕ
+base_head bytes at_level many statistic =
+    (144115188075855872 + bytes * 4294967296 + at_level * 65536 + many) ∷ statistic ∷ 0 ∷ 0 ∷ 0 ∷ 0 ∷ 0 ∷ []
+
+-- A word of a base row before its items is one of these, or behind them one with eight bytes of the prefix.
+pub record IsHeadWord (front : List ℕ) (at_level many statistic k word : ℕ) : Type 0 where
+  pub head : k < 7 → word ≡ slice_index (base_head (length front) at_level many statistic) k
+  pub prefix : 7 ≤ k → HasEight front (k - 7) word
 
 -- The seat holds the row with such words, and its other rows as before.
 abbrev pub HasWritten : ℕ → (List ℕ → Type 0) → MyTree → MyTree → Type 0

@@ -76,7 +76,7 @@ fn word_with(space: &TreeSpace, pass: &mut TreePass, row: u32, at: usize, stop: 
 }
 
 // The next bytes of a key, eight where there are as many. Less than eight behind others are those of its last eight.
-fn next_word(key: &[u8], from: usize) -> u64
+pub(crate) fn next_word(key: &[u8], from: usize) -> u64
     requires { from ≤ length key.now }
     ensures { take (length key.now - from) (to_be_bytes w64 result) ≡ take 8 (drop from key.now) }
 {
@@ -99,7 +99,7 @@ fn joined(word: u64, next: u64, skip: usize) -> u64
 }
 
 // How the first bytes of two words stand, at least one of each.
-fn compare_tops(word: u64, other: u64, count: usize) -> Ordering
+pub(crate) fn compare_tops(word: u64, other: u64, count: usize) -> Ordering
     requires { (0 < count) × (count ≤ 8) }
     ensures { result ≡ bytes_cmp (take count (to_be_bytes w64 word)) (take count (to_be_bytes w64 other)) }
 {

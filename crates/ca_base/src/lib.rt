@@ -5,6 +5,7 @@
 mod comparing;
 mod copying;
 mod place;
+mod prefixes;
 mod reading;
 mod removing;
 mod routing;

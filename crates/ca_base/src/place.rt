@@ -5,6 +5,7 @@ ghost use Rattle.ca_rows.specs.Passes.{OnlyReads, IsReading, sizes};
 ghost use Rattle.ca_node.specs.TreePasses.{tree_of};
 
 use crate::comparing::compare_by;
+use crate::prefixes::{compare_prefix, prefix_len};
 use crate::reading::{count, item_word};
 use crate::writing::{head_of, word_of};
 use ca_leaf::{Line, find_among};
@@ -12,8 +13,8 @@ use ca_node::{TreePass, TreeSpace};
 use ca_rows::ROW_LIMIT;
 use std::cmp::Ordering;
 
-// The objects of a base that a pass was shown stand in a line, in the order of their keys, and a key is looked for, of which the head and the first
-// eight bytes were made words before. Where its head differs from that of an item, no object is loaded.
+// The objects of a base that a pass was shown stand in a line, in the order of their keys, and a key is looked for that begins with the base's prefix. Its
+// head behind that and its first eight bytes were made words before. Where its head differs from that of an item, no object is loaded.
 #[derive(Clone, Copy)]
 struct Objects<'a> {
     space: &'a TreeSpace,
@@ -53,8 +54,9 @@ impl Line<TreePass> for Objects<'_> {
     ghost knows_on = { λ line a b on place known. comparable_on line.space.now line.base line.key.now line.head line.front a b on place known };
 }
 
-// The place of the object with this key among those of a base that the pass was shown, or else where it would stand. Only the items that are
-// compared are loaded, at most seven, and an object where its key's head is the wanted one's.
+// The place of the object with this key among those of a base that the pass was shown, or else where it would stand. A key that doesn't begin with the
+// base's prefix stands before all objects or behind them. Else only the items that are compared are loaded, at most seven, and an object where its
+// key's head is the wanted one's.
 pub fn search(space: &TreeSpace, pass: &mut TreePass, base: u32, key: &[u8]) -> Result<u32, u32>
     requires reading { IsReading space.now pass.old }
     requires readable { (note : Note) × IsReadable (sizes space.now) (tree_of pass.old) base note }
@@ -62,11 +64,17 @@ pub fn search(space: &TreeSpace, pass: &mut TreePass, base: u32, key: &[u8]) -> 
     ensures place { IsPlaceIn (sizes space.now) (tree_of pass.old) base key.now result }
 {
     let many = count(space, pass, base);
+    let skip = prefix_len(space, pass, base);
+    match compare_prefix(space, pass, base, key, skip) {
+        Ordering::Less => return Err(many),
+        Ordering::Equal => {}
+        Ordering::Greater => return Err(0),
+    }
     let objects = Objects {
         space,
         base,
         key,
-        head: head_of(key),
+        head: head_of(&key[skip..]),
         front: word_of(key),
     };
     find_among(&objects, many, pass)

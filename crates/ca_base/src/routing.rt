@@ -1,22 +1,26 @@
 //! The rows of a split are written: a route, its key, and the halves of a base.
-ghost use Rattle.std.specs.Prelude.{◌≡◌, ℕ, ◌+◌, ◌<◌, ◌≤◌, List, length, take, drop};
-ghost use Rattle.ca_node.specs.Row.{pair};
-ghost use Rattle.ca_base.specs.Finding.{IsObjectShown};
-ghost use Rattle.ca_base.specs.Putting.{IsShownLast, last_words};
+ghost use Rattle.std.specs.Prelude.{◌≡◌, ℕ, ◌+◌, ◌*◌, ◌<◌, ◌≤◌, List, length, slice_index};
+ghost use Rattle.ca_node.specs.Layout.{items_word};
+ghost use Rattle.ca_node.specs.Row.{head_of, pair};
+ghost use Rattle.ca_base.specs.Finding.{IsObjectShown, IsReadable};
+ghost use Rattle.ca_base.specs.Prefixes.{SpellsHalf, worded};
+ghost use Rattle.ca_base.specs.Putting.{first_note, last_items};
 ghost use Rattle.ca_base.specs.Splitting.{SpellsRoute};
-ghost use Rattle.ca_base.specs.Writing.{SpellsBase, HasWritten};
+ghost use Rattle.ca_base.specs.Writing.{HasFilled, HasWritten};
+ghost use Rattle.ca_rows.specs.Layout.{row_limit};
 ghost use Rattle.ca_base.specs.Holding.{HoldsRow, ReadsAndHolds};
 ghost use Rattle.ca_base.specs.Objects.{IsObjectRead};
 ghost use Rattle.ca_rows.specs.Passes.{OnlyReads, StillKeepsList, sizes, known};
 ghost use Rattle.ca_node.specs.TreePasses.{tree_of};
 
 use crate::comparing::key_bytes;
-use crate::copying::{Run, copy_items};
-use crate::reading::append;
+use crate::copying::Run;
+use crate::prefixes::shared;
+use crate::reading::{append, item};
 use crate::swapping::STATISTIC;
-use crate::writing::{write_bytes, write_head, write_words};
+use crate::writing::{Front, set_word, word_of_item, write_bytes, write_head, write_words};
 use ca_model::Code;
-use ca_node::{CODE, KEY, ROUTE, TreePass, TreeSpace, load_word};
+use ca_node::{CODE, ITEMS, KEY, ROUTE, TreePass, TreeSpace, load_word};
 
 /// The rows of a split: a route, and the two bases under it.
 #[derive(Clone, Copy)]
@@ -48,17 +52,56 @@ pub(crate) fn write_route(
     write_bytes(space, pass, fork.route, KEY, key);
 }
 
-/// Writes a half of the base that was shown last: a base row of this level without a mark, with these of its items, and with a statistic of 0.
+/// Writes a half of the base that was shown last: a base row of this level without a mark, with these of its items, and with a statistic of 0. Its prefix is
+/// the longest one that their first key and their last one share, as far as a base has room for it.
 pub(crate) fn write_half(space: &TreeSpace, pass: &mut TreePass, row: u32, level: u16, run: Run)
     requires row { ReadsAndHolds space.now pass.old row }
-    requires shown { IsShownLast (sizes space.now) (tree_of pass.old) run.base }
-    requires places { (run.from + run.count ≤ length (last_words (tree_of pass.old))) × (run.from + run.count ≤ 120) }
+    requires readable { IsReadable (sizes space.now) (tree_of pass.old) run.base (first_note (tree_of pass.old).notes) }
+    requires places { (0 < run.count) × (run.from + run.count ≤ length (first_note (tree_of pass.old).notes).objects) }
     ensures frame { StillKeepsList pass.old pass.new }
-    ensures written { HasWritten row (SpellsBase (take run.count (drop run.from (last_words (tree_of pass.old)))) level 4294967296) (known pass.old)
-        (known pass.new) }
+    ensures written { HasWritten row (SpellsHalf (first_note (tree_of pass.old).notes) run.from run.count level) (known pass.old) (known pass.new) }
 {
-    write_head(space, pass, row, level, run.count, STATISTIC);
-    copy_items(space, pass, row, 0, run);
+    let first = item(space, pass, run.base, run.from);
+    let mut low = Code::new();
+    copy_key(space, pass, first, &mut low);
+    let last = item(space, pass, run.base, run.from + run.count - 1);
+    let mut high = Code::new();
+    copy_key(space, pass, last, &mut high);
+    let skip = shared(&low, &high).min(32);
+    let front = Front {
+        level,
+        statistic: STATISTIC,
+        prefix: &low[..skip],
+    };
+    write_head(space, pass, row, &front, run.count);
+    write_behind(space, pass, row, skip, run);
+}
+
+// Writes items of the base that was shown last to a base row that the pass holds, with the heads of their objects' keys behind so many bytes.
+fn write_behind(space: &TreeSpace, pass: &mut TreePass, row: u32, skip: usize, run: Run)
+    requires row { ReadsAndHolds space.now pass.old row }
+    requires readable { IsReadable (sizes space.now) (tree_of pass.old) run.base (first_note (tree_of pass.old).notes) }
+    requires places { (run.from + run.count ≤ length (first_note (tree_of pass.old).notes).objects) × (run.from + run.count ≤ 120) }
+    ensures frame { StillKeepsList pass.old pass.new }
+    ensures filled { HasFilled row items_word run.count (λ k word. word ≡ slice_index (worded skip (last_items (tree_of pass.old))
+        (first_note (tree_of pass.old).notes).objects) (run.from + k)) (known pass.old) (known pass.new) }
+{
+    for place in 0..run.count {
+        let object = item(space, pass, run.base, run.from + place);
+        let word = word_behind(space, pass, object, skip);
+        set_word(space, pass, row, ITEMS + place, word);
+    }
+}
+
+// The word of an item for an object that the pass was shown, with the head of its key behind so many bytes.
+fn word_behind(space: &TreeSpace, pass: &mut TreePass, row: u32, skip: usize) -> u64
+    requires object { IsObjectRead space.now pass.old row }
+    ensures frame { OnlyReads pass.old pass.new }
+    ensures word { (its : List ℕ) → IsObjectShown (tree_of pass.old) row its → result ≡ head_of skip its * row_limit + row }
+{
+    let mut key = Code::new();
+    copy_key(space, pass, row, &mut key);
+    word_of_item(&key[skip.min(key.len())..], row)
 }
 
 /// Copies the key of an object that the pass was shown, a word at a time.

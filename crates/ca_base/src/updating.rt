@@ -15,12 +15,12 @@ ghost use Rattle.ca_rows.specs.Passes.{sizes, known};
 ghost use Rattle.ca_node.specs.TreePasses.{tree_of};
 ghost use Rattle.ca_base.specs.Readiness.{IsReady, StaysReady, shown_last};
 
-use crate::copying::write_base_with;
+use crate::copying::{Placing, write_base_with};
 use crate::stop::Stop;
 use crate::swapping::{Deed, Rows, swap_in};
 use crate::taking::take_two;
 use crate::target::{Insertion, Target};
-use crate::writing::{word_of_item, write_object};
+use crate::writing::write_object;
 use ca_model::Spent;
 use ca_node::{TreePass, TreeSpace};
 use std::marker::Brand;
@@ -71,9 +71,13 @@ pub fn put_at(
     let keyed = insertion.keyed;
     let place = insertion.place;
     write_object(space, pass, row, keyed.object, keyed.key_at, keyed.key_end);
-    let word = word_of_item(&keyed.object[keyed.key_at..keyed.key_end], row);
+    let placing = Placing {
+        place,
+        key: &keyed.object[keyed.key_at..keyed.key_end],
+        row,
+    };
     *placed = new;
-    let old = write_base_with(space, pass, new, target, place, word);
+    let old = write_base_with(space, pass, new, target, &placing);
     let rows = Rows {
         new,
         comes: &[row],

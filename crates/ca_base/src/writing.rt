@@ -1,13 +1,13 @@
 //! Rows that a pass holds are written: objects and bases.
-ghost use Rattle.ca_node.specs.Layout.{code_word, items_word, form_unit};
+ghost use Rattle.ca_node.specs.Layout.{code_word, items_word, prefix_word, form_unit};
 ghost use Rattle.ca_node.specs.Row.{front_of, row_in, head_in};
 ghost use Rattle.ca_rows.specs.Layout.{row_words, row_limit};
 ghost use Rattle.std.specs.Prelude.{◌≡◌, ◌+◌, ◌-◌, ◌*◌, ◌/◌, ◌%◌, ◌<◌, ◌≤◌, length, slice_index};
-ghost use Rattle.ca_base.specs.Writing.{HasSet, HasFilled, HasBytes, HasEight, SpellsObject, HasWritten, base_head};
+ghost use Rattle.ca_base.specs.Writing.{HasSet, HasFilled, HasBytes, HasEight, SpellsObject, HasWritten, IsHeadWord};
 ghost use Rattle.ca_base.specs.Holding.{HoldsRow};
 ghost use Rattle.ca_rows.specs.Passes.{StillKeepsList, known};
 
-use ca_node::{BASE, CODE, ITEMS, OBJECT, TreePass, TreeSpace};
+use ca_node::{BASE, CODE, ITEMS, OBJECT, PREFIX, PREFIX_LENGTH, TreePass, TreeSpace};
 use ca_rows::ROW_LIMIT;
 
 /// Writes an object row: the first word, and the object's bytes, eight a word, with zeros behind their end to the end of their last word. What stands
@@ -30,21 +30,49 @@ pub(crate) fn write_object(
     write_bytes(space, pass, row, CODE, object);
 }
 
-// Writes the words of a base row of a level without a mark that stand before its items, of which there are so many, with the word for its statistic.
+/// What the words of a base row tell before its items: the level, the word for the statistic, and the prefix. It has no mark.
+#[derive(Clone, Copy)]
+pub(crate) struct Front<'a> {
+    pub(crate) level: u16,
+    pub(crate) statistic: u64,
+    pub(crate) prefix: &'a [u8],
+}
+
+// Writes the words of a base row that stand before its items, of which there are so many.
 pub(crate) fn write_head(
     space: &TreeSpace,
     pass: &mut TreePass,
     row: u32,
-    level: u16,
+    front: &Front<'_>,
     many: u32,
-    statistic: u64,
 )
     requires row { HoldsRow space.now pass.old row }
+    requires short { length front.now.prefix.now ≤ 32 }
     ensures frame { StillKeepsList pass.old pass.new }
-    ensures filled { HasFilled row 0 7 (λ k word. word ≡ slice_index (base_head level many statistic) k) (known pass.old) (known pass.new) }
+    ensures filled { HasFilled row 0 11 (IsHeadWord front.now.prefix.now front.now.level many front.now.statistic) (known pass.old) (known pass.new) }
 {
-    let form = BASE + level as u64 * 65_536 + many as u64;
-    write_words(space, pass, row, &[form, statistic, 0, 0, 0, 0, 0]);
+    let bytes = front.prefix.len() as u64 * PREFIX_LENGTH;
+    let form = BASE + bytes + front.level as u64 * 65_536 + many as u64;
+    write_words(space, pass, row, &[form, front.statistic, 0, 0, 0, 0, 0]);
+    write_prefix(space, pass, row, front.prefix);
+}
+
+// Writes the bytes of a base's prefix, with zeros behind their end to the last word that has room for them.
+fn write_prefix(space: &TreeSpace, pass: &mut TreePass, row: u32, prefix: &[u8])
+    requires row { HoldsRow space.now pass.old row }
+    ensures frame { StillKeepsList pass.old pass.new }
+    ensures filled { HasFilled row prefix_word 4 (HasEight prefix.now) (known pass.old) (known pass.new) }
+{
+    for place in 0..4_usize {
+        let from = (8 * place).min(prefix.len());
+        set_word(
+            space,
+            pass,
+            row,
+            PREFIX + place as u32,
+            word_of(&prefix[from..]),
+        );
+    }
 }
 
 // The first word of an object row.

@@ -26,7 +26,7 @@ use Rattle.ca_node.specs.Laws.{tree_lends, in_nothing, numbered, relisted}
 use Rattle.ca_node.specs.Links.{IsIn, IsLinked, IsLent, IsNoted, by_note, by_item, by_way, by_link, by_link_item}
 use Rattle.ca_node.specs.Place.{Place, left_place, right_place}
 use Rattle.ca_node.specs.Reached.{same_place, base_at, link_range, reached, placed_linked, item_linked, item_out, nothing_lent}
-use Rattle.ca_node.specs.Row.{row_at, IsBaseRow, IsRouteRow, items, count, level, IsUnmarked, IsIdle, key, route_key, item_words, row_in, head_in, heads, head_of}
+use Rattle.ca_node.specs.Row.{row_at, IsBaseRow, IsRouteRow, items, count, level, IsUnmarked, IsIdle, key, route_key, IsHeaded}
 use Rattle.ca_node.specs.Shape.{Role, Out, Base, Route, place_of, IsBaseAt, IsShape}
 use Rattle.ca_rows.specs.Told.{relinked}
 use Rattle.ca_node.specs.Told.{MyTree, IsHalf, IsDivision, given, taken_out, divided_inventory, divided, one_more_lost, IsDivided, IsMissed, Divides, HasDivided, MaySwap}
@@ -131,14 +131,19 @@ module _ (z : Sizes) (s : State (Unit {0}) (View TreeView)) (r : R z s) (id : �
   old_item : (row : ℕ) → IsIn row (items x.old.its) → IsIn row (items (row_at s.words x.old.row))
   old_item row i = subst (λ its. IsIn row (items its)) (sym old_true.spells) i
 
+  objects_are : map (λ c. row_at s.words c) (items x.old.its) ≡ x.old.objects
+  objects_are = old_true.objects_are u.old_base
+
   -- A half is a base that may come.
-  half : (row : ℕ) (its these : List ℕ) (there : Place) → there.level ≡ x.old.place.level + 1
-      → claim_of d.claims row ≡ some (Holds its) → IsHalf z x.old.place.level these its
-      → ((c : ℕ) → IsIn c (map row_in these) → IsIn c (items x.old.its))
-      → map head_in these ≡ map (λ c. head_of (row_at s.words c)) (map row_in these)
+  half : (row : ℕ) (its these : List ℕ) (objects : List (List ℕ)) (there : Place)
+      → there.level ≡ x.old.place.level + 1
+      → claim_of d.claims row ≡ some (Holds its)
+      → IsHalf z x.old.place.level these objects its
+      → ((c : ℕ) → IsIn c these → IsIn c (items x.old.its))
+      → map (λ c. row_at s.words c) these ≡ objects
       → IsNewBase z s.words r.above.role there row
-  half row its these there below e h within headed = let w = held row its e in
-      let items_are = ap items w.2 ∙ ap (map row_in) h.words_are in record {
+  half row its these objects there below e h within are = let w = held row its e in
+      let items_are = ap items w.2 ∙ h.items_are in record {
         some_row = w.0;
         in_range = w.1;
         is_out = held_out row its e;
@@ -149,13 +154,11 @@ module _ (z : Sizes) (s : State (Unit {0}) (View TreeView)) (r : R z s) (id : �
         are_objects =
             λ c i. old_at.are_objects c
             (old_item c (within c (subst (IsIn c) items_are i)));
-        headed = ap heads w.2 ∙ (ap (map head_in) h.words_are ∙ (headed
-            ∙ sym (ap (map (λ c. head_of (row_at s.words c))) items_are)));
+        headed = subst (λ (y : List ℕ × List (List ℕ)). IsHeaded y.0 y.1) (λ i. (
+          sym w.2 i,
+          sym (ap (map (λ c. row_at s.words c)) items_are ∙ are) i,
+        )) h.headed;
       }
-
-  -- The old base's items have the heads of its objects' keys.
-  old_headed : heads x.old.its ≡ map (λ c. head_of (row_at s.words c)) (items x.old.its)
-  old_headed = subst (λ its. heads its ≡ map (λ c. head_of (row_at s.words c)) (items its)) old_true.spells old_at.headed
 
   both : items x.old.its ≡ take x.middle (items x.old.its) ++ drop x.middle (items x.old.its)
   both = take_drop x.middle (items x.old.its)
@@ -163,26 +166,22 @@ module _ (z : Sizes) (s : State (Unit {0}) (View TreeView)) (r : R z s) (id : �
   left_base : IsNewBase z s.words r.above.role
       (left_place x.old.place (route_key x.route_its) x.route) x.left
   left_base =
-      half x.left x.left_its (take x.middle (item_words x.old.its))
+      half x.left x.left_its (take x.middle (items x.old.its)) (take x.middle x.old.objects)
       (left_place x.old.place (route_key x.route_its) x.route) refl u.held_left u.is_left
       (λ c i. subst (IsIn c) (sym both)
-      (in_front (take x.middle (items x.old.its)) (drop x.middle (items x.old.its)) c
-      (subst (IsIn c) (sym (take-map row_in x.middle (item_words x.old.its))) i)))
-      (sym (take-map head_in x.middle (item_words x.old.its)) ∙ (ap (take x.middle) old_headed
-      ∙ (take-map (λ c. head_of (row_at s.words c)) x.middle (items x.old.its)
-      ∙ ap (map (λ c. head_of (row_at s.words c))) (take-map row_in x.middle (item_words x.old.its)))))
+      (in_front (take x.middle (items x.old.its)) (drop x.middle (items x.old.its)) c i))
+      (sym (take-map (λ c. row_at s.words c) x.middle (items x.old.its))
+      ∙ ap (take x.middle) objects_are)
 
   right_base : IsNewBase z s.words r.above.role
       (right_place x.old.place (route_key x.route_its) x.route) x.right
   right_base =
-      half x.right x.right_its (drop x.middle (item_words x.old.its))
+      half x.right x.right_its (drop x.middle (items x.old.its)) (drop x.middle x.old.objects)
       (right_place x.old.place (route_key x.route_its) x.route) refl u.held_right u.is_right
       (λ c i. subst (IsIn c) (sym both)
-      (in_back (take x.middle (items x.old.its)) (drop x.middle (items x.old.its)) c
-      (subst (IsIn c) (sym (drop-map row_in x.middle (item_words x.old.its))) i)))
-      (sym (drop-map head_in x.middle (item_words x.old.its)) ∙ (ap (drop x.middle) old_headed
-      ∙ (drop-map (λ c. head_of (row_at s.words c)) x.middle (items x.old.its)
-      ∙ ap (map (λ c. head_of (row_at s.words c))) (drop-map row_in x.middle (item_words x.old.its)))))
+      (in_back (take x.middle (items x.old.its)) (drop x.middle (items x.old.its)) c i))
+      (sym (drop-map (λ c. row_at s.words c) x.middle (items x.old.its))
+      ∙ ap (drop x.middle) objects_are)
 
   new_route : IsNewRoute z s.words r.above.role x.old.place.level (route_key x.route_its) x.left
       x.right x.route
@@ -200,18 +199,16 @@ module _ (z : Sizes) (s : State (Unit {0}) (View TreeView)) (r : R z s) (id : �
   }
 
   left_items : items (row_at s.words x.left) ≡ take x.middle (items x.old.its)
-  left_items = ap items (held x.left x.left_its u.held_left).2 ∙ (ap (map row_in) u.is_left.words_are
-      ∙ sym (take-map row_in x.middle (item_words x.old.its)))
+  left_items = ap items (held x.left x.left_its u.held_left).2 ∙ u.is_left.items_are
 
   right_items : items (row_at s.words x.right) ≡ drop x.middle (items x.old.its)
-  right_items = ap items (held x.right x.right_its u.held_right).2 ∙ (ap (map row_in) u.is_right.words_are
-      ∙ sym (drop-map row_in x.middle (item_words x.old.its)))
+  right_items = ap items (held x.right x.right_its u.held_right).2 ∙ u.is_right.items_are
 
   -- The object at a place of the old base, by its row.
   object_is : (k row : ℕ) → get_elem? (items x.old.its) k ≡ some row
       → get_or x.old.objects k [] ≡ row_at s.words row
   object_is k row e = at_place x.old.objects k (row_at s.words row) (ap
-      (λ xs. get_elem? xs k) (sym (old_true.objects_are u.old_base))
+      (λ xs. get_elem? xs k) (sym objects_are)
       ∙ at_map (λ c. row_at s.words c) (items x.old.its) k row e)
     where
       at_place : (xs : List (List ℕ)) (k : ℕ) (y : List ℕ) → get_elem? xs k ≡ some y
@@ -224,7 +221,7 @@ module _ (z : Sizes) (s : State (Unit {0}) (View TreeView)) (r : R z s) (id : �
   first : (row : ℕ) × (rest : List ℕ) × (drop x.middle (items x.old.its) ≡ row ∷ rest)
       × (get_elem? (items x.old.its) x.middle ≡ some row)
   first = drop_at x.middle (items x.old.its) (let e = ap
-      (λ (xs : List (List ℕ)). length xs) (old_true.objects_are u.old_base) in
+      (λ (xs : List (List ℕ)). length xs) objects_are in
       let l = length-map (items x.old.its) (λ c. row_at s.words c) in let lo = u.middle_is in
       omega arith)
 

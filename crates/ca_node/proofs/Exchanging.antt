@@ -26,7 +26,7 @@ use Rattle.ca_node.specs.Links.{IsIn, IsLinked, IsLent, IsNoted, by_note, by_ite
 use Rattle.ca_node.specs.Marks.{IsMarkIn}
 use Rattle.ca_node.specs.Place.{part, Place}
 use Rattle.ca_node.specs.Reached.{same_place, base_at, link_range, reached, placed_linked, item_linked, item_out, linked_range, nothing_lent}
-use Rattle.ca_node.specs.Row.{row_at, form, IsObjectRow, IsBaseRow, items, count, level, pair, objects_in, heads, head_of}
+use Rattle.ca_node.specs.Row.{row_at, form, IsObjectRow, IsBaseRow, items, count, level, pair, objects_in, IsHeaded}
 use Rattle.ca_node.specs.Shape.{Role, Out, Base, Route, place_of, IsBaseAt, IsShape}
 use Rattle.ca_node.specs.Stays.{map_same}
 use Rattle.ca_rows.specs.Told.{relinked}
@@ -42,7 +42,6 @@ use Rattle.ca_node.proofs.Rebased.{IsNewBase, relinked_wide, relinked_else, reli
 use Rattle.ca_node.proofs.Remembering.{remembered_leads, unlinked_out, note_stays, way_stays, notes_stay}
 use Rattle.ca_rows.specs.Layout.{row_words}
 use Rattle.ca_node.specs.Layout.{root_word}
-use Rattle.ca_node.specs.Standing.{map_both}
 
 -- The seat may put the new row in the place of the old base, as far as the rows and the items go:
 -- it is pinned, its last load of that link showed that
@@ -58,7 +57,7 @@ pub record IsExchange (z : Sizes) (m : MyTree) (new : ℕ) (x : Update) : Type 0
   pub level_is : level x.its ≡ x.old.place.level
   pub few : count x.its ≤ z.leaf
   pub as_many : length x.objects ≡ length (items x.its)
-  pub headed : heads x.its ≡ map head_of x.objects
+  pub headed : IsHeaded x.its x.objects
   pub are_objects : (k row : ℕ) (its : List ℕ) → get_elem? (items x.its) k ≡ some row
       → get_elem? x.objects k ≡ some its → IsObjectOf m x row its
   pub come : (row : ℕ) → IsIn row x.comes → IsIn row (items x.its)
@@ -204,9 +203,10 @@ module _ (z : Sizes) (s : State (Unit {0}) (View TreeView)) (r : R z s) (id : �
         are_objects = λ row i.
             let w = words_of row (subst (λ its. IsIn row (items its)) new_row.2 i) in
             (w.1, w.2, subst IsObjectRow (sym w.3) w.4);
-        headed = ap heads new_row.2 ∙ (u.headed ∙ (ap (map head_of) (sym objects_now)
-            ∙ (map_both head_of (λ row. row_at s.words row) (items x.its)
-            ∙ sym (ap (λ its. map (λ row. head_of (row_at s.words row)) (items its)) new_row.2))));
+        headed = subst (λ (y : List ℕ × List (List ℕ)). IsHeaded y.0 y.1) (λ i. (
+          sym new_row.2 i,
+          sym (ap (λ its. map (λ row. row_at s.words row) (items its)) new_row.2 ∙ objects_now) i,
+        )) u.headed;
       }
 
       abbrev pub role' : ℕ → Role

@@ -20,9 +20,9 @@ use Rattle.ca_node.specs.Laws.{alive, tree_lends, numbered, relisted, seat_chang
 use Rattle.ca_node.specs.Links.{IsIn, IsUnder, IsLinked, by_route, by_base, IsLent, IsNoted, by_note, by_item, by_way, by_link, by_link_item}
 use Rattle.ca_node.specs.Place.{Span, all_keys, left_of, right_of, HasKey, part, Place}
 use Rattle.ca_node.specs.Reached.{by_place, base_at, route_at, placed_linked, item_linked}
-use Rattle.ca_node.specs.Row.{row_at, IsObjectRow, IsBaseRow, IsRouteRow, items, route_key, pair, head_of}
+use Rattle.ca_node.specs.Row.{row_at, IsObjectRow, IsBaseRow, IsRouteRow, items, route_key, pair}
 use Rattle.ca_node.specs.Shape.{Base, Route, place_of, LeadsTo, IsBaseAt, IsRouteAt}
-use Rattle.ca_node.specs.Standing.{mark_of, map_both}
+use Rattle.ca_node.specs.Standing.{mark_of}
 use Rattle.ca_node.specs.Stays.{word_at, row_long}
 use Rattle.ca_node.specs.Told.{MyTree, with_upper, IsBaseNote, IsRouteNote, IsKnown, IsMissed, IsKnownLink, IsAnyLink, IsPlaceOf, come_to, come_at, led_to_base, led_to_route, IsLedToBase, IsLedToRoute, IsLed, Leads, IsShown, IsShownRoute, IsRead, Reads, entered, ReadsLast, Refuses, IsRise, one_more_lost, MayLoad}
 use Rattle.ca_node.specs.States.{IsAlone, IsReadSince}
@@ -247,7 +247,7 @@ module _ (z : Sizes) (made : ℕ) (words : List ℕ) (uppers : List TreeView)
           let o = at.are_objects from.0 (i.0, from.1) in
           subst (λ (x : List ℕ). (length x ≡ row_words)
           × IsObjectRow x) from.2 (row_long words z.rows from.0 f.shape.wide o.1, o.2);
-      headed = at.headed ∙ sym (map_both head_of (λ r. row_at words r) (items (row_at words row)));
+      headed = at.headed;
     }
 
     -- Its objects are what the last state has of the keys that are led there.

@@ -452,9 +452,9 @@ module _ (z : Sizes) (s : Spot) (m : MyTree) (cursor : Cursor) (m' : MyTree) whe
 
   -- The word tells the level of a base.
   pub level_told : (at : IsAtBase z s m cursor m') (word : ℕ) → ((w : ℕ) → IsFirstWord w → word ≡ w)
-      → at.note.place.level ≡ word / 65536 % 1099511627776
+      → at.note.place.level ≡ word / 65536 % 65536
   level_told at word is = sym at.is_base.level_is
-      ∙ ap (λ (k : ℕ). k / 65536 % 1099511627776) (sym (is (get_or at.note.its 0 0) (base_word at)))
+      ∙ ap (λ (k : ℕ). k / 65536 % 65536) (sym (is (get_or at.note.its 0 0) (base_word at)))
 
   -- The walk ends at a base.
   pub ends : (level : ℕ) (at : IsAtBase z s m cursor m') → at.note.place.level ≡ level

@@ -13,12 +13,13 @@ use Rattle.ca_rows.specs.Opening.{AreInBounds, AreUsable}
 use Rattle.ca_rows.specs.Words.{IsWide, result_of}
 use Rattle.ca_rows.proofs.Making.{at_place}
 use Rattle.ca_rows.proofs.Rules.{all_seats}
+use Rattle.ca_node.specs.Bare.{bare_headed}
 use Rattle.ca_node.specs.Inventory.{IsInventory}
 use Rattle.ca_node.specs.Links.{root, IsIn, IsUnder, IsActive, IsLinked, by_root, by_range, IsLent, IsNoted, by_note, by_item, by_way, by_link, by_link_item}
 use Rattle.ca_node.specs.Opened.{opens_at, result_at}
 use Rattle.ca_node.specs.Place.{Place, root_place}
 use Rattle.ca_node.specs.Reached.{same_place, reached, linked_range, nothing_lent}
-use Rattle.ca_node.specs.Row.{row_at, IsObjectRow, IsBaseRow, items, route_key, pair, item_words, row_in, head_in, head_of}
+use Rattle.ca_node.specs.Row.{row_at, IsObjectRow, IsBaseRow, items, route_key, pair, item_words, row_in, IsHeaded}
 use Rattle.ca_node.specs.Shape.{Role, Out, Base, Route, place_of, IsBaseAt, IsSo, IsShape}
 use Rattle.ca_node.specs.Standing.{shape_stands}
 use Rattle.ca_node.specs.Stays.{IsSameRow, word_at, row_same, map_same, linked_on, linked_back, lent_on, lent_back}
@@ -509,11 +510,13 @@ module _ (z : Sizes) (words : List ℕ) (bounds : AreInBounds z) (usable : AreUs
     is_link = inl refl;
     deep = omega arith;
     is_base = ap (λ n. n / form_unit) first_word;
-    level_is = ap (λ n. n / 65536 % 1099511627776) first_word;
+    level_is = ap (λ n. n / 65536 % 65536) first_word;
     few = let e = ap (λ n. n % 65536) first_word in omega arith;
     marked = inl (word_at words 1 2 (omega arith) ∙ above 138 (omega arith) (omega arith));
     are_objects = λ r i. absurd (in_nothing r (items (row_at words 1)) no_items i);
-    headed = ap (map head_in) no_words ∙ sym (ap (map (λ r. head_of (row_at words r))) no_items);
+    headed = subst (IsHeaded (row_at words 1)) (sym (ap (map (λ row. row_at words row)) no_items)) (bare_headed (row_at words 1) first_word
+        (word_at words 1 7 (omega arith) ∙ above 143 (omega arith) (omega arith)) (word_at words 1 8 (omega arith) ∙ above 144 (omega arith) (omega arith))
+        (word_at words 1 9 (omega arith) ∙ above 145 (omega arith) (omega arith)) (word_at words 1 10 (omega arith) ∙ above 146 (omega arith) (omega arith)));
     has = ap (map (λ row. pair (row_at words row))) no_items;
   }
 

@@ -13,12 +13,15 @@ sequence_unit = 67108864
 abbrev pub form_unit : ℕ
 form_unit = 72057594037927936
 
--- the first word of a row with an object's bytes, with the bytes of a route's key, with a base's items
+-- the first word of a row with an object's bytes, with the bytes of a route's key, with those of a base's prefix, with a base's items
 abbrev pub code_word : ℕ
 code_word = 1
 
 abbrev pub key_word : ℕ
 key_word = 4
+
+abbrev pub prefix_word : ℕ
+prefix_word = 7
 
 abbrev pub items_word : ℕ
 items_word = 11

@@ -1,3 +1,4 @@
+pub mod Bare
 pub mod Inventory
 pub mod LastTree
 pub mod Laws

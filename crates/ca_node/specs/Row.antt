@@ -1,10 +1,12 @@
 -- What the words of a row spell.
 use Rattle.std.specs.Prelude.{◌≡◌, ℕ, ◌+◌, ◌*◌, ◌/◌, ◌%◌, ◌^◌, ◌<◌, ◌≤◌, List, [], ◌∷◌, ◌++◌, take, drop, map, slice_index}
+use mathlib.Core.Option.{some}
+use lib.ListN.{get_elem?}
 use Prim.Native.Nat.{zero, suc}
 use Rattle.std.specs.Int.{to_be_bytes, w64}
 use Rattle.ca_model.specs.StoreMap.{Pair, StoreMap}
 use Rattle.ca_rows.specs.Layout.{row_words, row_limit}
-use Rattle.ca_node.specs.Layout.{code_word, key_word, items_word, form_unit}
+use Rattle.ca_node.specs.Layout.{code_word, key_word, prefix_word, items_word, form_unit}
 
 -- the 136 words of a row
 abbrev pub row_at : List ℕ → ℕ → List ℕ
@@ -26,7 +28,7 @@ count its = slice_index its 0 % 65536
 
 -- of a base or a route: the level that it stands at
 abbrev pub level : List ℕ → ℕ
-level its = slice_index its 0 / 65536 % 1099511627776
+level its = slice_index its 0 / 65536 % 65536
 
 -- of a base: a word for each object that it names, in the order of their keys
 abbrev pub item_words : List ℕ → List ℕ
@@ -119,9 +121,9 @@ front_of zero bytes = 0
 front_of (suc n) [] = 0
 front_of (suc n) (byte ∷ bytes) = byte * 256 ^ n + front_of n bytes
 
--- the head of an object's key: its first five bytes
-abbrev pub head_of : List ℕ → ℕ
-head_of its = front_of 5 (key its)
+-- the head of an object's key behind so many bytes: the next five
+abbrev pub head_of : ℕ → List ℕ → ℕ
+head_of skip its = front_of 5 (drop skip (key its))
 
 -- an object's key and its bytes
 abbrev pub pair : List ℕ → Pair
@@ -131,6 +133,25 @@ pair its = (key its, object its)
 abbrev pub objects_in : List ℕ → ℕ → StoreMap
 objects_in words base = map (λ row. pair (row_at words row)) (items (row_at words base))
 
--- Each item of the base has the head of the key of the object that it names.
+-- of a base: how many bytes its prefix has, the words that have room for them, and these bytes
+abbrev pub prefix_length : List ℕ → ℕ
+prefix_length its = slice_index its 0 / 4294967296 % 16777216
+
+abbrev pub prefix_words : List ℕ → List ℕ
+prefix_words its = take 4 (drop prefix_word its)
+
+abbrev pub prefix : List ℕ → List ℕ
+prefix its = take (prefix_length its) (bytes_in (prefix_words its))
+
+-- A base has a prefix of 32 bytes at most, with zeros behind it. The keys of these objects begin with it, and each item has the head of its object's key
+-- behind it. Where there are none, it has no byte.
+pub record IsHeaded (its : List ℕ) (objects : List (List ℕ)) : Type 0 where
+  pub short : prefix_length its ≤ 32
+  pub zeros : (i : ℕ) → prefix_length its ≤ i → i < 32 → slice_index (bytes_in (prefix_words its)) i ≡ 0
+  pub bare : objects ≡ [] → prefix_length its ≡ 0
+  pub begin : (k : ℕ) (object : List ℕ) → get_elem? objects k ≡ some object → take (prefix_length its) (key object) ≡ prefix its
+  pub headed : heads its ≡ map (head_of (prefix_length its)) objects
+
+-- The base is headed so, by the objects that it names.
 abbrev pub AreHeaded : List ℕ → ℕ → Type 0
-AreHeaded words base = heads (row_at words base) ≡ map (λ row. head_of (row_at words row)) (items (row_at words base))
+AreHeaded words base = IsHeaded (row_at words base) (map (λ row. row_at words row) (items (row_at words base)))

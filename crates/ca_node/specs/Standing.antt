@@ -1,6 +1,6 @@
 -- What stands of the shape of a tree: a base and a route in other words, the whole shape in words that are the same where it matters, and
 -- with a map that has the same for each base.
-use Rattle.std.proofs.Common.{◌≡◌, ◌≢◌, ℕ, ◌+◌, ◌*◌, ◌/◌, ◌%◌, ◌<◌, ◌≤◌, List, [], ◌∷◌, map, take, drop, get_or, sym, refl, ap, ◌∙◌, subst, inl, inr, ⊎_elim, arith, length-drop}
+use Rattle.std.proofs.Common.{◌≡◌, ◌≢◌, ℕ, ◌+◌, ◌*◌, ◌/◌, ◌%◌, ◌<◌, ◌≤◌, List, map, take, drop, get_or, sym, refl, ap, ◌∙◌, subst, inl, inr, ⊎_elim, arith, length-drop}
 use Rattle.std.proofs.lemmas.List.{get_or-drop}
 use Rattle.std.proofs.lemmas.Grind.{same_number_lists}
 use mathlib.Core.Option.{some}
@@ -10,7 +10,7 @@ use Rattle.ca_rows.specs.Words.{IsWide, result_of}
 use Rattle.ca_node.specs.Links.{root, IsIn, IsLinked}
 use Rattle.ca_node.specs.Marks.{IsOfRange, IsOfJoin, IsMark, IsMarkIn}
 use Rattle.ca_node.specs.Place.{Span, all_keys, left_of, right_of, part, Place, IsLinkOf}
-use Rattle.ca_node.specs.Row.{row_at, form, IsObjectRow, IsBaseRow, count, level, items, mark_owner, mark_number, IsUnmarked, join_word, IsIdle, route_key, bytes_in, pair, objects_in, heads, head_of, AreHeaded}
+use Rattle.ca_node.specs.Row.{row_at, form, IsObjectRow, IsBaseRow, count, level, items, mark_owner, mark_number, IsUnmarked, join_word, IsIdle, route_key, bytes_in, pair, objects_in, IsHeaded, AreHeaded}
 use Rattle.ca_node.specs.Shape.{Role, Out, Base, Route, place_of, IsLink, LeadsTo, IsBaseAt, IsRouteAt, IsSo, IsShape}
 use Rattle.ca_node.specs.Stays.{IsSameRow, word_at, row_long, row_same, map_same}
 use Rattle.ca_node.specs.Reached.{linked_range, placed_linked, item_linked}
@@ -55,7 +55,7 @@ module _ (words others : List ℕ) (rows row : ℕ) (wide : IsWide rows words) (
 
   -- It stands at the same level.
   pub level_same : level (row_at others row) ≡ level (row_at words row)
-  level_same = ap (λ n. n / 65536 % 1099511627776) first_same
+  level_same = ap (λ n. n / 65536 % 65536) first_same
 
 -- What a base has, if it has its words, and each object row that it names has.
 pub objects_same : (words others : List ℕ) (base : ℕ) → row_at others base ≡ row_at words base
@@ -63,16 +63,14 @@ pub objects_same : (words others : List ℕ) (base : ℕ) → row_at others base
 objects_same words others base e same = ap (λ its. map (λ r. pair (row_at others r)) (items its)) e
     ∙ map_same (λ r. pair (row_at others r)) (λ r. pair (row_at words r)) (items (row_at words base)) (λ r i. ap pair (same r i))
 
--- One map after another.
-pub map_both : {A B C : Type 0} (f : B → C) (g : A → B) (xs : List A) → map f (map g xs) ≡ map (λ x. f (g x)) xs
-map_both f g [] = refl
-map_both f g (x ∷ xs) = ap (λ ys. f (g x) ∷ ys) (map_both f g xs)
-
--- Its items have the heads of these objects' keys then.
+-- It is headed by these objects then.
 pub heads_same : (words others : List ℕ) (base : ℕ) → row_at others base ≡ row_at words base
     → ((r : ℕ) → IsIn r (items (row_at words base)) → row_at others r ≡ row_at words r) → AreHeaded words base → AreHeaded others base
-heads_same words others base e same h = ap heads e ∙ (h ∙ sym (ap (λ its. map (λ r. head_of (row_at others r)) (items its)) e
-    ∙ map_same (λ r. head_of (row_at others r)) (λ r. head_of (row_at words r)) (items (row_at words base)) (λ r i. ap head_of (same r i))))
+heads_same words others base e same = subst (λ (x : List ℕ × List (List ℕ)). IsHeaded x.0 x.1) (λ i. (
+  sym e i,
+  sym (ap (λ its. map (λ r. row_at others r) (items its)) e
+      ∙ map_same (λ r. row_at others r) (λ r. row_at words r) (items (row_at words base)) same) i,
+))
 
 -- A mark that is there is one.
 pub mark_of : (words : List ℕ) (place : Place) (its : List ℕ) → IsMarkIn words place its → IsMark place its

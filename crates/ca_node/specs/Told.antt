@@ -21,7 +21,7 @@ use Rattle.ca_node.specs.declared.link.Link.{Link}
 use Rattle.ca_node.specs.declared.link.Link.TheVariants as link
 use Rattle.ca_node.specs.Marks.{IsMark}
 use Rattle.ca_node.specs.Place.{Span, all_keys, left_of, right_of, HasKey, Place, left_place, right_place, edit_key}
-use Rattle.ca_node.specs.Row.{IsObjectRow, IsBaseRow, IsRouteRow, count, level, items, IsUnmarked, IsIdle, key, route_key, pair, item_words, heads, head_of}
+use Rattle.ca_node.specs.Row.{IsObjectRow, IsBaseRow, IsRouteRow, count, level, items, IsUnmarked, IsIdle, key, route_key, pair, IsHeaded}
 use Rattle.ca_node.specs.States.{HasState, IsAlone, IsReadAt}
 use Rattle.ca_node.specs.Tree.{ArePast, IsFixed}
 use Rattle.ca_node.specs.TreeView.{Note, Way, Renewal, Division, Inventory, TreeView, blank, no_note, one_passed}
@@ -49,7 +49,7 @@ pub record IsBaseNote (z : Sizes) (note : Note) : Type 0 where
   pub named : (r : ℕ) → IsIn r (items note.its) → (0 < r) × (r ≤ z.rows)
   pub as_many : length note.objects ≡ length (items note.its)
   pub objects_long : (its : List ℕ) → IsIn its note.objects → (length its ≡ row_words) × IsObjectRow its
-  pub headed : heads note.its ≡ map head_of note.objects
+  pub headed : IsHeaded note.its note.objects
 
 -- The route has these words, and stands above the last level; its key is one of those that are led to it.
 pub record IsRouteNote (z : Sizes) (way : Way) : Type 0 where
@@ -220,7 +220,7 @@ pub record IsUpdate (z : Sizes) (m : MyTree) (new : ℕ) (x : Update) : Type 0 w
   pub few : count x.its ≤ z.leaf
   pub unmarked : IsUnmarked x.its
   pub as_many : length x.objects ≡ length (items x.its)
-  pub headed : heads x.its ≡ map head_of x.objects
+  pub headed : IsHeaded x.its x.objects
   pub are_objects : (k row : ℕ) (its : List ℕ) → get_elem? (items x.its) k ≡ some row → get_elem? x.objects k ≡ some its → IsObjectOf m x row its
   pub come : (row : ℕ) → IsIn row x.comes → IsIn row (items x.its) × ((its : List ℕ) × (claim_of m.0.claims row ≡ some (Holds its)))
   pub come_once : AreOnce row_itself x.comes
@@ -301,13 +301,14 @@ HasUpdated false new x m m' = m' ≡ with_upper m (one_more_lost m.0.upper)
 abbrev pub no_division : Division
 no_division = record { old = no_note; route = 0; left = 0; right = 0; route_its = []; left_its = []; right_its = []; middle = 0 }
 
--- These words are those of a half: a base of the level below, with these words for its items, and no mark.
-pub record IsHalf (z : Sizes) (level_above : ℕ) (these : List ℕ) (its : List ℕ) : Type 0 where
+-- These words are those of a half: a base of the level below, with these items, headed by these objects, and no mark.
+pub record IsHalf (z : Sizes) (level_above : ℕ) (these : List ℕ) (objects : List (List ℕ)) (its : List ℕ) : Type 0 where
   pub is_base : IsBaseRow its
   pub level_is : level its ≡ level_above + 1
   pub few : count its ≤ z.leaf
   pub unmarked : IsUnmarked its
-  pub words_are : item_words its ≡ these
+  pub items_are : items its ≡ these
+  pub headed : IsHeaded its objects
 
 -- The seat may put the route in the place of the old base: it is pinned, its last load of that link showed that base, which stands above the last level,
 -- and it holds the route and the halves.
@@ -330,8 +331,8 @@ pub record IsDivision (z : Sizes) (m : MyTree) (x : Division) : Type 0 where
   -- The route's key is that of the first object that goes right.
   pub middle_is : x.middle < length x.old.objects
   pub key_is : route_key x.route_its ≡ key (slice_index_or x.old.objects x.middle [])
-  pub is_left : IsHalf z x.old.place.level (take x.middle (item_words x.old.its)) x.left_its
-  pub is_right : IsHalf z x.old.place.level (drop x.middle (item_words x.old.its)) x.right_its
+  pub is_left : IsHalf z x.old.place.level (take x.middle (items x.old.its)) (take x.middle x.old.objects) x.left_its
+  pub is_right : IsHalf z x.old.place.level (drop x.middle (items x.old.its)) (drop x.middle x.old.objects) x.right_its
 
 -- what the tree has after the split
 abbrev pub divided_inventory : Division → Inventory → Inventory

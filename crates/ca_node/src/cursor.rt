@@ -57,7 +57,7 @@ pub fn walk(space: &TreeSpace, pass: &mut TreePass, spot: Spot<'_>) -> Cursor
     loop {
         let word = load_word(space, pass, cursor.base, 0);
         if word / FORM != ROUTE / FORM {
-            let level = (word / 65_536 % 1_099_511_627_776) as u16;
+            let level = (word / 65_536 % 65_536) as u16;
             return Cursor { level, ..cursor };
         }
         cursor = go_down(space, pass, cursor, spot);

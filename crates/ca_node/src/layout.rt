@@ -28,5 +28,11 @@ pub const CODE: u32 = 1;
 /// The first word of the bytes of a route's key.
 pub const KEY: u32 = 4;
 
+/// The first word of the bytes of a base's prefix.
+pub const PREFIX: u32 = 7;
+
+/// The prefix's length stands in a base's first word above this bit.
+pub const PREFIX_LENGTH: u64 = 1 << 32;
+
 /// The first word of a base's items.
 pub const ITEMS: u32 = 11;

@@ -20,7 +20,7 @@ pub use cursor::{Cursor, Spot, walk};
 pub use exchange::{divide_base, replace_base};
 pub use handed::Front;
 pub use handing::{front, learn};
-pub use layout::{BASE, CODE, ITEMS, KEY, OBJECT, ROUTE};
+pub use layout::{BASE, CODE, ITEMS, KEY, OBJECT, PREFIX, PREFIX_LENGTH, ROUTE};
 pub use link::Link;
 pub use plays::{Intent, Plan};
 pub use rule::{TreePass, TreeRule, TreeSpace};

@@ -3,8 +3,7 @@
 /// How many words a row has. So many stand before the first row, too.
 pub const ROW_WORDS: usize = 136;
 
-/// How many words a pass has for itself behind the rows: as many as a line of a processor's cache has. Two of them are used. A large vector begins 16 bytes
-/// behind a line's first one, so no two passes' used words lie on one line.
+/// How many words a pass has for itself behind the rows: they fill a line of a processor's cache, so no two passes' words lie on one.
 pub const PASS_WORDS: usize = 8;
 
 /// How many words all passes have, of which there are 64 at most.

@@ -1,3 +1,4 @@
+mod Alike
 mod Numbers
 mod SampleObjects
 mod Taking

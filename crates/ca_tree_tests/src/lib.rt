@@ -25,6 +25,8 @@ mod passes;
 #[cfg(test)]
 mod player;
 #[cfg(test)]
+mod prefixes;
+#[cfg(test)]
 mod rows;
 #[cfg(test)]
 mod scripts;

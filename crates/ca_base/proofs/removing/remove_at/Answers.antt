@@ -1,14 +1,14 @@
 use Rattle.std.proofs.Common.{◌≡◌, [], ◌∷◌, length, Ok, sym, refl, ap, ◌∙◌, subst, arith, rules}
-use Rattle.std.specs.List.{remove}
 use Rattle.ca_node.proofs.Members.{in_first}
 use Rattle.ca_node.specs.Told.{IsBaseNote}
 use Rattle.ca_node.specs.TreeView.{TreeView}
 use Rattle.ca_base.specs.Finding.{IsAtCursor}
+use Rattle.ca_base.specs.Prefixes.{SpellsLeft}
 use Rattle.ca_base.specs.Putting.{gone, IsShownLast, first_note, last_items, last_words}
 use Rattle.ca_rows.specs.Told.{met_of}
 use Rattle.ca_base.specs.Counting.{losses}
 use Rattle.ca_base.proofs.Alone.{won_then}
-use Rattle.ca_base.proofs.Counts.{cleared_after}
+use Rattle.ca_base.proofs.Counts.{cleared_after, counted_after}
 use Rattle.ca_base.proofs.Readying.{place_in, many_are, few_are, spells_there}
 use Rattle.ca_base.proofs.TakingOut.{ready_without, removed, renewed_without}
 use Rattle.ca_base.proofs.Unlinking.{written_row}
@@ -66,7 +66,7 @@ swap_in-requires-clause-held c = let v = c.write_base_without-old.ensures.writte
     written_row c.args.space.now.table.shared.key.rows c.take.new.pass.kept
     c.write_base_without-old.new.pass.kept c.take.new.pass.seat.me
     c.write_base_without-old.new.pass.seat.me (c.in_ok-new.new ∷ []) c.in_ok-new.new v.0
-    (in_first c.in_ok-new.new []) v.1.long v.2
+    (in_first c.in_ok-new.new []) v.1.spells.long v.2
     c.write_base_without-old.ensures.frame.kept
     (c.in_ok-new.ensures.taken [] (omega arith) c.requires.ready.none).1
 
@@ -101,8 +101,8 @@ swap_in-requires-clause-update c = let v = c.write_base_without-old.ensures.writ
     c.args.target.now.cursor.base c.args.removal.now.at c.args.target.now.statistic
     c.args.removal.now.key.now v.0 r.target.shown (two.4 ∙ one.4) r.place
     (spells_there c.args.pass.now.seat.me.0.upper c.take.new.pass.seat.me.0.upper
-    (λ xs. remove xs c.args.removal.now.at) _ c.args.target.now.cursor.level
-    c.args.target.now.statistic v.0 one.4
+    (λ note level its. SpellsLeft note c.args.removal.now.at level c.args.target.now.statistic its)
+    _ c.args.target.now.cursor.level v.0 one.4
     r.target.at.level v.1) v.2 r.ready.pinned r.ready.number (two.3 ∙ one.3) r.ordered r.about
 
 pub returns-clause-removed : goal.returns-clause-removed
@@ -113,8 +113,8 @@ returns-clause-removed c = let v = c.write_base_without-old.ensures.written in l
     c.args.target.now.cursor.base c.args.removal.now.at c.args.target.now.statistic
     c.args.removal.now.key.now v.0 r.target.shown (two.4 ∙ one.4) r.place
     (spells_there c.args.pass.now.seat.me.0.upper c.take.new.pass.seat.me.0.upper
-    (λ xs. remove xs c.args.removal.now.at) _ c.args.target.now.cursor.level
-    c.args.target.now.statistic v.0 one.4
+    (λ note level its. SpellsLeft note c.args.removal.now.at level c.args.target.now.statistic its)
+    _ c.args.target.now.cursor.level v.0 one.4
     r.target.at.level v.1) v.2
     c.swap_in.result c.swap_in.new.pass.seat.me.0.upper c.swap_in.ensures.done
 
@@ -126,8 +126,8 @@ returns-clause-renewed c = let v = c.write_base_without-old.ensures.written in l
     c.args.target.now.cursor.base c.args.removal.now.at c.args.target.now.statistic
     c.args.removal.now.key.now v.0 r.target.shown (two.4 ∙ one.4) r.place
     (spells_there c.args.pass.now.seat.me.0.upper c.take.new.pass.seat.me.0.upper
-    (λ xs. remove xs c.args.removal.now.at) _ c.args.target.now.cursor.level
-    c.args.target.now.statistic v.0 one.4
+    (λ note level its. SpellsLeft note c.args.removal.now.at level c.args.target.now.statistic its)
+    _ c.args.target.now.cursor.level v.0 one.4
     r.target.at.level v.1) v.2
     (met_of c.swap_in.new.pass.seat.me) c.swap_in.result c.swap_in.new.pass.seat.me.0.upper
     c.swap_in.ensures.renewed
@@ -180,3 +180,9 @@ returns-clause-back c =
     c.take.new.pass.kept c.write_base_without-old.new.pass.kept c.swap_in.new.pass.kept
     (ap losses c.write_base_without-old.ensures.written.2.only ∙ c.in_ok-new.ensures.found.1)
     c.in_ok-new.ensures.back c.write_base_without-old.ensures.frame.kept c.swap_in.ensures.back
+
+pub returns-clause-counted : goal.returns-clause-counted
+returns-clause-counted c = counted_after c.args.spent.now c.take.new.spent c.swap_in.new.spent
+    c.args.pass.now.seat.me c.take.new.pass.seat.me c.write_base_without-old.new.pass.seat.me
+    c.swap_in.new.pass.seat.me c.in_ok-new.ensures.counted
+    (ap losses c.write_base_without-old.ensures.written.2.only) c.swap_in.ensures.counted

@@ -1,14 +1,15 @@
-use Rattle.std.proofs.Common.{ℕ, ◌+◌, ◌-◌, ◌/◌, List, [], ◌∷◌, take, drop, get_or, sym, refl, ap, ◌∙◌, subst, arith}
+use Rattle.std.proofs.Common.{ℕ, ◌+◌, ◌-◌, ◌/◌, List, [], ◌∷◌, get_or, sym, refl, ap, ◌∙◌, subst, arith}
 use Rattle.ca_node.specs.Told.{MyTree}
 use Rattle.ca_node.specs.TreeView.{TreeView}
 use Rattle.ca_base.specs.Finding.{IsObjectShown, IsReadable}
-use Rattle.ca_base.specs.Putting.{first_note, last_words}
+use Rattle.ca_base.specs.Putting.{first_note}
 use Rattle.ca_base.specs.Splitting.{SpellsRoute}
 use Rattle.ca_base.specs.Taking.{AreHeld}
-use Rattle.ca_base.specs.Writing.{IsRewritten, SpellsBase}
-use Rattle.ca_base.specs.Counting.{losses}
+use Rattle.ca_base.specs.Prefixes.{SpellsHalf}
+use Rattle.ca_base.specs.Writing.{IsRewritten}
+use Rattle.ca_base.specs.Counting.{losses, HasMet}
 use Rattle.ca_base.proofs.Alone.{won_then}
-use Rattle.ca_base.proofs.Counts.{cleared_after}
+use Rattle.ca_base.proofs.Counts.{cleared_after, counted_after, ended_after, met_both, written_met}
 use Rattle.ca_base.proofs.Divisions.{three_apart, last_readable, divides_of}
 use Rattle.ca_base.proofs.SplitKeys.{short_key}
 use Rattle.ca_base.proofs.Unlinking.{written_row}
@@ -167,14 +168,13 @@ divide_in-requires-clause-division c = let r = c.requires in
           over.2;
       is_left = subst
           (λ (v : TreeView).
-          SpellsBase (take (c.args.many / 2) (drop 0 (last_words v))) (c.args.cursor.level + 1)
-          4294967296 first.0) one.4
+          SpellsHalf (first_note v.notes) 0 (c.args.many / 2) (c.args.cursor.level + 1) first.0) one.4
           first.1;
       is_right = subst
           (λ (v : TreeView).
-          SpellsBase (take (c.args.many - c.args.many / 2) (drop (c.args.many / 2) (last_words v)))
-          (c.args.cursor.level + 1)
-          4294967296 last.0) (two.4 ∙ one.4) last.1;
+          SpellsHalf (first_note v.notes) (c.args.many / 2) (c.args.many - c.args.many / 2)
+          (c.args.cursor.level + 1) last.0) (two.4 ∙ one.4) last.1;
+      few_rows = c.args.space.now.few.1;
       is_route = subst
           (λ (k : List ℕ).
           SpellsRoute c.args.cursor.level k c.in_ok-route.left c.in_ok-route.right c.args.attempt over.0)
@@ -196,10 +196,10 @@ divide_in-requires-clause-held c = let t = c.in_ok-route.ensures.taken in
     let kept = c.copy_key.ensures.frame.kept ∙ c.item-first.ensures.frame.kept in
     let one = written_row all c.take_three.new.pass.kept c.write_half.new.pass.kept
     c.take_three.new.pass.seat.me c.write_half.new.pass.seat.me rows
-    c.in_ok-route.left first.0 (1, refl) first.1.long first.2 c.write_half.ensures.frame.kept t.1 in
+    c.in_ok-route.left first.0 (1, refl) first.1.spells.long first.2 c.write_half.ensures.frame.kept t.1 in
     let two = written_row all c.write_half.new.pass.kept c.write_half-2.new.pass.kept
     c.write_half.new.pass.seat.me c.write_half-2.new.pass.seat.me rows
-    c.in_ok-route.right last.0 (2, refl) last.1.long last.2 c.write_half-2.ensures.frame.kept one in
+    c.in_ok-route.right last.0 (2, refl) last.1.spells.long last.2 c.write_half-2.ensures.frame.kept one in
     written_row all c.copy_key.new.pass.kept c.write_route.new.pass.kept c.copy_key.new.pass.seat.me
     c.write_route.new.pass.seat.me rows
     c.in_ok-route.route over.0 (0, refl) over.1.long over.2 c.write_route.ensures.frame.kept
@@ -308,3 +308,31 @@ returns-clause-back c =
     ∙ (c.item-first.ensures.frame.kept
     ∙ (c.write_half-2.ensures.frame.kept ∙ c.write_half.ensures.frame.kept))))
     c.divide_in.ensures.back
+
+pub returns-clause-counted : goal.returns-clause-counted
+returns-clause-counted c = let still = c.copy_key.ensures.frame.still ∙ c.item-first.ensures.frame.still in
+    counted_after c.args.spent.now c.take_three.new.spent c.divide_in.new.spent
+    c.args.pass.now.seat.me c.take_three.new.pass.seat.me c.write_route.new.pass.seat.me
+    c.divide_in.new.pass.seat.me c.in_ok-route.ensures.counted
+    (ap losses c.write_route.ensures.written.2.only ∙ (ap losses still
+    ∙ (ap losses c.write_half-2.ensures.written.2.only
+    ∙ ap losses c.write_half.ensures.written.2.only)))
+    c.divide_in.ensures.counted
+
+pub returns-clause-found : goal.returns-clause-found
+returns-clause-found c = let still = c.copy_key.ensures.frame.still ∙ c.item-first.ensures.frame.still in
+    let one = c.write_half.ensures.written in let two = c.write_half-2.ensures.written in
+    let three = c.write_route.ensures.written in
+    let k = c.args.pass.now.seat.me in let m = c.take_three.new.pass.seat.me in
+    let n = c.write_half.new.pass.seat.me in let l = c.write_half-2.new.pass.seat.me in
+    let o = c.write_route.new.pass.seat.me in
+    ended_after c.divide_in.result k o c.divide_in.new.pass.seat.me
+    (met_both 0 0 0 0 k l o
+    (met_both 0 0 0 0 k n l
+    (met_both 0 0 0 0 k m n c.in_ok-route.ensures.found.0 (written_met c.in_ok-route.left one.0 m n one.2))
+    (written_met c.in_ok-route.right two.0 n l two.2))
+    (subst (λ (y : MyTree). HasMet 0 0 y o) still
+    (written_met c.in_ok-route.route three.0 c.copy_key.new.pass.seat.me o three.2)))
+    (ap losses three.2.only ∙ (ap losses still
+    ∙ (ap losses two.2.only ∙ (ap losses one.2.only ∙ c.in_ok-route.ensures.found.1))))
+    c.divide_in.ensures.found

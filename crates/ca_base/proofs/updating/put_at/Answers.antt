@@ -3,12 +3,14 @@ use Rattle.ca_node.specs.Links.{AreApart}
 use Rattle.ca_node.proofs.Members.{in_first, in_rest}
 use Rattle.ca_node.specs.Told.{IsBaseNote}
 use Rattle.ca_node.specs.TreeView.{TreeView}
+use Rattle.std.specs.Prelude.{slice_range}
 use Rattle.ca_base.specs.Finding.{IsAtCursor}
-use Rattle.ca_base.specs.Putting.{put_in, gone, IsRoom, IsShownLast, first_note, last_items, last_words}
+use Rattle.ca_base.specs.Prefixes.{SpellsPut}
+use Rattle.ca_base.specs.Putting.{gone, IsRoom, IsShownLast, first_note, last_items, last_words}
 use Rattle.ca_rows.specs.Told.{met_of}
 use Rattle.ca_base.specs.Counting.{losses}
 use Rattle.ca_base.proofs.Alone.{won_then}
-use Rattle.ca_base.proofs.Counts.{cleared_after}
+use Rattle.ca_base.proofs.Counts.{cleared_after, counted_after, ended_after, met_both, written_met}
 use Rattle.ca_base.proofs.Readying.{finds_place, place_in, many_are, few_are, spells_there, ready, tried, renewed_so}
 use Rattle.ca_base.proofs.Rest.{two_apart, gone_apart, gone_few}
 use Rattle.ca_base.proofs.Unlinking.{written_row}
@@ -82,7 +84,7 @@ swap_in-requires-clause-held c = let t = c.in_ok-new.ensures.taken in
     written_row c.args.space.now.table.shared.key.rows c.write_object.new.pass.kept
     c.write_base_with-old.new.pass.kept c.write_object.new.pass.seat.me
     c.write_base_with-old.new.pass.seat.me rows c.in_ok-new.new v.0
-    (in_first c.in_ok-new.new (c.in_ok-new.row ∷ [])) v.1.long v.2
+    (in_first c.in_ok-new.new (c.in_ok-new.row ∷ [])) v.1.spells.long v.2
     c.write_base_with-old.ensures.frame.kept
     (written_row c.args.space.now.table.shared.key.rows c.take_two.new.pass.kept
     c.write_object.new.pass.kept c.take_two.new.pass.seat.me
@@ -125,10 +127,12 @@ swap_in-requires-clause-update c = let t = c.in_ok-new.ensures.taken in
     c.args.target.now.cursor.base c.args.insertion.now.place c.args.insertion.now.why
     c.args.insertion.now.keyed.object.now
     c.args.insertion.now.keyed.key_at c.args.insertion.now.keyed.key_end c.args.target.now.statistic
-    c.word_of_item-word.result w.0 v.0 c.word_of_item-word.ensures.row c.word_of_item-word.ensures.head r.target.shown (three.4 ∙ (two.4 ∙ one.4)) (λ e. t.0 (sym e)) w.1 w.2
+    w.0 v.0 r.target.shown (three.4 ∙ (two.4 ∙ one.4)) (λ e. t.0 (sym e)) w.1 w.2
     (spells_there c.args.pass.now.seat.me.0.upper c.write_object.new.pass.seat.me.0.upper
-    (λ xs. put_in xs c.args.insertion.now.place c.word_of_item-word.result) _ c.args.target.now.cursor.level
-    c.args.target.now.statistic v.0 (two.4 ∙ one.4) r.target.at.level v.1) v.2
+    (λ note level its. SpellsPut note c.args.insertion.now.place
+    (slice_range c.args.insertion.now.keyed.object.now c.args.insertion.now.keyed.key_at
+    c.args.insertion.now.keyed.key_end) c.in_ok-new.row level c.args.target.now.statistic its)
+    _ c.args.target.now.cursor.level v.0 (two.4 ∙ one.4) r.target.at.level v.1) v.2
     r.ready.pinned r.ready.number
     (subst (λ (n : ℕ). IsRoom c.args.insertion.now.place n c.args.space.now.table.shared.key.leaf)
     (many_are _ _ c.args.target.now.cursor.base c.args.target.now.many r.target.shown
@@ -160,10 +164,12 @@ returns-clause-put c = let t = c.in_ok-new.ensures.taken in let w = c.write_obje
     c.args.target.now.cursor.base c.args.insertion.now.place c.args.insertion.now.why
     c.args.insertion.now.keyed.object.now
     c.args.insertion.now.keyed.key_at c.args.insertion.now.keyed.key_end c.args.target.now.statistic
-    c.word_of_item-word.result w.0 v.0 c.word_of_item-word.ensures.row c.word_of_item-word.ensures.head r.target.shown (three.4 ∙ (two.4 ∙ one.4)) (λ e. t.0 (sym e)) w.1 w.2
+    w.0 v.0 r.target.shown (three.4 ∙ (two.4 ∙ one.4)) (λ e. t.0 (sym e)) w.1 w.2
     (spells_there c.args.pass.now.seat.me.0.upper c.write_object.new.pass.seat.me.0.upper
-    (λ xs. put_in xs c.args.insertion.now.place c.word_of_item-word.result) _ c.args.target.now.cursor.level
-    c.args.target.now.statistic v.0 (two.4 ∙ one.4) r.target.at.level v.1) v.2
+    (λ note level its. SpellsPut note c.args.insertion.now.place
+    (slice_range c.args.insertion.now.keyed.object.now c.args.insertion.now.keyed.key_at
+    c.args.insertion.now.keyed.key_end) c.in_ok-new.row level c.args.target.now.statistic its)
+    _ c.args.target.now.cursor.level v.0 (two.4 ∙ one.4) r.target.at.level v.1) v.2
     c.swap_in.result c.swap_in.new.pass.seat.me.0.upper c.swap_in.ensures.done
 
 pub returns-clause-renewed : goal.returns-clause-renewed
@@ -178,10 +184,12 @@ returns-clause-renewed c = let t = c.in_ok-new.ensures.taken in
     c.args.target.now.cursor.base c.args.insertion.now.place c.args.insertion.now.why
     c.args.insertion.now.keyed.object.now
     c.args.insertion.now.keyed.key_at c.args.insertion.now.keyed.key_end c.args.target.now.statistic
-    c.word_of_item-word.result w.0 v.0 c.word_of_item-word.ensures.row c.word_of_item-word.ensures.head r.target.shown (three.4 ∙ (two.4 ∙ one.4)) (λ e. t.0 (sym e)) w.1 w.2
+    w.0 v.0 r.target.shown (three.4 ∙ (two.4 ∙ one.4)) (λ e. t.0 (sym e)) w.1 w.2
     (spells_there c.args.pass.now.seat.me.0.upper c.write_object.new.pass.seat.me.0.upper
-    (λ xs. put_in xs c.args.insertion.now.place c.word_of_item-word.result) _ c.args.target.now.cursor.level
-    c.args.target.now.statistic v.0 (two.4 ∙ one.4) r.target.at.level v.1) v.2
+    (λ note level its. SpellsPut note c.args.insertion.now.place
+    (slice_range c.args.insertion.now.keyed.object.now c.args.insertion.now.keyed.key_at
+    c.args.insertion.now.keyed.key_end) c.in_ok-new.row level c.args.target.now.statistic its)
+    _ c.args.target.now.cursor.level v.0 (two.4 ∙ one.4) r.target.at.level v.1) v.2
     (met_of c.swap_in.new.pass.seat.me) c.swap_in.result c.swap_in.new.pass.seat.me.0.upper
     c.swap_in.ensures.renewed
 
@@ -236,8 +244,8 @@ swap_in-requires-clause-own c = (
       ∙ (c.take_two.ensures.frame.same.2 ∙ c.requires.ready.own.1)),
 )
 
-pub word_of_item-word-requires : goal.word_of_item-word-requires
-word_of_item-word-requires c = let few = c.args.space.now.few.1 in
+pub write_base_with-old-requires-clause-inside : goal.write_base_with-old-requires-clause-inside
+write_base_with-old-requires-clause-inside c = let few = c.args.space.now.few.1 in
     let each = c.in_ok-new.ensures.taken.1.0.each c.in_ok-new.row
     (in_rest c.in_ok-new.row c.in_ok-new.new (c.in_ok-new.row ∷ []) (in_first c.in_ok-new.row [])) in
     let inside = each.1 in omega arith
@@ -252,3 +260,23 @@ returns-clause-back c =
     c.in_ok-new.ensures.back
     (c.write_base_with-old.ensures.frame.kept ∙ c.write_object.ensures.frame.kept)
     c.swap_in.ensures.back
+
+pub returns-clause-counted : goal.returns-clause-counted
+returns-clause-counted c = counted_after c.args.spent.now c.take_two.new.spent c.swap_in.new.spent
+    c.args.pass.now.seat.me c.take_two.new.pass.seat.me c.write_base_with-old.new.pass.seat.me
+    c.swap_in.new.pass.seat.me c.in_ok-new.ensures.counted
+    (ap losses c.write_base_with-old.ensures.written.2.only
+    ∙ ap losses c.write_object.ensures.written.2.only)
+    c.swap_in.ensures.counted
+
+pub returns-clause-found : goal.returns-clause-found
+returns-clause-found c = let w = c.write_object.ensures.written in
+    let v = c.write_base_with-old.ensures.written in
+    let k = c.args.pass.now.seat.me in let m = c.take_two.new.pass.seat.me in
+    let n = c.write_object.new.pass.seat.me in let l = c.write_base_with-old.new.pass.seat.me in
+    ended_after c.swap_in.result k l c.swap_in.new.pass.seat.me
+    (met_both 0 0 0 0 k n l
+    (met_both 0 0 0 0 k m n c.in_ok-new.ensures.found.0 (written_met c.in_ok-new.row w.0 m n w.2))
+    (written_met c.in_ok-new.new v.0 n l v.2))
+    (ap losses v.2.only ∙ (ap losses w.2.only ∙ c.in_ok-new.ensures.found.1))
+    c.swap_in.ensures.found

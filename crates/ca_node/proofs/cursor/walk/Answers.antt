@@ -53,11 +53,11 @@ returns-then-word-clause-walked c =
     c.load_word-word.result c.load_word-word.ensures.word in
     subst (λ (m : MyTree).
     IsWalked c.args.space.now.table.shared.key c.args.spot c.args.pass.now.seat.me
-    (record c.loop-level.cursor { level = c.load_word-word.result / 65536 % 1099511627776 }) m)
+    (record c.loop-level.cursor { level = c.load_word-word.result / 65536 % 65536 }) m)
     (sym c.load_word-word.ensures.frame.still)
     (ends c.args.space.now.table.shared.key c.args.spot c.args.pass.now.seat.me c.loop-level.cursor
     c.loop-level.pass.seat.me
-    (c.load_word-word.result / 65536 % 1099511627776) at level)
+    (c.load_word-word.result / 65536 % 65536) at level)
 
 pub go_down-cursor-requires-clause-at : goal.go_down-cursor-requires-clause-at
 go_down-cursor-requires-clause-at c = (

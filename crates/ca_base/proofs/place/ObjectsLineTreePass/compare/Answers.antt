@@ -1,25 +1,32 @@
-use Rattle.std.proofs.Common.{ℕ, ◌%◌, List, [], get_or, sym, ap, ◌∙◌, subst}
+use Rattle.std.proofs.Common.{ℕ, ◌≡◌, ◌%◌, List, [], get_or, take, drop, sym, ap, ◌∙◌, subst}
 use Rattle.std.specs.Cmp.{ranked}
 use Rattle.std.specs.Ordering.{nat_cmp}
 use Rattle.std.specs.declared.cmp.Ordering.TheVariants.{Equal}
-use Rattle.ca_node.specs.Row.{front_of, key}
+use Rattle.ca_node.specs.Row.{front_of, key, prefix_length}
 use Rattle.ca_node.specs.Told.{MyTree}
 use Rattle.ca_rows.specs.Layout.{row_limit}
 use Rattle.ca_base.specs.Finding.{IsObjectShown}
-use Rattle.ca_base.proofs.Heads.{fronts_decide, front_small, key_small}
+use Rattle.ca_base.proofs.Behind.{alike_behind, small_behind}
+use Rattle.ca_base.proofs.Heads.{fronts_decide, key_small}
+use Rattle.ca_base.proofs.Items.{at_place}
 use Rattle.ca_base.proofs.place.ObjectsLineTreePass.compare.Goals as goal
 
 pub returns-then-head-self-clause-answer : goal.returns-then-head-self-clause-answer
 returns-then-head-self-clause-answer c note r l =
     let its : List ℕ = get_or note.objects c.args.place [] in
-    let wanted : List ℕ = c.args.self.now.key.now in
+    let wanted : List ℕ = c.args.self.now.key.now in let n : ℕ = prefix_length note.its in
+    let own : List ℕ = drop n (key its) in let rest : List ℕ = drop n wanted in
     let here = c.item_word-word.ensures.head note r l in
-    let there = c.requires.head_is in
-    c.cmp.ensures ∙ (ap (λ (n : ℕ). nat_cmp n c.args.self.now.head) here
-    ∙ (ap (nat_cmp (front_of 5 (key its))) there
-    ∙ fronts_decide 5 (key its) wanted (key_small 5 its)
-    (front_small wanted c.args.self.now.front c.requires.front_is)
-    (λ e. c.if-head-self.true (here ∙ (ranked (front_of 5 (key its)) (front_of 5 wanted) Equal (sym e) ∙ sym there)))))
+    let there = c.requires.head_is note r in
+    let alike : take n (key its) ≡ take n wanted =
+    r.is_base.headed.begin c.args.place its (at_place note.objects c.args.place [] l)
+    ∙ sym (c.requires.begins note r) in
+    c.cmp.ensures ∙ (ap (λ (k : ℕ). nat_cmp k c.args.self.now.head) here
+    ∙ (ap (nat_cmp (front_of 5 own)) there
+    ∙ (fronts_decide 5 own rest (small_behind 5 n (key its) (λ i. key_small i its))
+    (small_behind 5 n wanted c.requires.small)
+    (λ e. c.if-head-self.true (here ∙ (ranked (front_of 5 own) (front_of 5 rest) Equal (sym e) ∙ sym there)))
+    ∙ sym (alike_behind n (key its) wanted alike))))
 
 pub returns-clause-answer : goal.returns-clause-answer
 returns-clause-answer c note r l = let object = (c.item_word-word.ensures.item note r l).1 in
