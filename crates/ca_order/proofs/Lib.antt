@@ -5,6 +5,7 @@ pub mod Counted
 pub mod Cuts
 pub mod Finished
 pub mod FirstZero
+pub mod NearZeros
 pub mod Fronts
 pub mod Integers
 pub mod Items
@@ -18,7 +19,6 @@ pub mod Parts
 pub mod Put
 pub mod ReadNumbers
 pub mod Replaced
-pub mod Runs
 pub mod Sizes
 pub mod Skipped
 pub mod Starts

@@ -205,6 +205,10 @@ row_longer (t ∷ ts) = omega (arith, code_begun t, row_longer ts, length-append
 pub codes_le : (n : ℕ) (bytes end : List ℕ) → HasCodes n bytes end → n ≤ length bytes
 codes_le n bytes end h = omega (arith, h.many, row_longer h.terms, ap length h.parts, length-append (row_code (row_of h.terms)) end)
 
+-- None and so many codes are so many.
+pub from_none : (n : ℕ) (bytes end : List ℕ) → HasCodes (0 + n) bytes end → HasCodes n bytes end
+from_none n bytes end h = let e : 0 + n ≡ n = omega arith in subst (λ (x : ℕ). HasCodes x bytes end) e h
+
 -- Behind no codes stands the end.
 pub codes_done : (n : ℕ) (bytes end : List ℕ) → n ≤ 0 → HasCodes n bytes end → bytes ≡ end
 codes_done n bytes end z h = by h.terms h.many h.parts

@@ -6,7 +6,7 @@ ghost use Rattle.ca_order.specs.Languages.{IsTermCode};
 ghost use Rattle.ca_order.specs.Codes.{AreCodes, AreCodes-prop, IsTermCode-prop};
 
 use crate::fault::DecodeFault;
-use crate::object::{skip, split_size};
+use crate::object::{skip_one, split_size};
 use crate::reading::decode;
 use crate::tags::{CONS, TUPLE};
 use ca_term::Term;
@@ -27,10 +27,29 @@ pub struct Codes<'a> {
     pub ghost terms: { AreCodes bytes.now } by { AreCodes-prop bytes.now },
 }
 
-// The bytes behind these, where they are at the front. It goes byte by byte: most constants are short.
+// The bytes behind these, where they are at the front. It goes by eight bytes, and then by one.
 #[inline(always)]
 #[tactic(auto, using(crate::proofs::Fronts::fronts))]
 fn behind_bytes<'a>(bytes: &'a [u8], front: &[u8]) -> Option<&'a [u8]>
+    ensures { MatchOption result ((rest : List ℕ) → bytes.now ≡ front.now ++ rest → ⊥) (λ rest. bytes.now ≡ front.now ++ rest.now) }
+{
+    let mut rest = bytes;
+    let mut wanted = front;
+    while let Some((eight, more)) = wanted.split_first_chunk::<8>() {
+        let (found, behind) = rest.split_first_chunk::<8>()?;
+        if u64::from_le_bytes(*found) != u64::from_le_bytes(*eight) {
+            return None;
+        }
+        rest = behind;
+        wanted = more;
+    }
+    behind_few(rest, wanted)
+}
+
+// The bytes behind these, where they are at the front, byte by byte.
+#[inline(always)]
+#[tactic(auto, using(crate::proofs::Fronts::fronts))]
+fn behind_few<'a>(bytes: &'a [u8], front: &[u8]) -> Option<&'a [u8]>
     ensures { MatchOption result ((rest : List ℕ) → bytes.now ≡ front.now ++ rest → ⊥) (λ rest. bytes.now ≡ front.now ++ rest.now) }
 {
     let mut rest = bytes;
@@ -139,7 +158,7 @@ impl<'a> Codes<'a> {
         requires { 1 ≤ length (terms_of self) }
         ensures { terms_of self.entry ≡ tree_of result.0 ∷ terms_of result.1 }
     {
-        let behind = skip(self.bytes, 1);
+        let behind = skip_one(self.bytes);
         let (front, _) = self.bytes.split_at(self.bytes.len() - behind.len());
         (Part { bytes: front }, Codes { bytes: behind })
     }

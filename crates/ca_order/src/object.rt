@@ -6,9 +6,8 @@ ghost use Rattle.ca_term.specs.Tree.{Tree, IsTerm};
 ghost use Rattle.ca_order.specs.KeyParts.{IsKeyParts, IsNoObject, IsSplit, HasCodes};
 ghost use Rattle.ca_order.specs.Languages.{IsTermCode};
 
-use crate::binaries::read_escaped;
+use crate::binaries::{read_escaped, run_to_end};
 use crate::tags::{ATOM, BINARY, CONS, NIL, TUPLE};
-use crate::zeros::{Escape, after_zero};
 
 /// Where the code of a tuple's element `keypos`, counted from 1, stands in the tuple's code: its start and its end in bytes.
 /// `None` where the code is no tuple's, or the tuple has fewer elements. It takes no memory.
@@ -55,6 +54,20 @@ pub(crate) fn skip(bytes: &[u8], count: usize) -> &[u8]
     rest
 }
 
+// The bytes behind the first code. What has no codes inside is skipped without a loop.
+#[inline(always)]
+pub(crate) fn skip_one(bytes: &[u8]) -> &[u8]
+    requires { (end : List ℕ) × HasCodes 1 bytes.now end }
+    ensures rest { (end : List ℕ) → HasCodes 1 bytes.now end → result.now ≡ end }
+    ensures shorter { length result.now ≤ length bytes.now }
+{
+    let (opened, behind) = skip_tag(bytes);
+    if opened == 0 {
+        return behind;
+    }
+    skip(behind, opened)
+}
+
 // How many codes stand inside the code that these bytes begin with, and the bytes that begin with them.
 #[inline(always)]
 fn skip_tag(bytes: &[u8]) -> (usize, &[u8])
@@ -98,31 +111,17 @@ pub(crate) fn split_size(bytes: &[u8]) -> (usize, &[u8])
     (usize::from(size[3]), rest)
 }
 
-// How many bytes are looked at one by one: most texts and binaries end among them.
-const NEAR: usize = 24;
-
-// The bytes behind escaped ones and their end. It goes byte by byte where no zero byte is among them.
+// The bytes behind escaped ones and their end, which is looked for once where no zero byte is among them.
 #[inline(always)]
-#[tactic(auto, using(crate::proofs::Runs::runs))]
 fn skip_escaped(bytes: &[u8]) -> &[u8]
     requires { (inside : List ℕ) × (end : List ℕ) × (bytes.now ≡ escaped inside ++ end) }
     ensures rest { (inside end : List ℕ) → bytes.now ≡ escaped inside ++ end → result.now ≡ end }
     ensures shorter { length result.now ≤ length bytes.now }
 {
-    let mut left = bytes;
-    for _ in 0..NEAR {
-        let Some((byte, behind)) = left.split_first() else {
-            return skip_any_escaped(bytes);
-        };
-        if *byte == 0 {
-            return match after_zero(behind) {
-                Escape::End(rest) => rest,
-                Escape::Zero(_) | Escape::Neither => skip_any_escaped(bytes),
-            };
-        }
-        left = behind;
+    match run_to_end(bytes) {
+        Some((_, rest)) => rest,
+        None => skip_any_escaped(bytes),
     }
-    skip_any_escaped(bytes)
 }
 
 // The same, where there may be zero bytes in them.

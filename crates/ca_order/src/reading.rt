@@ -43,6 +43,7 @@ pub fn decode(alloc: Global, code: &[u8]) -> Result<Term, DecodeFault>
 
 // The term whose code these bytes begin with, of at most so many levels, and the bytes behind it.
 #[cycle(read)]
+#[inline(always)]
 fn read_term(alloc: Global, bytes: &[u8], levels: u8) -> Result<(Term, &[u8]), ReadFault>
     requires least { 1 ≤ levels }
     requires most { levels ≤ MOST_DEPTH }
@@ -58,6 +59,7 @@ fn read_term(alloc: Global, bytes: &[u8], levels: u8) -> Result<(Term, &[u8]), R
 //
 // It goes along the tail in a loop: a list may be longer than the stack is deep.
 #[cycle(read)]
+#[inline(never)]
 fn read_list(alloc: Global, bytes: &[u8], levels: u8) -> Result<(Term, &[u8]), ReadFault>
     requires least { 1 ≤ levels }
     requires most { levels ≤ MOST_DEPTH }
@@ -86,6 +88,7 @@ fn inside_cell(bytes: &[u8], levels: u8) -> Option<&[u8]>
 
 // The term whose code these bytes begin with, where it is no list cell.
 #[cycle(read)]
+#[inline(always)]
 fn read_last(alloc: Global, bytes: &[u8], levels: u8) -> Result<(Term, &[u8]), ReadFault>
     requires least { 1 ≤ levels }
     requires most { levels ≤ MOST_DEPTH }
@@ -107,6 +110,7 @@ fn read_last(alloc: Global, bytes: &[u8], levels: u8) -> Result<(Term, &[u8]), R
 }
 
 // The integer whose digits these bytes begin with, so many and complemented for a negative one, and the bytes behind them.
+#[inline(always)]
 fn read_integer(bytes: &[u8], len: u8, negative: bool) -> Result<(Term, &[u8]), ReadFault>
     requires { len ≤ 8 }
     ensures { MatchResult result (λ p. BeginsWithTerm 1 (first_byte negative len ∷ bytes.now) p.0 p.1.now)
@@ -121,6 +125,7 @@ fn read_integer(bytes: &[u8], len: u8, negative: bool) -> Result<(Term, &[u8]), 
 
 // The tuple whose size and elements these bytes begin with, its elements of at most so many levels.
 #[cycle(read)]
+#[inline(never)]
 fn read_tuple(alloc: Global, bytes: &[u8], levels: u8) -> Result<(Term, &[u8]), ReadFault>
     requires { levels < MOST_DEPTH }
     ensures { MatchResult result (λ p. BeginsWithTerm (levels + 1) (0x40 ∷ bytes.now) p.0 p.1.now) (λ e. IsReadFault (HasTuple levels) bytes.now e) }
@@ -165,6 +170,7 @@ fn read_byte(bytes: &[u8], most: usize) -> Result<(usize, &[u8]), ReadFault>
 
 // The terms whose codes these bytes begin with, so many and of at most so many levels.
 #[cycle(read)]
+#[inline(always)]
 fn read_items(
     alloc: Global,
     bytes: &[u8],

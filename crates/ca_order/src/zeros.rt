@@ -1,6 +1,6 @@
 //! Zero bytes, which stand escaped in a code.
-ghost use Rattle.std.specs.Prelude.{◌≡◌, ◌∷◌, ◌++◌, MatchOption};
-ghost use Rattle.ca_order.specs.Zeros.{HasNoZero};
+ghost use Rattle.std.specs.Prelude.{◌≡◌, ◌∷◌, ◌++◌, IfSome, MatchOption};
+ghost use Rattle.ca_order.specs.Zeros.{HasNoZero, IsZeroAt};
 ghost use Rattle.ca_order.specs.Escapes.{IsEscape};
 
 use memchr::memchr;
@@ -13,6 +13,71 @@ pub(crate) fn split_at_zero(bytes: &[u8]) -> Option<(&[u8], &[u8])>
         Some(zero) => Some((&bytes[..zero], &bytes[zero + 1..])),
         None => None,
     }
+}
+
+// How many bytes are looked at one by one without asking for the end of them.
+const NEAR: usize = 16;
+
+// How many bytes are looked at one by one: most texts and binaries end among them, and a search for a byte begins slowly.
+const SOME: usize = 32;
+
+// The bytes before the first zero byte and those behind it, which is mostly one of the first few.
+#[inline(always)]
+pub(crate) fn split_at_first_zero(bytes: &[u8]) -> Option<(&[u8], &[u8])>
+    ensures { IfSome result (λ p. HasNoZero p.0.now × (bytes.now ≡ p.0.now ++ 0 ∷ p.1.now)) }
+{
+    match split_at_near_zero(bytes) {
+        Some(parts) => Some(parts),
+        None => split_at_zero(bytes),
+    }
+}
+
+// The same, where it is one of the first few.
+#[inline(always)]
+fn split_at_near_zero(bytes: &[u8]) -> Option<(&[u8], &[u8])>
+    ensures { IfSome result (λ p. HasNoZero p.0.now × (bytes.now ≡ p.0.now ++ 0 ∷ p.1.now)) }
+{
+    let at = near_zero(bytes)?;
+    Some((&bytes[..at], &bytes[at + 1..]))
+}
+
+// The place of the first zero byte, where that is one of the first few.
+#[inline(always)]
+fn near_zero(bytes: &[u8]) -> Option<usize>
+    ensures { IfSome result (λ at. IsZeroAt bytes.now at) }
+{
+    match bytes.split_first_chunk::<NEAR>() {
+        Some((near, _)) => match zero_in(near) {
+            Some(at) => Some(at),
+            None => some_zero(bytes),
+        },
+        None => zero_in(bytes),
+    }
+}
+
+// The same among some bytes more.
+#[inline(never)]
+fn some_zero(bytes: &[u8]) -> Option<usize>
+    ensures { IfSome result (λ at. IsZeroAt bytes.now at) }
+{
+    match bytes.split_first_chunk::<SOME>() {
+        Some((near, _)) => zero_in(near),
+        None => zero_in(bytes),
+    }
+}
+
+// The place of the first zero byte.
+#[inline(always)]
+#[tactic(auto, using(crate::proofs::NearZeros::zero_places))]
+fn zero_in(bytes: &[u8]) -> Option<usize>
+    ensures { IfSome result (λ at. IsZeroAt bytes.now at) }
+{
+    for at in 0..bytes.len() {
+        if bytes[at] == 0 {
+            return Some(at);
+        }
+    }
+    None
 }
 
 // What stands behind a zero byte in escaped bytes, with the bytes behind it: 00 ends them, FF makes it a zero byte of them,

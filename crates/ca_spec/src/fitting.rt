@@ -27,7 +27,7 @@ pub(crate) fn fit_object<'a>(
 {
     let mut codes = Codes::of(object);
     let Shape::Tuple(parts) = &head.shape else {
-        return fit(head, &mut codes, table);
+        return fit_other(head, &mut codes, table);
     };
     let Some((count, inside)) = codes.open_tuple() else {
         return Some(false);
@@ -38,6 +38,23 @@ pub(crate) fn fit_object<'a>(
     codes = inside;
     let asked = asked(parts.as_slice());
     fit_all(asked, asked.len(), &mut codes, table)
+}
+
+// A head that is no tuple. It stands apart, since it fits few objects.
+#[inline(never)]
+fn fit_other<'a>(
+    pattern: &Pattern,
+    codes: &mut Codes<'a>,
+    table: &mut [Option<Part<'a>>],
+) -> Option<bool>
+    requires some { 1 ≤ length (terms_of codes.old) }
+    requires room { places pattern.now ≤ length table.old }
+    ensures told { IfSome result (λ fits.
+        bind pattern.now (first (terms_of codes.old)) (parts_of table.old) ≡ (if fits then Some (parts_of table.new) else None)) }
+    ensures known { AreShort pattern.now → IsSome result }
+    ensures rest { result ≡ Some true → terms_of codes.new ≡ others (terms_of codes.old) }
+{
+    fit(pattern, codes, table)
 }
 
 // The parts up to the last one that isn't '_'.
@@ -59,6 +76,7 @@ fn asked(parts: &[Pattern]) -> &[Pattern]
 // Whether a part of a head fits the first of these codes under the bindings so far; then its variables are bound in the table, and the codes are
 // those behind it. `None` where that isn't told: of constants without a code.
 #[cycle(fit)]
+#[inline(always)]
 #[tactic(auto, using(crate::proofs::CodeBinding::part_fits))]
 fn fit<'a>(pattern: &Pattern, codes: &mut Codes<'a>, table: &mut [Option<Part<'a>>]) -> Option<bool>
     requires some { 1 ≤ length (terms_of codes.old) }

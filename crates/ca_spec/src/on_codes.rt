@@ -1,5 +1,5 @@
 //! What a specification makes of an object, by the object's code.
-ghost use Rattle.std.specs.Prelude.{◌≡◌, IfOk, OnErr};
+ghost use Rattle.std.specs.Prelude.{◌≡◌, ◌∷◌, IfOk, OnErr};
 ghost use Rattle.ca_term.specs.Code.{code_of};
 ghost use Rattle.ca_term.specs.Tree.{IsTerm, Nil, Tree, list_of};
 ghost use Rattle.ca_match.specs.Match.{clause_result, result_of};
@@ -25,10 +25,54 @@ pub fn apply_code(alloc: Global, spec: &Spec, code: &[u8]) -> Result<Option<Term
     ensures found { IfOk result (λ found. (object : Tree) → IsTerm object → code.now ≡ code_of object → found ≡ result_of spec.now object) }
     ensures lack { OnErr result ((object : Tree) → IsTerm object → code.now ≡ code_of object → SomeMayFit spec.now object) }
 {
-    first_result(alloc, spec.clauses.as_slice(), Part::of(code))
+    result_of_clauses(alloc, spec.clauses.as_slice(), Part::of(code))
 }
 
-// The result of the first clause that holds.
+// The result of the first clause that holds. Clauses that are told to have none are passed over here, where nothing is kept for a result.
+#[tactic(auto, using(crate::proofs::LeftClauses::left_clauses))]
+#[inline(always)]
+fn result_of_clauses<'a>(
+    alloc: Global,
+    clauses: &'a [Clause],
+    object: Part<'a>,
+) -> Result<Option<Term>, AllocError>
+    ensures found { IfOk result (λ found. found ≡ result_of (list_of (trees_of_clauses clauses.entry.now) Nil) (tree_of object.entry)) }
+    ensures lack { OnErr result (SomeMayFit (list_of (trees_of_clauses clauses.entry.now) Nil) (tree_of object.entry)) }
+{
+    let mut left = clauses;
+    while let Some((clause, others)) = left.split_first() {
+        match told(clause, object) {
+            Quick::None => left = others,
+            known => return result_from(alloc, clause, others, object, known),
+        }
+    }
+    Ok(None)
+}
+
+// The result of the first one of some clauses that holds. Of the first one this is told.
+#[inline(never)]
+#[tactic(auto, using(crate::proofs::LeftClauses::first_clause))]
+fn result_from<'a>(
+    alloc: Global,
+    clause: &'a Clause,
+    others: &'a [Clause],
+    object: Part<'a>,
+    told: Quick<'a>,
+) -> Result<Option<Term>, AllocError>
+    requires told { IsTold told (clause_result (tree_of_clause clause.now) (tree_of object)) }
+    requires reached { IsReached told clause.now.head (tree_of object) }
+    ensures found { IfOk result (λ found.
+        found ≡ result_of (list_of (trees_of_clauses (clause.entry.now ∷ others.entry.now)) Nil) (tree_of object.entry)) }
+    ensures lack { OnErr result (SomeMayFit (list_of (trees_of_clauses (clause.entry.now ∷ others.entry.now)) Nil) (tree_of object.entry)) }
+{
+    if let Some(found) = result_told(alloc, clause, object, told)? {
+        return Ok(Some(found));
+    }
+    first_result(alloc, others, object)
+}
+
+// The result of the first clause that holds, where more of them may be known than codes tell.
+#[inline(never)]
 #[tactic(auto, using(crate::proofs::ClauseResults::first_results))]
 fn first_result(
     alloc: Global,
@@ -55,7 +99,23 @@ fn result_of_part<'a>(
     ensures found { IfOk result (λ found. found ≡ clause_result (tree_of_clause clause.entry.now) (tree_of object.entry)) }
     ensures lack { OnErr result (MayFit clause.entry.now.head (tree_of object.entry)) }
 {
-    match told(clause, object) {
+    result_told(alloc, clause, object, told(clause, object))
+}
+
+// The result of a clause of which this is told.
+#[inline(always)]
+fn result_told<'a>(
+    alloc: Global,
+    clause: &'a Clause,
+    object: Part<'a>,
+    told: Quick<'a>,
+) -> Result<Option<Term>, AllocError>
+    requires told { IsTold told (clause_result (tree_of_clause clause.now) (tree_of object)) }
+    requires reached { IsReached told clause.now.head (tree_of object) }
+    ensures found { IfOk result (λ found. found ≡ clause_result (tree_of_clause clause.entry.now) (tree_of object.entry)) }
+    ensures lack { OnErr result (MayFit clause.entry.now.head (tree_of object.entry)) }
+{
+    match told {
         Quick::None => Ok(None),
         Quick::Part(part) => Ok(Some(part.term(alloc)?)),
         Quick::Term(term) => match try_copy(alloc, term) {
@@ -70,6 +130,7 @@ fn result_of_part<'a>(
 const FEWER: usize = 4;
 
 // What the code tells of a clause's result, with a table for the clause's variables.
+#[inline(always)]
 fn told<'a>(clause: &'a Clause, object: Part<'a>) -> Quick<'a>
     ensures told { IsTold result (clause_result (tree_of_clause clause.entry.now) (tree_of object.entry)) }
     ensures reached { IsReached result clause.entry.now.head (tree_of object.entry) }

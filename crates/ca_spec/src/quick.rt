@@ -56,21 +56,23 @@ fn part_bound<'a>(number: usize, table: &[Option<Part<'a>>]) -> Option<Part<'a>>
 fn compared(operator: Operator, a: Part<'_>, b: Part<'_>) -> Option<bool>
     ensures { IfSome result (λ holds. Some (truth holds) ≡ applied (meaning_of operator) (Some (tree_of a.entry) ∷ Some (tree_of b.entry) ∷ [])) }
 {
+    let order = a.order(b);
     match operator {
-        Operator::Greater => Some(a.order(b).is_gt()),
-        Operator::GreaterOrEqual => Some(a.order(b).is_ge()),
-        Operator::Less => Some(a.order(b).is_lt()),
-        Operator::LessOrEqual => Some(a.order(b).is_le()),
-        Operator::Equal => Some(a.order(b).is_eq()),
-        Operator::ExactlyEqual => Some(a.order(b).is_eq()),
-        Operator::Unequal => Some(a.order(b).is_ne()),
-        Operator::ExactlyUnequal => Some(a.order(b).is_ne()),
+        Operator::Greater => Some(order.is_gt()),
+        Operator::GreaterOrEqual => Some(order.is_ge()),
+        Operator::Less => Some(order.is_lt()),
+        Operator::LessOrEqual => Some(order.is_le()),
+        Operator::Equal => Some(order.is_eq()),
+        Operator::ExactlyEqual => Some(order.is_eq()),
+        Operator::Unequal => Some(order.is_ne()),
+        Operator::ExactlyUnequal => Some(order.is_ne()),
         _ => None,
     }
 }
 
 // The truth value that a guard's value is, where it is a comparison of parts and constants, or `andalso`, `orelse` or `not` of such guards.
 #[cycle(known)]
+#[inline(always)]
 fn known<'a>(guard: &'a Expression, object: Part<'a>, table: &[Option<Part<'a>>]) -> Option<bool>
     ensures { IfSome result (λ known. Some (truth known) ≡ value (scene_in object.entry table.now) guard.now) }
 {
@@ -109,6 +111,7 @@ fn known_comparison<'a>(
 
 // The value of `andalso` or `orelse`, which stops at this truth value of the first argument.
 #[cycle(known)]
+#[inline(never)]
 #[tactic(auto, using(crate::proofs::Operands::short_known))]
 fn known_short<'a>(
     stop: bool,
@@ -129,6 +132,7 @@ fn known_short<'a>(
 
 // The value of `not`.
 #[cycle(known)]
+#[inline(never)]
 #[tactic(auto, using(crate::proofs::Operands::negation_known))]
 fn known_negation<'a>(
     operator: Operator,
@@ -185,6 +189,7 @@ pub(crate) enum Quick<'a> {
 }
 
 // What is told of a clause's result by the object's code, with this table, which is empty.
+#[inline(always)]
 #[tactic(auto, using(crate::proofs::QuickResults::quick_results, crate::proofs::Reaching::reached))]
 pub(crate) fn quick_result<'a>(
     clause: &'a Clause,

@@ -77,7 +77,7 @@ opened_run g f a b lo hi want whole o =
 pub record IsCollecting (s : Tree) (limit : Option ℕ) (a now : Known) (results : List Tree) (last : Option Tree) : Type 0 where
   pub run : now.run ≡ Some (left_of now)
   pub left : AreObjectsOf a.keypos (left_of now)
-  pub are : AreResults a.keypos s (left_of a) (left_of now) results last
+  pub are : AreResults a.keypos s limit (left_of a) (left_of now) results last
   pub up_to : AreUpTo limit (length results)
   pub stays : StaysBesideRun a now
 
@@ -90,7 +90,7 @@ pub collecting_none : (s : Tree) (limit : Option ℕ) (a : Known) → IsOpenRun 
 collecting_none s limit a o = record {
   run = o.0;
   left = o.1;
-  are = record { objects = []; bounded = tt; whole_is = refl; results_are = refl; last_is = refl };
+  are = record { objects = []; bounded = tt; whole_is = refl; results_are = refl; last_is = λ full. refl };
   up_to = none_up_to limit;
   stays = record {
     same = record { store = refl; keypos = refl; pass = refl; passes = refl; alone = refl; sure = refl };
@@ -116,12 +116,13 @@ still_up_to : (limit : Option ℕ) (found more : ℕ) → is_full limit found �
 still_up_to None found more e l = tt
 still_up_to (Some n) found more e l = grind (arith, nat_tests)
 
-module _ (p : ℕ) (s : Tree) (whole left : List (List ℕ)) (into : List ℕ) (o : IsObjectOf p into) where
+module _ (p : ℕ) (s : Tree) (limit : Option ℕ) (whole left : List (List ℕ)) (into : List ℕ) (o : IsObjectOf p into) where
   -- The results with those of one more object.
-  more_results : (results : List Tree) (last : Option Tree) (more : List Tree) (next : Option Tree) → AreResults p s whole (into ∷ left) results last
-      → (r : Option Tree) → result_of s o.object ≡ r → Adds r o.object results last more next
-      → AreResults p s whole left more next
-  more_results results last more next are r e adds = record {
+  more_results : (results : List Tree) (last : Option Tree) (more : List Tree) (next : Option Tree)
+      → AreResults p s limit whole (into ∷ left) results last → is_full limit (length results) ≡ false
+      → (r : Option Tree) → result_of s o.object ≡ r → Adds limit r o.object results last more next
+      → AreResults p s limit whole left more next
+  more_results results last more next are under r e adds = record {
     objects = are.objects ++ o.object ∷ [];
     bounded = terms_more are.objects o.object are.bounded o.bounded;
     whole_is = are.whole_is ∙ ap (λ (x : List ℕ). map code_of are.objects ++ x ∷ left) o.code_is
@@ -134,7 +135,7 @@ module _ (p : ℕ) (s : Tree) (whole left : List (List ℕ)) (into : List ℕ) (
       both : keyed_results p s (are.objects ++ o.object ∷ []) ≡ keyed_results p s are.objects ++ keyed_results p s (o.object ∷ [])
       both = keyed_append p s are.objects (o.object ∷ [])
 
-      values : (r : Option Tree) → result_of s o.object ≡ r → Adds r o.object results last more next
+      values : (r : Option Tree) → result_of s o.object ≡ r → Adds limit r o.object results last more next
           → more ≡ results_in (keyed_results p s (are.objects ++ o.object ∷ []))
       values None e adds =
           let none : keyed_results p s (o.object ∷ []) ≡ [] = keyed_none p s o.object e in
@@ -146,36 +147,47 @@ module _ (p : ℕ) (s : Tree) (whole left : List (List ℕ)) (into : List ℕ) (
           ∙ sym (map-append (λ (f : Tree × Tree). f.1) (keyed_results p s are.objects) ((key_of p o.object, v) ∷ []))
           ∙ ap results_in (sym (both ∙ ap (λ (x : List (Tree × Tree)). keyed_results p s are.objects ++ x) some))
 
-      ends : (r : Option Tree) → result_of s o.object ≡ r → Adds r o.object results last more next
-          → IsLastOf p s (are.objects ++ o.object ∷ []) next
+      ends : (r : Option Tree) → result_of s o.object ≡ r → Adds limit r o.object results last more next
+          → IsLastOf p s (are.objects ++ o.object ∷ []) (is_full limit (length more)) next
       ends None e adds =
           let none : keyed_results p s (o.object ∷ []) ≡ [] = keyed_none p s o.object e in
           let same : keyed_results p s (are.objects ++ o.object ∷ []) ≡ keyed_results p s are.objects =
           both ∙ ap (λ (x : List (Tree × Tree)). keyed_results p s are.objects ++ x) none ∙ append-nil (keyed_results p s are.objects) in
-          subst (λ (x : Option Tree). IsLastOf p s (are.objects ++ o.object ∷ []) x) (sym adds.1)
-          (stays_last last (keyed_results p s (are.objects ++ o.object ∷ [])) same are.last_is)
+          subst (λ (x : Option Tree). IsLastOf p s (are.objects ++ o.object ∷ []) (is_full limit (length more)) x) (sym adds.1)
+          (subst (λ (x : List Tree). IsLastOf p s (are.objects ++ o.object ∷ []) (is_full limit (length x)) last) (sym adds.0)
+          (stays_last last same are.last_is))
         where
-          stays_last : (l : Option Tree) (found : List (Tree × Tree)) → keyed_results p s (are.objects ++ o.object ∷ []) ≡ keyed_results p s are.objects
-              → IsLastOf p s are.objects l → IsLastOf p s (are.objects ++ o.object ∷ []) l
-          stays_last None found e h = e ∙ h
-          stays_last (Some x) found e h = (ap last_found e ∙ h.0, h.1, h.2)
+          stays_last : (l : Option Tree) → keyed_results p s (are.objects ++ o.object ∷ []) ≡ keyed_results p s are.objects
+              → IsLastOf p s are.objects (is_full limit (length results)) l
+              → IsLastOf p s (are.objects ++ o.object ∷ []) (is_full limit (length results)) l
+          stays_last None e h = λ full. e ∙ h full
+          stays_last (Some x) e h = (h.0, ap last_found e ∙ h.1, h.2, h.3)
       ends (Some v) e adds =
-          let some : keyed_results p s (o.object ∷ []) ≡ (key_of p o.object, v) ∷ [] = keyed_some p s o.object v e in
-          let last : last_found (keyed_results p s (are.objects ++ o.object ∷ [])) ≡ key_of p o.object =
-          ap last_found (both ∙ ap (λ (x : List (Tree × Tree)). keyed_results p s are.objects ++ x) some)
-          ∙ last_append (keyed_results p s are.objects) (key_of p o.object, v) in
-          subst (λ (x : Option Tree). IsLastOf p s (are.objects ++ o.object ∷ []) x) (sym adds.1) (last, o.bounded, o.entry)
+          subst (λ (x : Option Tree). IsLastOf p s (are.objects ++ o.object ∷ []) (is_full limit (length more)) x) (sym adds.1)
+          (kept (is_full limit (length more)) last are.last_is)
+        where
+          end_is : last_found (keyed_results p s (are.objects ++ o.object ∷ [])) ≡ key_of p o.object
+          end_is =
+              let some : keyed_results p s (o.object ∷ []) ≡ (key_of p o.object, v) ∷ [] = keyed_some p s o.object v e in
+              ap last_found (both ∙ ap (λ (x : List (Tree × Tree)). keyed_results p s are.objects ++ x) some)
+              ∙ last_append (keyed_results p s are.objects) (key_of p o.object, v)
 
-more_length : (r : Option Tree) (o : Tree) (results : List Tree) (last : Option Tree) (more : List Tree) (next : Option Tree)
-    → Adds r o results last more next → length more ≤ length results + 1
-more_length None o results last more next h = omega (arith, ap length h.0)
-more_length (Some v) o results last more next h = omega (arith, ap length h.0, length-append results (v ∷ []))
+          kept : (full : Bool) (l : Option Tree) → IsLastOf p s are.objects (is_full limit (length results)) l
+              → IsLastOf p s (are.objects ++ o.object ∷ []) full (if full then Some o.object else l)
+          kept true l h = (refl, end_is, o.bounded, o.entry)
+          kept false None h = λ full. cc
+          kept false (Some x) h = let no : false ≡ true = sym under ∙ h.0 in cc
+
+more_length : (limit : Option ℕ) (r : Option Tree) (o : Tree) (results : List Tree) (last : Option Tree) (more : List Tree) (next : Option Tree)
+    → Adds limit r o results last more next → length more ≤ length results + 1
+more_length limit None o results last more next h = omega (arith, ap length h.0)
+more_length limit (Some v) o results last more next h = omega (arith, ap length h.0, length-append results (v ∷ []))
 
 -- One more object was handed out and its result collected.
 pub collecting_more : (s : Tree) (limit : Option ℕ) (a m n : Known) (into : List ℕ) (found : Bool) (results : List Tree) (last : Option Tree)
     (more : List Tree) (next : Option Tree)
     → IsCollecting s limit a m results last → is_full limit (length results) ≡ false → found ≡ true → HandedOut m n found into → StaysBesideRun m n
-    → AddsObject s into results last more next → IsCollecting s limit a n more next
+    → AddsObject limit s into results last more next → IsCollecting s limit a n more next
 collecting_more s limit a m n into found results last more next c under is handed stays adds =
     let h : HandedOut m n true into = subst (λ (b : Bool). HandedOut m n b into) is handed in
     let here : left_of m ≡ into ∷ h.0 = left_is m (into ∷ h.0) h.1 in
@@ -183,13 +195,13 @@ collecting_more s limit a m n into found results last more next c under is hande
     let all : AreObjectsOf a.keypos (into ∷ h.0) = subst (λ (x : List (List ℕ)). AreObjectsOf a.keypos x) here c.left in
     let o = all.0 in
     let added = adds o.object o.bounded o.code_is in
-    let are = more_results a.keypos s (left_of a) h.0 into o results last more next
-    (subst (λ (x : List (List ℕ)). AreResults a.keypos s (left_of a) x results last) here c.are) (result_of s o.object) refl added in
+    let are = more_results a.keypos s limit (left_of a) h.0 into o results last more next
+    (subst (λ (x : List (List ℕ)). AreResults a.keypos s limit (left_of a) x results last) here c.are) under (result_of s o.object) refl added in
     record {
       run = h.2 ∙ ap (λ (x : List (List ℕ)). Some x) (sym there);
       left = subst (λ (x : List (List ℕ)). AreObjectsOf a.keypos x) (sym there) all.1;
-      are = subst (λ (x : List (List ℕ)). AreResults a.keypos s (left_of a) x more next) (sym there) are;
-      up_to = still_up_to limit (length results) (length more) under (more_length (result_of s o.object) o.object results last more next added);
+      are = subst (λ (x : List (List ℕ)). AreResults a.keypos s limit (left_of a) x more next) (sym there) are;
+      up_to = still_up_to limit (length results) (length more) under (more_length limit (result_of s o.object) o.object results last more next added);
       stays = both_beside_run a m n c.stays stays;
     }
 
@@ -273,12 +285,6 @@ parted_ok (outcome.Busy s) parted P e none h = absurd (none _ e)
 parted_ok (outcome.Full s) parted P e none h = absurd (none _ e)
 parted_ok (outcome.Deep s) parted P e none h = absurd (none _ e)
 parted_ok (outcome.Worn s) parted P e none h = absurd (none _ e)
-
--- The result of an object that was read is the one of its code's term.
-pub adds_read : (s : Tree) (code : List ℕ) (x : Tree) (results : List Tree) (last : Option Tree) (more : List Tree) (next : Option Tree) → IsTerm x
-    → code ≡ code_of x → Adds (result_of s x) x results last more next → AddsObject s code results last more next
-adds_read s code x results last more next b e h = λ o c k.
-    subst (λ (y : Tree). Adds (result_of s y) y results last more next) (same_code x o b c (sym e ∙ k)) h
 
 -- An object that was read has a result.
 pub counts_read : (s : Tree) (code : List ℕ) (x r : Tree) → IsTerm x → code ≡ code_of x → result_of s x ≡ Some r → CountsOnly s code true

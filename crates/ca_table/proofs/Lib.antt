@@ -11,6 +11,7 @@ pub mod Listed
 pub mod LongElements
 pub mod Once
 pub mod ReadBack
+pub mod Recent
 pub mod Refusing
 pub mod SamePut
 pub mod Selecting

@@ -123,13 +123,13 @@ module _ (a d : Known) (positive : 1 ≤ a.keypos) (lo : Bound) (s : Tree) (limi
       ap (step_of_results t s limit) parts ∙ batch_full t s limit found (keyed_results a.keypos s begun.rest) many
       ∙ goes last are.last_is is
     where
-      goes : (l : Option Tree) → IsLastOf a.keypos s w.collected.are.objects l → IsNextOf a.keypos s limit l true next
+      goes : (l : Option Tree) → IsLastOf a.keypos s w.collected.are.objects (is_full (Some limit) (length rs)) l → IsNextOf a.keypos s limit l true next
           → Gives (with_map t (At s limit (last_found (keyed_results a.keypos s w.collected.are.objects)))
           (Results (results_in (keyed_results a.keypos s w.collected.are.objects)) true)) t (Results rs true) next
       goes None h is = absurd is
       goes (Some o) h is =
           let there : At s limit (last_found (keyed_results a.keypos s w.collected.are.objects)) ≡ next =
-          ap (λ (k : Tree). At s limit k) h.0 ∙ sym is in
+          ap (λ (k : Tree). At s limit k) h.1 ∙ sym is in
           let same : results_in (keyed_results a.keypos s w.collected.are.objects) ≡ rs = sym w.collected.are.results_are in
           λ i. record { map = t; continuation = there i; response = Results (same i) true }
 
@@ -184,9 +184,9 @@ module _ (a d : Known) (positive : 1 ≤ a.keypos) (lo : Bound) (s : Tree) (limi
   pub some_last : 1 ≤ limit → is_full (Some limit) (length rs) ≡ true → is_some last ≡ true
   some_last least full = by last w.collected.are.last_is
     where
-      by : (l : Option Tree) → IsLastOf a.keypos s w.collected.are.objects l → is_some l ≡ true
+      by : (l : Option Tree) → IsLastOf a.keypos s w.collected.are.objects (is_full (Some limit) (length rs)) l → is_some l ≡ true
       by None h =
-          let none : length rs ≡ 0 = ap length (w.collected.are.results_are ∙ ap results_in h) in
+          let none : length rs ≡ 0 = ap length (w.collected.are.results_are ∙ ap results_in (h full)) in
           let few : nat_le limit 0 ≡ true = sym (ap (nat_le limit) none) ∙ full in
           grind (arith, nat_tests)
       by (Some o) h = refl
@@ -195,18 +195,19 @@ module _ (a d : Known) (positive : 1 ≤ a.keypos) (lo : Bound) (s : Tree) (limi
   pub last_object : IfSome last (λ o. is_object a.keypos o ≡ true)
   last_object = by last w.collected.are.last_is
     where
-      by : (l : Option Tree) → IsLastOf a.keypos s w.collected.are.objects l → IfSome l (λ o. is_object a.keypos o ≡ true)
+      by : (l : Option Tree) → IsLastOf a.keypos s w.collected.are.objects (is_full (Some limit) (length rs)) l → IfSome l (λ o. is_object a.keypos o ≡ true)
       by None h = tt
-      by (Some o) h = h.2.object
+      by (Some o) h = h.3.object
 
   -- Where the next batch goes on is a continuation.
   pub next_continues : IsSpecification s → 1 ≤ limit → (full : Bool) (next : Continuation) → IsNextOf a.keypos s limit last full next → IsContinuation next
   next_continues accepted least full next goes = by full last w.collected.are.last_is goes
     where
-      by : (b : Bool) (l : Option Tree) → IsLastOf a.keypos s w.collected.are.objects l → IsNextOf a.keypos s limit l b next → IsContinuation next
+      by : (b : Bool) (l : Option Tree) → IsLastOf a.keypos s w.collected.are.objects (is_full (Some limit) (length rs)) l
+          → IsNextOf a.keypos s limit l b next → IsContinuation next
       by false l h goes = subst IsContinuation (sym goes) tt
       by true None h goes = absurd goes
-      by true (Some o) h goes = subst IsContinuation (sym goes) (accepted, least, key_fits a.keypos o positive h.1 h.2)
+      by true (Some o) h goes = subst IsContinuation (sym goes) (accepted, least, key_fits a.keypos o positive h.2 h.3)
 
 module _ (a d : Known) (s : Tree) (accepted : IsSpecification s) (limit : ℕ) (response : Response) (next : Continuation) where
   -- `batch` answers the batch from the first object on.
@@ -307,8 +308,8 @@ module _ (a b : Known) (s k : Tree) (accepted : IsSpecification s) (covers : (o 
 
     -- The key's object has a result, or none.
     pub select_present : found ≡ true → Got a b bytes found into → (none : List Tree) (last : Option Tree) → none ≡ [] → (ts : List Tree) (next : Option Tree)
-        → AddsObject s into none last ts next → (l : Continuation) → StepsOnce a b l (Select s) (Items ts) l
-    select_present e got none last empty ts next adds l =
+        → (limit : Option ℕ) → AddsObject limit s into none last ts next → (l : Continuation) → StepsOnce a b l (Select s) (Items ts) l
+    select_present e got none last empty ts next limit adds l =
         (once a b (Get (code_of k) (Some into)) l l (Select s) (Items ts) (got_some k bytes h a b found into e got) (record {
           at = λ m t st answer.
               let o = found_object a.keypos m t st k h.bounded into answer in
@@ -317,7 +318,7 @@ module _ (a b : Known) (s k : Tree) (accepted : IsSpecification s) (covers : (o 
               (t, rw (accepted, same) refl, st);
         }))
       where
-        one : (r : Option Tree) (o : Tree) → result_of s o ≡ r → Adds r o none last ts next → chosen s (o ∷ []) ≡ ts
+        one : (r : Option Tree) (o : Tree) → result_of s o ≡ r → Adds limit r o none last ts next → chosen s (o ∷ []) ≡ ts
         one None o f h = rw f (sym (h.0 ∙ empty))
         one (Some v) o f h = rw f (sym (h.0 ∙ ap (λ (x : List Tree). x ++ v ∷ []) empty))
 

@@ -71,31 +71,31 @@ abbrev pub AreUpTo : Option ℕ → ℕ → Type 0
 AreUpTo None found = Unit {0}
 AreUpTo (Some limit) found = found ≤ limit
 
--- what one more object adds to the results and to the last object that gave one
-abbrev pub Adds : Option Tree → Tree → List Tree → Option Tree → List Tree → Option Tree → Type 0
-Adds None o results last more next = (more ≡ results) × (next ≡ last)
-Adds (Some r) o results last more next = (more ≡ results ++ r ∷ []) × (next ≡ Some o)
+-- what one more object adds to the results, and to what is kept: it itself, where there are as many results then as are wanted
+abbrev pub Adds : Option ℕ → Option Tree → Tree → List Tree → Option Tree → List Tree → Option Tree → Type 0
+Adds limit None o results last more next = (more ≡ results) × (next ≡ last)
+Adds limit (Some r) o results last more next = (more ≡ results ++ r ∷ []) × (next ≡ (if is_full limit (length more) then Some o else last))
 
-abbrev pub AddsObject : Tree → List ℕ → List Tree → Option Tree → List Tree → Option Tree → Type 0
-AddsObject s bytes results last more next = (o : Tree) → IsTerm o → bytes ≡ code_of o → Adds (result_of s o) o results last more next
+abbrev pub AddsObject : Option ℕ → Tree → List ℕ → List Tree → Option Tree → List Tree → Option Tree → Type 0
+AddsObject limit s bytes results last more next = (o : Tree) → IsTerm o → bytes ≡ code_of o → Adds limit (result_of s o) o results last more next
 
--- The object is the last of these that gave a result, or none did.
-abbrev pub IsLastOf : ℕ → Tree → List Tree → Option Tree → Type 0
-IsLastOf keypos s objects None = keyed_results keypos s objects ≡ []
-IsLastOf keypos s objects (Some o) = (last_found (keyed_results keypos s objects) ≡ key_of keypos o) × IsTerm o × IsEntry keypos o
+-- Where there are as many results as were wanted, the object is the last of these that gave one; else none is kept.
+abbrev pub IsLastOf : ℕ → Tree → List Tree → Bool → Option Tree → Type 0
+IsLastOf keypos s objects full None = full ≡ true → keyed_results keypos s objects ≡ []
+IsLastOf keypos s objects full (Some o) = (full ≡ true) × (last_found (keyed_results keypos s objects) ≡ key_of keypos o) × IsTerm o × IsEntry keypos o
 
 -- These are the results of the first objects of a run, of which these are left.
-pub record AreResults (keypos : ℕ) (s : Tree) (whole left : List (List ℕ)) (results : List Tree) (last : Option Tree) : Type 0 where
+pub record AreResults (keypos : ℕ) (s : Tree) (limit : Option ℕ) (whole left : List (List ℕ)) (results : List Tree) (last : Option Tree) : Type 0 where
   pub objects : List Tree
   pub bounded : AreTerms objects
   pub whole_is : whole ≡ map code_of objects ++ left
   pub results_are : results ≡ results_in (keyed_results keypos s objects)
-  pub last_is : IsLastOf keypos s objects last
+  pub last_is : IsLastOf keypos s objects (is_full limit (length results)) last
 
 -- The results of a run were collected: as many as were wanted, or up to the run's end.
 pub record AreCollected (keypos : ℕ) (s : Tree) (limit : Option ℕ) (whole : List (List ℕ)) (results : List Tree) (last : Option Tree) : Type 0 where
   pub left : List (List ℕ)
-  pub are : AreResults keypos s whole left results last
+  pub are : AreResults keypos s limit whole left results last
   pub up_to : AreUpTo limit (length results)
   pub ended : (is_full limit (length results) ≡ true) ⊎ ((left ≡ []) × (is_full limit (length results) ≡ false))
 

@@ -1,10 +1,11 @@
 //! Batches of a table over a store.
-ghost use Rattle.std.specs.Prelude.{◌≡◌, ◌≤◌, IfErr, IfOk, IfSome, is_some, true};
+ghost use Rattle.std.specs.Prelude.{◌≡◌, ◌≤◌, IfErr, IfOk, IfSome, MatchOption, Some, is_some, true};
 ghost use Rattle.ca_term.specs.Object.{is_object, key_of};
 ghost use Rattle.ca_ets.specs.Command.{IsContinuation, continuation_of, response_of};
 ghost use Rattle.ca_ets.specs.declared.command.Cmd.TheVariants.{Batch, More};
 ghost use Rattle.ca_match.specs.Specification.{IsSpecification};
-ghost use Rattle.ca_ets.specs.Step.{limit_of};
+ghost use Rattle.ca_ets.specs.declared.command.Fault.TheVariants.{BadArg};
+ghost use Rattle.ca_ets.specs.Step.{fault_of_specification, limit_of};
 ghost use Rattle.ca_model.specs.Edges.{IsProperBound, bound_of};
 ghost use Rattle.ca_table.specs.Collected.{IsBatch, IsNextOf, IsPlaceOf, IsStopped, reply_of_batch};
 ghost use Rattle.ca_table.specs.ComesTo.{ComesToFrom};
@@ -18,7 +19,7 @@ use crate::table::Table;
 use ca_ets::{Cont, Fault, Reply};
 use ca_model::{Code, Edge, OrderedStore, Outcome};
 use ca_spec::Spec;
-use ca_term::{Kind, Term, Terms, try_copy};
+use ca_term::{Kind, Term, Terms, term_order, try_copy};
 use std::alloc::{AllocError, Global};
 
 // Where a client's batches go on.
@@ -57,7 +58,7 @@ impl<S: OrderedStore + Drop> Table<S> {
         let Some(spec) = compiled else {
             return Ok(Outcome::Done(Reply::Error(Fault::BadArg)));
         };
-        match self.next_batch(alloc, &spec, limit, Edge::Open, budget) {
+        match self.next_batch(alloc, spec, limit, Edge::Open, budget) {
             Ok((reply, next)) => {
                 *cont = next;
                 Ok(Outcome::Done(reply))
@@ -76,14 +77,15 @@ impl<S: OrderedStore + Drop> Table<S> {
         ensures comes { ComesToFrom self.old self.new budget More (continuation_of cont.old) (continuation_of cont.new) result }
         ensures continuation { IsContinuation (continuation_of cont.new) }
     {
+        let recent = self.take_recent();
         let mut code = Code::new();
-        let (spec, limit) = match place_of(alloc, cont, &mut code) {
+        let (spec, limit) = match place_of(alloc, cont, recent, &mut code) {
             Ok(Place::Behind { spec, limit }) => (spec, limit),
             Ok(Place::Nowhere) => return Ok(Outcome::Done(Reply::Error(Fault::BadArg))),
             Ok(Place::AtEnd) => return Ok(Outcome::Done(Reply::End)),
             Err(_) => return Err(AllocError),
         };
-        match self.next_batch(alloc, &spec, limit, Edge::Past(code.as_slice()), budget) {
+        match self.next_batch(alloc, spec, limit, Edge::Past(code.as_slice()), budget) {
             Ok((reply, next)) => {
                 *cont = next;
                 Ok(Outcome::Done(reply))
@@ -93,8 +95,30 @@ impl<S: OrderedStore + Drop> Table<S> {
         }
     }
 
-    // The batch of the objects within a lower edge, and where the next one goes on.
+    // The batch of the objects within a lower edge, and where the next one goes on. The specification is kept for the client's next batch.
     fn next_batch(
+        &mut self,
+        alloc: Global,
+        spec: Spec,
+        limit: u64,
+        lo: Edge<'_>,
+        budget: u32,
+    ) -> Result<(Reply, Cont), Stop>
+        requires budget { 1 ≤ budget }
+        requires edge { IsProperBound (bound_of lo) }
+        requires limit { 1 ≤ limit }
+        requires specification { IsSpecification spec }
+        ensures batch { IfOk result (λ b. IsBatch self.old self.new (bound_of lo.entry) spec limit (response_of b.0) (continuation_of b.1)) }
+        ensures next { IfOk result (λ b. IsContinuation (continuation_of b.1)) }
+        ensures stopped { IfErr result (λ stop. IsStopped self.old self.new budget stop) }
+    {
+        let found = self.batch_within(alloc, &spec, limit, lo, budget);
+        self.keep_recent(spec);
+        found
+    }
+
+    // The batch of the objects within a lower edge.
+    fn batch_within(
         &mut self,
         alloc: Global,
         spec: &Spec,
@@ -133,8 +157,14 @@ fn limit_of(limit: &Term) -> Option<u64>
     }
 }
 
-// Where a client's batches go on; then `code` is the code of the key that they stand behind.
-fn place_of(alloc: Global, cont: &Cont, code: &mut Code) -> Result<Place, AllocError>
+// Where a client's batches go on; then `code` is the code of the key that they stand behind. The specification of the last batch is taken where it is
+// the client's.
+fn place_of(
+    alloc: Global,
+    cont: &Cont,
+    recent: Option<Spec>,
+    code: &mut Code,
+) -> Result<Place, AllocError>
     requires { IsContinuation (continuation_of cont.now) }
     ensures { IfOk result (λ place. IsPlaceOf (continuation_of cont.now) place code.new.items) }
 {
@@ -145,7 +175,7 @@ fn place_of(alloc: Global, cont: &Cont, code: &mut Code) -> Result<Place, AllocE
             let Ok(()) = key_code(key, code) else {
                 unreachable!()
             };
-            let Ok(compiled) = specification(alloc, spec) else {
+            let Ok(compiled) = specification_again(alloc, spec, recent) else {
                 return Err(AllocError);
             };
             let Some(spec) = compiled else { unreachable!() };
@@ -154,6 +184,21 @@ fn place_of(alloc: Global, cont: &Cont, code: &mut Code) -> Result<Place, AllocE
                 limit: *limit,
             })
         }
+    }
+}
+
+// The match specification that a term is: the one that was compiled last, where it is of this term, or else compiled now.
+fn specification_again(
+    alloc: Global,
+    spec: &Term,
+    recent: Option<Spec>,
+) -> Result<Option<Spec>, AllocError>
+    ensures { IfOk result (λ compiled. MatchOption compiled (fault_of_specification spec.now ≡ Some BadArg)
+        (λ c. (c ≡ spec.now) × IsSpecification spec.now)) }
+{
+    match recent {
+        Some(own) if term_order(own.source(), spec).is_eq() => Ok(Some(own)),
+        _ => specification(alloc, spec),
     }
 }
 

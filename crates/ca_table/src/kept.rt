@@ -45,18 +45,6 @@ impl Object {
         Object { code: copy }
     }
 
-    // Takes the object of this code in the place of the one that is here. Of the room only as much is written as both codes take.
-    pub(crate) fn set(&mut self, code: &Code)
-        requires { IsTermCode code.now.items }
-        ensures { (t : Tree) → IsTerm t → code.now.items ≡ code_of t → self.new ≡ t }
-    {
-        self.code.clear();
-        let _length = code.len();
-        let Ok(()) = self.code.try_extend_from_slice(code.as_slice()) else {
-            unreachable!()
-        };
-    }
-
     // Its term.
     pub(crate) fn term(&self, alloc: Global) -> Result<Term, AllocError>
         ensures { IfOk result (λ term. term ≡ self.now) }

@@ -1,11 +1,11 @@
 //! Results of the objects of a run.
-ghost use Rattle.std.specs.Prelude.{◌≡◌, ◌≤◌, [], IfErr, IfOk, OnOk, None, Some};
+ghost use Rattle.std.specs.Prelude.{◌≡◌, ◌≤◌, [], IfErr, IfOk, OnOk, None, Some, length, if◌then◌else◌};
 ghost use Rattle.ca_term.specs.Code.{code_of};
 ghost use Rattle.ca_term.specs.Tree.{IsTerm, Tree};
 ghost use Rattle.ca_order.specs.Languages.{IsTermCode};
 ghost use Rattle.ca_model.specs.Edges.{IsProperBound, bound_of};
 ghost use Rattle.ca_model.specs.Known.{StaysBesideRun};
-ghost use Rattle.ca_table.specs.Collected.{Adds, AddsObject, AreCollected, AreWithin, CountsOnly, IsOpenRun, IsStopped, WasAsked, is_full, left_of, wanted};
+ghost use Rattle.ca_table.specs.Collected.{AddsObject, AreCollected, AreWithin, CountsOnly, IsOpenRun, IsStopped, WasAsked, is_full, left_of, wanted};
 
 use crate::kept::Object;
 use crate::outcome::{Stop, done};
@@ -15,7 +15,7 @@ use ca_spec::{Spec, apply, apply_code};
 use ca_term::{Term, Terms};
 use std::alloc::{AllocError, Global};
 
-// What is collected of a run: results in key order, and the last object that gave one.
+// What is collected of a run: results in key order, and the last object that gave one, where there are as many as are wanted.
 #[derive(Drop)]
 pub(crate) struct Collected {
     pub results: Terms,
@@ -34,36 +34,49 @@ impl Collected {
         }
     }
 
-    // With the result of the object of this code, if the specification gives it one.
-    pub(crate) fn add(&mut self, alloc: Global, spec: &Spec, code: &Code) -> Result<(), AllocError>
+    // With the result of the object of this code, if the specification gives it one. The object itself is kept where there are as many results then as are
+    // wanted: the next batch goes on behind it.
+    pub(crate) fn add(
+        &mut self,
+        alloc: Global,
+        spec: &Spec,
+        limit: Option<u64>,
+        code: &Code,
+    ) -> Result<(), AllocError>
         requires { IsTermCode code.now.items }
-        ensures { OnOk result (AddsObject spec.now code.now.items self.old.results.items self.old.last self.new.results.items self.new.last) }
+        ensures { OnOk result (AddsObject limit spec.now code.now.items self.old.results.items self.old.last self.new.results.items self.new.last) }
     {
         let Some(found) = apply_code(alloc, spec, code.as_slice())? else {
             return Ok(());
         };
-        let Ok(()) = self.keep(found, code) else {
-            return Err(AllocError);
-        };
-        Ok(())
-    }
-
-    // With this result of the object of this code. It stands apart, since a function clears the room of all its values at each call, and an object is
-    // long: most objects have no result.
-    #[inline(never)]
-    fn keep(&mut self, found: Term, code: &Code) -> Result<(), AllocError>
-        requires { IsTermCode code.now.items }
-        ensures { OnOk result ((o : Tree) → IsTerm o → code.now.items ≡ code_of o
-            → Adds (Some found) o self.old.results.items self.old.last self.new.results.items self.new.last) }
-    {
         let Ok(()) = self.results.push(found) else {
             return Err(AllocError);
         };
-        match &mut self.last {
-            Some(last) => last.set(code),
-            None => self.last = Some(Object::of(code)),
-        }
+        self.keep(limit, code);
         Ok(())
+    }
+
+    // With the object of this code where there are as many results as are wanted.
+    #[inline(always)]
+    fn keep(&mut self, limit: Option<u64>, code: &Code)
+        requires { IsTermCode code.now.items }
+        ensures results { self.new.results ≡ self.old.results }
+        ensures last { (o : Tree) → IsTerm o → code.now.items ≡ code_of o
+            → self.new.last ≡ (if is_full limit (length self.old.results.items) then Some o else self.old.last) }
+    {
+        if is_full(limit, self.results.len()) {
+            self.set_last(code);
+        }
+    }
+
+    // With the object of this code. It stands apart, since a function clears the room of all its values at each call, and an object is long.
+    #[inline(never)]
+    fn set_last(&mut self, code: &Code)
+        requires { IsTermCode code.now.items }
+        ensures results { self.new.results ≡ self.old.results }
+        ensures last { (o : Tree) → IsTerm o → code.now.items ≡ code_of o → self.new.last ≡ Some o }
+    {
+        self.last = Some(Object::of(code));
     }
 }
 
@@ -94,7 +107,7 @@ fn collect<S: OrderedStore>(
         if !store.found(&mut code) {
             return Ok(collected);
         }
-        collected.add(alloc, spec, &code)?;
+        collected.add(alloc, spec, limit, &code)?;
     }
     Ok(collected)
 }

@@ -127,7 +127,7 @@ impl<S: OrderedStore + Drop> Table<S> {
             return Ok(Outcome::Done(Reply::List(Terms::new(alloc))));
         }
         let mut found = Collected::new(alloc);
-        let Ok(()) = found.add(alloc, spec, &object) else {
+        let Ok(()) = found.add(alloc, spec, None, &object) else {
             return Err(AllocError);
         };
         Ok(Outcome::Done(Reply::List(found.results)))

@@ -41,6 +41,8 @@ use std::marker::Model;
 pub struct Table<S: OrderedStore + Drop> {
     store: S,
     keypos: u32,
+    // the specification of the last batch, compiled
+    recent: Option<Spec>,
 }
 
 impl<S: OrderedStore + Drop> Model for Table<S> {
@@ -62,7 +64,11 @@ impl<S: OrderedStore + Drop> Table<S> {
         requires closed { (S.knows store).run ≡ None }
         ensures { result ≡ S.knows store }
     {
-        Table { store, keypos }
+        Table {
+            store,
+            keypos,
+            recent: None,
+        }
     }
 
     /// The store. It has no run open.
@@ -552,6 +558,20 @@ impl<S: OrderedStore + Drop> Table<S> {
             object,
             budget,
         ))
+    }
+
+    // Takes the specification of the last batch out.
+    pub(crate) fn take_recent(&mut self) -> Option<Spec>
+        ensures { self.new ≡ self.old }
+    {
+        self.recent.take()
+    }
+
+    // Keeps the specification of a batch.
+    pub(crate) fn keep_recent(&mut self, spec: Spec)
+        ensures { self.new ≡ self.old }
+    {
+        self.recent = Some(spec);
     }
 
     // The results of the objects within two edges at one state, as many as are wanted, or all.

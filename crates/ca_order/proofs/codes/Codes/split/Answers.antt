@@ -1,8 +1,8 @@
 use Rattle.ca_order.proofs.CodeParts.{behind_is, front_is, halves, has_one, split_is}
 use Rattle.ca_order.proofs.codes.Codes.split.Goals as goal
 
-pub skip-behind-requires : goal.skip-behind-requires
-skip-behind-requires c = has_one c.args.self.bytes.now c.args.self.terms.0 (halves c.args.self.bytes.now c.args.self.terms c.requires)
+pub skip_one-behind-requires : goal.skip_one-behind-requires
+skip_one-behind-requires c = has_one c.args.self.bytes.now c.args.self.terms.0 (halves c.args.self.bytes.now c.args.self.terms c.requires)
 
 pub invariant_of-result : goal.invariant_of-result
 invariant_of-result c =
@@ -12,7 +12,7 @@ invariant_of-result c =
       code = (
         h.first,
         h.bounded,
-        front_is bytes c.args.self.terms.0 h c.split_at.result.0.now c.skip-behind.result.now c.skip-behind.ensures.rest
+        front_is bytes c.args.self.terms.0 h c.split_at.result.0.now c.skip_one-behind.result.now c.skip_one-behind.ensures.rest
             c.split_at.ensures.front,
       );
     }
@@ -25,7 +25,7 @@ invariant_of-result-2 c =
       terms = (
         h.others,
         h.rest,
-        behind_is bytes c.args.self.terms.0 h c.split_at.result.0.now c.skip-behind.result.now c.skip-behind.ensures.rest
+        behind_is bytes c.args.self.terms.0 h c.split_at.result.0.now c.skip_one-behind.result.now c.skip_one-behind.ensures.rest
             c.split_at.ensures.front,
       );
     }
@@ -33,5 +33,5 @@ invariant_of-result-2 c =
 pub returns : goal.returns
 returns c =
     let bytes = c.args.self.bytes.now in
-    split_is bytes c.args.self.terms.0 (halves bytes c.args.self.terms c.requires) c.split_at.result.0.now c.skip-behind.result.now
-    c.skip-behind.ensures.rest c.split_at.ensures.front c.result-1.given.0 c.result-2-1.given.0
+    split_is bytes c.args.self.terms.0 (halves bytes c.args.self.terms c.requires) c.split_at.result.0.now c.skip_one-behind.result.now
+    c.skip_one-behind.ensures.rest c.split_at.ensures.front c.result-1.given.0 c.result-2-1.given.0

@@ -2,7 +2,10 @@ use Rattle.std.proofs.Common.{List, ℕ, arith, length, sym, ap, subst}
 use Rattle.ca_ets.specs.declared.command.Cmd.TheVariants.{More}
 use Rattle.ca_ets.specs.Command.{Continuation, continuation_of, response_of}
 use Rattle.ca_table.specs.ComesTo.{StepsOnce}
+use Rattle.ca_model.specs.Edges.{Excluded}
+use Rattle.ca_model.specs.Known.{Known}
 use Rattle.ca_table.specs.Codes.{HasKeyCode}
+use Rattle.ca_table.specs.Collected.{IsBatch}
 use Rattle.ca_table.proofs.Keyed.{key_begins}
 use Rattle.ca_table.proofs.Selecting.{behind_place, more_done}
 use Rattle.ca_table.proofs.table.Table.more.Goals as goal
@@ -20,4 +23,6 @@ returns-in-Ok-clause-comes g c =
     let code = subst (λ (x : List ℕ). HasKeyCode b.key x) (sym c.as_slice.ensures.value) b.code_is in
     subst (λ (k : Continuation). StepsOnce c.args.self.now c.next_batch.new.self k More (response_of c.in-Ok.reply) (continuation_of c.in-Ok.next)) (sym b.is)
     (more_done c.args.self.now c.next_batch.new.self c.in-Ok-Behind.spec b.accepted c.in-Ok-Behind.limit (response_of c.in-Ok.reply)
-    (continuation_of c.in-Ok.next) b.key c.as_slice.result.now code c.in-Ok.ensures.batch)
+    (continuation_of c.in-Ok.next) b.key c.as_slice.result.now code
+    (subst (λ (before : Known). IsBatch before c.next_batch.new.self (Excluded c.as_slice.result.now) c.in-Ok-Behind.spec c.in-Ok-Behind.limit
+    (response_of c.in-Ok.reply) (continuation_of c.in-Ok.next)) c.take_recent-recent.ensures c.in-Ok.ensures.batch))

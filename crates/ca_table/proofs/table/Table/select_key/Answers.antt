@@ -1,4 +1,4 @@
-use Rattle.std.proofs.Common.{inr}
+use Rattle.std.proofs.Common.{inr, None}
 use Rattle.ca_table.proofs.Keyed.{key_begins, read_code, only_read}
 use Rattle.ca_table.proofs.Selecting.{select_unfit, select_absent, select_present}
 use Rattle.ca_table.proofs.table.Table.select_key.Goals as goal
@@ -26,4 +26,4 @@ returns-in_default-add-clause-comes g c =
 pub returns-clause-comes : goal.returns-clause-comes
 returns-clause-comes g c =
     select_present c.args.self.now c.get.new.self c.args.spec.now c.args.key.now c.requires.specification c.requires.covers _ c.in-Ok.ensures.1 _ _
-    c.if-not-get.false c.get.ensures _ _ c.new-found.ensures.results _ _ c.in-Ok-add.ensures
+    c.if-not-get.false c.get.ensures _ c.new-found.result.last c.new-found.ensures.results _ c.add.new.self.last None c.in-Ok-add.ensures

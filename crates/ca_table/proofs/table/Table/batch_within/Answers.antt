@@ -4,7 +4,7 @@ use Rattle.ca_model.specs.Edges.{bound_of, Unbounded}
 use Rattle.ca_ets.specs.Command.{continuation_of, response_of}
 use Rattle.ca_table.specs.Collected.{IsNextOf}
 use Rattle.ca_table.proofs.Selecting.{run_read, batch_is, next_continues}
-use Rattle.ca_table.proofs.table.Table.next_batch.Goals as goal
+use Rattle.ca_table.proofs.table.Table.batch_within.Goals as goal
 
 pub returns-in_default-clause-stopped : goal.returns-in_default-clause-stopped
 returns-in_default-clause-stopped g c =
