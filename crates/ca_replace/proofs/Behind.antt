@@ -1,7 +1,6 @@
 -- What an attempt comes to behind the look that it begins with.
 use Rattle.std.proofs.Common.{◌≡◌, ◌<◌, ℕ, Bool, true, false, List, [], Result, Ok, Err, sym, refl, ap, ◌∙◌, subst}
 use Rattle.std.specs.declared.option.Option.{Option}
-use Rattle.std.specs.declared.option.Option.TheVariants.{None}
 use Rattle.ca_adapt.specs.declared.tuning.Tuning.{Tuning}
 use Rattle.ca_base.specs.Counting.{losses}
 use Rattle.ca_base.specs.Readiness.{IsReady, StaysReady}

@@ -1,5 +1,5 @@
 -- What calls count, from one attempt to the next.
-use Rattle.std.proofs.Common.{◌≡◌, ◌⊎◌, ℕ, ◌+◌, ◌-◌, ◌<◌, ◌≤◌, min, Result, Ok, Err, subst, refl, ap, inl, inr, ⊎_elim, arith}
+use Rattle.std.proofs.Common.{◌≡◌, ◌⊎◌, ℕ, ◌+◌, ◌-◌, ◌<◌, ◌≤◌, min, Result, Ok, Err, ap, inl, inr, ⊎_elim, arith}
 use Rattle.ca_base.specs.declared.stop.Stop.TheVariants as stop
 use Rattle.ca_replace.specs.declared.attempting.Halt.{Halt}
 use Rattle.ca_replace.specs.declared.attempting.Halt.TheVariants as halt
@@ -111,11 +111,6 @@ pub stopped_behind : {T : Type 0} (r : Result T Halt) (k m n : MyTree) → IsQui
 stopped_behind r k m n q h = let lost = q.lost in
     let same = ap (λ (t : Turns). t.passed) q.same_turns in
     met_then r k m n q.met (omega arith) (omega arith) h
-
--- One that came to a stop, told of another type of answers.
-pub stop_stopped : (T U : Type 0) (why : Halt) (k m n : MyTree) → IsQuiet k m
-    → HasStopped {T = T} (Err why) m n → HasStopped {T = U} (Err why) k n
-stop_stopped T U why k m n q h = stopped_behind {T = U} (Err why) k m n q h
 
 -- What was lost as rows were given back was paid, too.
 pub paid_given : (a : Spent) (lost sum : ℕ) (m m' : MyTree) → sum ≡ min (a.lost + lost) 4294967295

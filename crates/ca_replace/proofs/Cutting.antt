@@ -1,5 +1,5 @@
 -- Which bases a call split.
-use Rattle.std.proofs.Common.{◌≡◌, ◌≢◌, ◌⊎◌, ℕ, ◌<◌, ◌≤◌, Bool, true, false, List, [], ◌∷◌, ◌++◌, length, map, Result, Ok, Err, IsErr, sym, refl, ap, ◌∙◌, subst, inl, inr, ⊎_elim, arith, append_assoc}
+use Rattle.std.proofs.Common.{◌≡◌, ◌⊎◌, ℕ, ◌<◌, ◌≤◌, Bool, true, false, List, [], ◌∷◌, ◌++◌, length, map, Result, Ok, Err, IsErr, sym, refl, ap, ◌∙◌, subst, inl, inr, ⊎_elim, arith, append_assoc}
 use denote.Ref.{Bor}
 use Rattle.std.specs.declared.option.Option.{Option}
 use Rattle.std.specs.declared.option.Option.TheVariants.{Some}
@@ -208,33 +208,10 @@ looked_cut {T} edits z adds r m m' v q h = by r h
     by (Err halt.Deep) h = h ∙ q.same_cuts
     by (Err (halt.Stopped why)) h = h ∙ q.same_cuts
 
--- One that came to a stop, told of another type of answers.
-pub stop_cut : (T U : Type 0) (edits : T → Bool) (edits' : U → Bool) (z : Sizes)
-    (adds : Option (List ℕ)) (why : Halt) (m m' : MyTree) (v : TreeView)
-    → IsQuiet m m' → HasCut edits z adds (Err why) m'.0.upper v
-    → HasCut edits' z adds (Err why) m.0.upper v
-stop_cut T U edits edits' z adds why m m' v q h =
-    by why (looked_cut edits z adds (Err why) m m' v q h)
-  where
-    by : (why : Halt) → HasCut edits z adds (Err why) m.0.upper v
-        → HasCut edits' z adds (Err why) m.0.upper v
-    by halt.Split h = h
-    by halt.Deep h = h
-    by (halt.Stopped why) h = h
-
 -- A call that edits nothing.
 pub entered_cut : (m m' m'' : MyTree) (event : Event) → IsQuiet m m'
     → IsEntered event m' m'' → m''.0.upper.cuts ≡ m.0.upper.cuts
 entered_cut m m' m'' event q is = ap (λ (x : MyTree). x.0.upper.cuts) is.now ∙ q.same_cuts
-
--- An attempt that split no full base did so whatever key its call adds.
-pub never_cut : {T : Type 0} (edits : T → Bool) (z : Sizes) (adds adds' : Option (List ℕ))
-    (r : Result T Halt) (u v : TreeView) → r ≢ Err halt.Split
-    → HasCut edits z adds r u v → HasCut edits z adds' r u v
-never_cut edits z adds adds' (Ok x) u v n h = h
-never_cut edits z adds adds' (Err halt.Split) u v n h = absurd (n refl)
-never_cut edits z adds adds' (Err halt.Deep) u v n h = h
-never_cut edits z adds adds' (Err (halt.Stopped why)) u v n h = h
 
 -- What was done while the pass was pinned.
 pub cut_pinned : {T : Type 0} (edits : T → Bool) (z : Sizes) (adds : Option (List ℕ))

@@ -1,5 +1,5 @@
 -- Why a due split was not carried out: what was met since the update.
-use Rattle.std.proofs.Common.{◌≡◌, ℕ, Bool, true, false, List, Result, Ok, Err, IsOk, sym, refl, ap, ◌∙◌, subst, inl, inr, ⊎_elim, arith}
+use Rattle.std.proofs.Common.{◌≡◌, ℕ, Bool, true, List, Result, Ok, Err, IsOk, sym, refl, ap, ◌∙◌, subst, inl, inr, ⊎_elim, arith}
 use denote.Ref.{Bor}
 use Rattle.ca_base.specs.declared.stop.Stop.{Stop}
 use Rattle.ca_replace.specs.declared.attempting.Halt.{Halt}

@@ -1,5 +1,5 @@
 -- How the tree of a pass that is alone grows by a call.
-use Rattle.std.proofs.Common.{◌≡◌, ◌≢◌, ◌⊎◌, ℕ, zero, suc, ◌+◌, ◌/◌, ◌<◌, ◌≤◌, Bool, true, false, ℤ, List, [], ◌∷◌, ◌++◌, length, map, take, drop, get_or, Result, Ok, Err, IsErr, sym, refl, ap, ◌∙◌, subst, inl, inr, ⊎_elim, arith, length-append}
+use Rattle.std.proofs.Common.{◌≡◌, ◌≢◌, ◌⊎◌, ℕ, zero, suc, ◌+◌, ◌/◌, ◌<◌, ◌≤◌, ℤ, List, [], ◌∷◌, ◌++◌, length, map, take, drop, get_or, Result, Ok, Err, IsErr, sym, refl, ap, ◌∙◌, subst, inl, inr, ⊎_elim, arith, length-append}
 use Rattle.std.proofs.lemmas.List.{get_or-map, length-map, length-take, length-take-le, take-append-drop}
 use Rattle.std.specs.declared.option.Option.{Option}
 use Rattle.std.specs.declared.option.Option.TheVariants.{None, Some}
@@ -499,29 +499,6 @@ pub looked_grown : {T : Type 0} (z : Sizes) (adds : Option (List ℕ)) (r : Resu
 looked_grown z adds r m m' v k l f q h a =
     grown_from z adds r m.0.upper m'.0.upper v (seen_still z m.0.upper m'.0.upper a k l f)
     (q.splits_are, q.same_inventory) (h (alone_on z m.0.upper m'.0.upper f.number a))
-
--- One that came to a stop, told of another type of answers.
-pub stop_grown : (T U : Type 0) (z : Sizes) (adds : Option (List ℕ)) (why : Halt) (m m' : MyTree)
-    (v : TreeView) → IsKnown z m.0.upper
-    → IsKnown z m'.0.upper → IsFurther m.0.upper m'.0.upper → IsQuiet m m'
-    → (IsAlone z m'.0.upper → HasGrown {T = T} z adds (Err why) m'.0.upper v)
-    → IsAlone z m.0.upper → HasGrown {T = U} z adds (Err why) m.0.upper v
-stop_grown T U z adds why m m' v k l f q h a =
-    by why (looked_grown {T = T} z adds (Err why) m m' v k l f q h a)
-  where
-    by : (why : Halt) → HasGrown {T = T} z adds (Err why) m.0.upper v
-        → HasGrown {T = U} z adds (Err why) m.0.upper v
-    by halt.Split h = h
-    by halt.Deep h = h
-    by (halt.Stopped why) h = h
-
--- One that stopped and split no full base, whichever key it was to add.
-pub stop_unsplit : (T U : Type 0) (z : Sizes) (adds other : Option (List ℕ)) (why : Halt)
-    (u v : TreeView) → (why ≡ halt.Split → ⊥)
-    → HasGrown {T = T} z adds (Err why) u v → HasGrown {T = U} z other (Err why) u v
-stop_unsplit T U z adds other halt.Split u v none h = absurd (none refl)
-stop_unsplit T U z adds other halt.Deep u v none h = h
-stop_unsplit T U z adds other (halt.Stopped why) u v none h = h
 
 -- A call that edits nothing.
 pub entered_grown : (m m' m'' : MyTree) (event : Event) → IsQuiet m m'

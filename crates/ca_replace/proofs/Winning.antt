@@ -1,5 +1,5 @@
 -- A pass that is alone wins each exchange of a link.
-use Rattle.std.proofs.Common.{◌≡◌, ◌≢◌, ◌⊎◌, ℕ, ◌<◌, Bool, true, false, List, Result, Ok, Err, IsOk, sym, refl, ap, ◌∙◌, subst, ⊎_elim}
+use Rattle.std.proofs.Common.{◌≡◌, ◌≢◌, ℕ, ◌<◌, Bool, true, false, List, Result, Ok, Err, IsOk, sym, refl, ap, ◌∙◌, subst}
 use denote.Ref.{Bor}
 use Rattle.ca_base.specs.declared.stop.Exchange.TheVariants as exchange
 use Rattle.ca_base.specs.declared.stop.Stop.{Stop}

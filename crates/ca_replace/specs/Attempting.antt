@@ -1,5 +1,5 @@
 -- Attempts of a call: each looks at the tree anew.
-use Rattle.std.specs.Prelude.{◌≡◌, ℕ, ◌+◌, ◌-◌, ◌<◌, ◌≤◌, min, Bool, true, false, List, [], None, Some, Result, Ok, Err}
+use Rattle.std.specs.Prelude.{◌≡◌, ℕ, ◌+◌, ◌-◌, ◌<◌, ◌≤◌, min, List, [], None, Some, Result, Ok, Err}
 use Rattle.ca_base.specs.declared.stop.Stop.{Stop}
 use Rattle.ca_base.specs.declared.stop.Stop.TheVariants as stop
 use Rattle.ca_replace.specs.declared.attempting.Halt.{Halt}

@@ -184,10 +184,7 @@ fn turns<A: Attempt>(
 fn has_next<T>(tried: &Result<T, Halt>) -> bool
     ensures { IsTrue result ↔ HasNext tried.now }
 {
-    matches!(
-        tried,
-        Err(Halt::Split | Halt::Stopped(Stop::Lost(_)))
-    )
+    matches!(tried, Err(Halt::Split | Halt::Stopped(Stop::Lost(_))))
 }
 
 // One attempt of a call, while the pass is pinned.

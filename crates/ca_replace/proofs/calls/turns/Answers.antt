@@ -1,9 +1,7 @@
-use Rattle.std.proofs.Common.{◌≡◌, ◌<◌, inl, inr, refl, ap, ◌∙◌, subst, ⊎_elim, arith}
-use Rattle.ca_replace.specs.Attempting.{total}
+use Rattle.std.proofs.Common.{inl, inr, refl, ◌∙◌, arith}
 use Rattle.ca_base.proofs.Counts.{met_both}
 use Rattle.ca_replace.proofs.Counted.{met_turn, met_then, none_met, none_paid, one_turn_less, paid_both}
 use Rattle.ca_replace.proofs.GoingOn.{gone_on, idle_waits, turn_waits, waits_on}
-use Rattle.ca_replace.specs.Causes.{HasPinned}
 use Rattle.ca_replace.proofs.Meeting.{further_on}
 use Rattle.ca_replace.proofs.Pinning.{pinned_behind}
 use Rattle.ca_replace.proofs.Showing.{tried_on}

@@ -1,17 +1,9 @@
 use Rattle.std.specs.Prelude.{slice_range}
 use Rattle.ca_model.specs.Event.{Event, Write}
-use Rattle.std.proofs.Common.{◌≡◌, true, ap, ◌∙◌, sym, subst, ◌<◌, []}
-use Rattle.ca_replace.proofs.GoingOn.{gone_after, paid_behind}
+use Rattle.std.proofs.Common.{◌≡◌, true}
 use Rattle.ca_replace.proofs.Showing.{tried_on}
 use Rattle.ca_replace.proofs.States.{none_since}
-use Rattle.ca_replace.proofs.Growing.{alone_on, looked_grown}
 use Rattle.std.proofs.Common.{Some}
-use Rattle.ca_replace.proofs.Cutting.{looked_cut}
-use Rattle.ca_replace.proofs.Winning.{won_behind}
-use Rattle.ca_rows.specs.declared.view.Pin.{Pin}
-use Rattle.ca_replace.proofs.Counted.{stopped_behind}
-use Rattle.ca_replace.proofs.Entries.{held_looked}
-use Rattle.ca_replace.proofs.Numbering.{numbered_as}
 use Rattle.ca_replace.proofs.Behind.{frame_behind, ready_behind, turn_tried}
 use Rattle.ca_replace.proofs.puts.PutCallAttempt.attempt.Goals as goal
 

@@ -1,23 +1,12 @@
-use Rattle.std.proofs.Common.{◌≡◌, ◌∙◌, Bool, true, false, refl, sym, ap, subst, ◌<◌, []}
+use Rattle.std.proofs.Common.{◌≡◌, ◌∙◌, Bool, true, false, refl, sym, ap}
 use Rattle.std.specs.Prelude.{slice_range, Result}
 use Rattle.ca_replace.specs.declared.attempting.Halt.{Halt}
 use Rattle.ca_replace.specs.declared.attempting.Halt.TheVariants as halt
 use Rattle.ca_model.specs.Event.{Event, WriteNew}
-use Rattle.ca_node.specs.Told.{MyTree}
-use Rattle.ca_replace.proofs.GoingOn.{adapts_after, entered_waits, idle_waits, paid_behind, waits_on}
 use Rattle.ca_replace.proofs.Showing.{did, not_new, read_done}
 use Rattle.ca_replace.proofs.States.{none_since, seen_before}
-use Rattle.ca_replace.proofs.Tallies.{tallied_read}
 use Rattle.ca_replace.proofs.Meeting.{further_on}
-use Rattle.ca_replace.proofs.Growing.{alone_on, entered_grown, looked_grown, stop_grown}
 use Rattle.std.proofs.Common.{Ok, Err, Some}
-use Rattle.ca_replace.proofs.Cutting.{entered_cut, looked_cut, stop_cut}
-use Rattle.ca_replace.proofs.Winning.{won_on}
-use Rattle.ca_base.specs.Counting.{losses}
-use Rattle.ca_rows.specs.declared.view.Pin.{Pin}
-use Rattle.ca_replace.proofs.Counted.{none_paid, stop_stopped}
-use Rattle.ca_replace.proofs.Entries.{held_upper, held_looked}
-use Rattle.ca_replace.proofs.Numbering.{numbered_as}
 use Rattle.ca_replace.proofs.Behind.{frame_behind, frame_entered, ready_behind, turn_edited, turn_entered, turn_halted}
 use Rattle.ca_replace.proofs.puts.PutNewCallAttempt.attempt.Goals as goal
 

@@ -1,4 +1,4 @@
-use Rattle.std.proofs.Common.{ℕ, List, map, Ok, Some, None, true, refl, ap, ◌∙◌, subst, sym, ◌<◌, [], false}
+use Rattle.std.proofs.Common.{ℕ, List, map, Ok, Some, None, true, refl, subst, sym, false}
 use Rattle.std.specs.Prelude.{Result}
 use Rattle.ca_model.specs.declared.outcome.Changed.{Changed}
 use Rattle.ca_model.specs.declared.outcome.Changed.TheVariants as changed
@@ -6,24 +6,15 @@ use Rattle.ca_model.specs.Event.{Event, Get, Remove}
 use Rattle.ca_model.specs.Places.{IsPlace}
 use Rattle.ca_node.specs.Row.{pair}
 use Rattle.ca_node.specs.States.{IsReadSince}
-use Rattle.ca_node.specs.Told.{MyTree, IsEntered}
+use Rattle.ca_node.specs.Told.{IsEntered}
 use Rattle.ca_base.specs.Putting.{first_note, object_at}
 use Rattle.ca_replace.specs.Attempting.{HasFetched}
 use Rattle.ca_replace.specs.Tells.{RemovesIf}
-use Rattle.ca_replace.proofs.GoingOn.{adapts_after, entered_waits, idle_waits, paid_behind, waits_on}
 use Rattle.ca_replace.proofs.Showing.{did, read_done}
 use Rattle.ca_replace.proofs.States.{none_since, seen_before}
-use Rattle.ca_replace.proofs.Tallies.{tallied_read}
 use Rattle.ca_replace.proofs.Meeting.{further_on}
 use Rattle.ca_replace.specs.Adapting.{is_put}
-use Rattle.ca_replace.proofs.Cutting.{entered_cut, looked_cut, stop_cut}
-use Rattle.ca_base.specs.Counting.{losses}
-use Rattle.ca_rows.specs.declared.view.Pin.{Pin}
-use Rattle.ca_replace.proofs.Counted.{none_paid, stop_stopped}
-use Rattle.ca_replace.proofs.Entries.{held_upper, held_looked, read_by}
-use Rattle.ca_replace.proofs.Growing.{alone_on, entered_grown, looked_grown, stop_grown}
-use Rattle.ca_replace.proofs.Winning.{won_on}
-use Rattle.ca_replace.proofs.Numbering.{numbered_as}
+use Rattle.ca_replace.proofs.Entries.{read_by}
 use Rattle.ca_replace.proofs.Behind.{frame_behind, frame_entered, ready_behind, turn_edited, turn_entered, turn_halted}
 use Rattle.ca_replace.proofs.removing.RemoveIfCallAttempt.attempt.Goals as goal
 
