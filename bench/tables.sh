@@ -12,7 +12,7 @@ csv=${1:-$folder/tree.csv} rows=${2:-$folder/rows.csv}
 cells='function row(line, cell, count, i) {
     count = split(line, cell, "|")
     if (markdown) { gsub(/[|]/, " | ", line); print "| " line " |"; return }
-    printf "%-15s", cell[1]
+    printf "%-16s", cell[1]
     for (i = 2; i <= count; i++) printf " %11s", cell[i]
     print ""
   }
@@ -24,11 +24,12 @@ cells='function row(line, cell, count, i) {
 
 awk -F, -v markdown="$markdown" "$cells"'
   function rate(who, at) { return (who, at) in of ? of[who, at] : "-" }
-  function ratio(at, who) { return of[who, at] > 0 ? sprintf("%.2f", of["tree", at] / of[who, at]) : "-" }
+  function times(tree, at, who) { return (tree, at) in of && of[who, at] > 0 ? sprintf("%.2f", of[tree, at] / of[who, at]) : "-" }
+  function ratio(at, who) { return times("tree", at, who) }
   function nanos(who, at) { return of[who, at] > 0 ? sprintf("%.0f", 1000000 / of[who, at]) : "-" }
   function rates(at) {
-    row(mix[at] "|" threads[at] "|" rate("tree", at) "|" rate("map", at) "|" rate("ets", at) "|" rate("ets-wc", at) "|" ratio(at, "map") "|" \
-      ratio(at, "ets") "|" ratio(at, "ets-wc") "|" full[at] "|" busy[at])
+    row(mix[at] "|" threads[at] "|" rate("tree", at) "|" rate("tree-32", at) "|" rate("map", at) "|" rate("ets", at) "|" rate("ets-wc", at) "|" \
+      ratio(at, "map") "|" ratio(at, "ets") "|" ratio(at, "ets-wc") "|" times("tree-32", at, "ets-wc") "|" full[at] "|" busy[at])
   }
   function costs(name, objects, at) {
     at = name SUBSEP objects SUBSEP 1
@@ -36,16 +37,20 @@ awk -F, -v markdown="$markdown" "$cells"'
   }
   NR == 1 { next }
   { at = $2 SUBSEP $3 SUBSEP $4; of[$1, at] = $5 }
-  $1 == "tree" { mix[at] = $2; threads[at] = $4; full[at] = $6; busy[at] = $7 }
+  $1 == "tree" { mix[at] = $2; objects[at] = $3; threads[at] = $4; full[at] = $6; busy[at] = $7 }
   $1 == "tree" && $3 == 10000 { lines[++count] = at }
+  $1 == "tree" && $3 > 40000 { large[++larges] = at }
   END {
-    head("10,000 objects, thousand calls a second", "mix|threads|tree|map|ets|ets-wc|tree/map|tree/ets|tree/ets-wc|full|busy")
+    head("10,000 objects, thousand calls a second", "mix|threads|tree|leaf 32|map|ets|ets-wc|tree/map|tree/ets|tree/ets-wc|32/ets-wc|full|busy")
     for (i = 1; i <= count; i++) rates(lines[i])
     print ""
     head("one client, nanoseconds of a call", "mix|objects|tree|map|ets|ets-wc")
     sizes = split("100 400 1000 4000 10000 40000", size, " ")
     for (i = 1; i <= sizes; i++) costs("lookups", size[i])
     for (i = 1; i <= sizes; i++) costs("mixed", size[i])
+    print ""
+    head("large tables, thousand calls a second", "mix, objects|threads|tree|leaf 32|map|ets|ets-wc|tree/map|tree/ets|tree/ets-wc|32/ets-wc|full|busy")
+    for (i = 1; i <= larges; i++) { mix[large[i]] = mix[large[i]] " " objects[large[i]]; rates(large[i]) }
     print ""
   }' "$csv"
 awk -F, -v markdown="$markdown" "$cells"'

@@ -13,10 +13,12 @@
 -define(BASE, 16777216).
 
 main([]) ->
-    Mixes = [{lookups, even}, {mixed, even}, {'skewed-lookups', skewed}, {'skewed-mixed', skewed}, {counter, 1}, {counters, 4}],
+    Mixes = [{lookups, even}, {mixed, even}, {'skewed-lookups', skewed}, {'skewed-mixed', skewed}, {counter, 1}, {counters, 4},
+             {'user-lookups', even}, {'user-mixed', even}],
     [begin
          [line(Who, Options, Mix, 10000, Threads) || Mix <- Mixes, Threads <- [1, 2, 4]],
-         [line(Who, Options, Mix, Objects, 1) || Mix <- lists:sublist(Mixes, 2), Objects <- [100, 400, 1000, 4000, 40000]]
+         [line(Who, Options, Mix, Objects, 1) || Mix <- lists:sublist(Mixes, 2), Objects <- [100, 400, 1000, 4000, 40000]],
+         [line(Who, Options, Mix, Objects, Threads) || Mix <- lists:sublist(Mixes, 2), Objects <- [100000, 1000000], Threads <- [1, 4]]
      end || {Who, Options} <- [{ets, []}, {'ets-wc', [{write_concurrency, true}]}]].
 
 line(Who, Options, {Mix, Key}, Objects, Threads) ->
@@ -26,6 +28,20 @@ line(Who, Options, {Mix, Key}, Objects, Threads) ->
     io:format("~s,~s,~b,~b,~b,0,0~n", [Who, Mix, Objects, Threads, Calls * Threads * ?RUNS * 1000000 div Nanos]).
 
 object(Key) -> {?BASE + Key, ?BASE + 1, ?BASE + 2, ?BASE + 3, ?BASE + 4, ?BASE + 5, ?BASE}.
+
+%% The keys and the objects of a mix by their numbers: made anew each time, but for those whose keys are texts.
+load(Mix, Count) when Mix =:= 'user-lookups'; Mix =:= 'user-mixed' ->
+    {list_to_tuple([user(N) || N <- lists:seq(0, Count - 1)]),
+     list_to_tuple([{user(N), 1700000000, [{ip, <<"10.0.0.7">>}]} || N <- lists:seq(0, Count - 1)])};
+load(_, _) -> numbers.
+
+user(N) -> iolist_to_binary(["user", integer_to_list(N)]).
+
+key(numbers, Number) -> ?BASE + Number;
+key({Keys, _}, Number) -> element(Number + 1, Keys).
+
+object(numbers, Number) -> object(Number);
+object({_, Objects}, Number) -> element(Number + 1, Objects).
 
 draw(Drawn) -> Drawn * 16807 rem 2147483647.
 
@@ -49,44 +65,46 @@ shuffled(Number, Count, Drawn, Numbers) ->
 %% One run: the nanoseconds from the first start to the last end.
 run(Options, Mix, Key, Numbers, Threads, Calls) ->
     Table = ets:new(table, [ordered_set, public | Options]),
-    [true = ets:insert(Table, object(2 * Number)) || Number <- Numbers],
-    Self = self(),
     Keys = 2 * length(Numbers),
-    Clients = [spawn_opt(fun() -> client(Self, Mix, Key, Table, Keys, Number, Calls) end, [link, {min_heap_size, 10000}])
+    Load = load(Mix, Keys),
+    [true = ets:insert(Table, object(Load, 2 * Number)) || Number <- Numbers],
+    Self = self(),
+    Clients = [spawn_opt(fun() -> client(Self, Mix, Key, Table, {Keys, Load}, Number, Calls) end, [link, {min_heap_size, 10000}])
                || Number <- lists:seq(1, Threads)],
     [receive {ready, Client} -> ok end || Client <- Clients],
     [Client ! go || Client <- Clients],
     Times = [receive {done, Client, Start, End} -> {Start, End} end || Client <- Clients],
-    Total = lists:sum([element(7, Object) - ?BASE || Object <- ets:tab2list(Table)]),
-    Total = case Key of even -> 0; skewed -> 0; _ -> Calls * Threads end,
+    true = is_atom(Key) orelse lists:sum([element(7, Object) - ?BASE || Object <- ets:tab2list(Table)]) =:= Calls * Threads,
     true = ets:delete(Table),
     erlang:convert_time_unit(lists:max([End || {_, End} <- Times]) - lists:min([Start || {Start, _} <- Times]), native, nanosecond).
 
-client(Parent, Mix, Key, Table, Keys, Number, Calls) ->
+client(Parent, Mix, Key, Table, Load, Number, Calls) ->
     Parent ! {ready, self()},
     receive go -> ok end,
     Start = erlang:monotonic_time(),
-    play(kind(Mix), Key, Table, Keys, Number, Calls),
+    play(kind(Mix), Key, Table, Load, Number, Calls),
     Parent ! {done, self(), Start, erlang:monotonic_time()}.
 
 kind('skewed-lookups') -> lookups;
 kind('skewed-mixed') -> mixed;
+kind('user-lookups') -> lookups;
+kind('user-mixed') -> mixed;
 kind(counter) -> counters;
 kind(Mix) -> Mix.
 
 play(_, _, _, _, _, 0) -> ok;
-play(counters, Count, Table, Keys, Drawn, Left) ->
+play(counters, Count, Table, {Keys, _} = Load, Drawn, Left) ->
     Next = draw(Drawn),
     Apart = Keys div Count,
     _ = ets:update_counter(Table, ?BASE + number(even, Next, Count) * Apart + Apart div 2, {7, 1}),
-    play(counters, Count, Table, Keys, Next, Left - 1);
-play(Mix, How, Table, Keys, Drawn, Left) ->
+    play(counters, Count, Table, Load, Next, Left - 1);
+play(Mix, How, Table, {Keys, Pairs} = Load, Drawn, Left) ->
     Next = draw(Drawn),
     Key = number(How, Next, Keys),
     case Mix of
-        lookups -> 1 - Key band 1 =:= length(ets:lookup(Table, ?BASE + Key)) orelse exit(wrong);
-        mixed when Next band 3 < 2 -> ets:lookup(Table, ?BASE + Key);
-        mixed when Next band 3 =:= 2 -> true = ets:insert(Table, object(Key));
-        mixed -> ets:take(Table, ?BASE + Key)
+        lookups -> 1 - Key band 1 =:= length(ets:lookup(Table, key(Pairs, Key))) orelse exit(wrong);
+        mixed when Next band 3 < 2 -> ets:lookup(Table, key(Pairs, Key));
+        mixed when Next band 3 =:= 2 -> true = ets:insert(Table, object(Pairs, Key));
+        mixed -> ets:take(Table, key(Pairs, Key))
     end,
-    play(Mix, How, Table, Keys, Next, Left - 1).
+    play(Mix, How, Table, Load, Next, Left - 1).

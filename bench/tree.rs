@@ -13,6 +13,8 @@ const CALLS: u32 = 400_000;
 // How many objects there are where the number of threads grows, and where one client alone plays.
 const OBJECTS: u32 = 10_000;
 const SIZES: [u32; 5] = [100, 400, 1_000, 4_000, 40_000];
+// How many there are in large maps.
+const LARGE: [u32; 2] = [100_000, 1_000_000];
 const BYTE: u32 = 256;
 
 type Map = RwLock<BTreeMap<Vec<u8>, Vec<u8>>>;
@@ -51,6 +53,14 @@ fn object(key: u32, counter: u32) -> [u8; 40] {
     code
 }
 
+// The codes of <<"userN">> and of {<<"userN">>,1700000000,[{ip,<<"10.0.0.7">>}]}.
+fn user(number: u32) -> (Vec<u8>, Vec<u8>) {
+    let key = [b"\x80user".as_slice(), number.to_string().as_bytes(), b"\0\0"].concat();
+    let rest = b"\x24\x65\x53\xf1\0\x70\x40\0\0\0\x02\x30ip\0\0\x8010.0.0.7\0\0\x60".as_slice();
+    let object = [b"\x40\0\0\0\x03".as_slice(), &key, rest].concat();
+    (key, object)
+}
+
 fn counter_of(object: &[u8]) -> u32 {
     object[37..].iter().fold(0, |number, byte| number * BYTE + u32::from(*byte))
 }
@@ -85,10 +95,33 @@ fn shuffled(count: u32) -> Vec<u32> {
     numbers
 }
 
+// How many keys there are, half of which are there at the start, and the codes by their numbers; where there are none, a key has an object of numbers.
+struct Load {
+    keys: u32,
+    users: Vec<(Vec<u8>, Vec<u8>)>,
+}
+
+impl Load {
+    fn pair(&self, key: u32) -> (Vec<u8>, Vec<u8>) {
+        match self.users.get(key as usize) {
+            Some(pair) => pair.clone(),
+            None => (number_code(key).to_vec(), object(key, 0).to_vec()),
+        }
+    }
+
+    // What becomes of the code of a key.
+    fn by_key<T>(&self, key: u32, then: impl FnOnce(&[u8]) -> T) -> T {
+        match self.users.get(key as usize) {
+            Some((code, _)) => then(code),
+            None => then(&number_code(key)),
+        }
+    }
+}
+
 // A client, which draws keys and calls in the same order as its namesake in ca_bench.
 struct Client<'m> {
     map: &'m Map,
-    keys: u32,
+    load: &'m Load,
     drawn: u32,
     into: Vec<u8>,
     good: u32,
@@ -107,12 +140,12 @@ impl Client<'_> {
         let drawn = draw(&mut self.drawn);
         match mix {
             Mix::Lookups(key) => {
-                let key = key(drawn, self.keys);
+                let key = key(drawn, self.load.keys);
                 self.get(key) == (key % 2 == 0)
             }
-            Mix::Mixed(key) => self.come_or_go(drawn, key(drawn, self.keys)),
+            Mix::Mixed(key) => self.come_or_go(drawn, key(drawn, self.load.keys)),
             Mix::Counters(count) => {
-                let apart = self.keys / count;
+                let apart = self.load.keys / count;
                 self.raise(even(drawn, count) * apart + apart / 2)
             }
         }
@@ -124,10 +157,12 @@ impl Client<'_> {
                 self.get(key);
             }
             2 => {
-                self.map.write().unwrap().insert(number_code(key).to_vec(), object(key, 0).to_vec());
+                let (code, object) = self.load.pair(key);
+                self.map.write().unwrap().insert(code, object);
             }
             _ => {
-                if let Some(object) = self.map.write().unwrap().remove(number_code(key).as_slice()) {
+                let removed = self.load.by_key(key, |code| self.map.write().unwrap().remove(code));
+                if let Some(object) = removed {
                     self.into = object;
                 }
             }
@@ -137,14 +172,15 @@ impl Client<'_> {
 
     // Copies the key's object into a buffer.
     fn get(&mut self, key: u32) -> bool {
-        self.into.clear();
-        match self.map.read().unwrap().get(number_code(key).as_slice()) {
+        let (map, into) = (self.map, &mut self.into);
+        into.clear();
+        self.load.by_key(key, |code| match map.read().unwrap().get(code) {
             Some(object) => {
-                self.into.extend_from_slice(object);
+                into.extend_from_slice(object);
                 true
             }
             None => false,
-        }
+        })
     }
 
     // Adds one to the counter of the key's object, where it stands.
@@ -161,8 +197,8 @@ impl Client<'_> {
 }
 
 // Plays on a thread of its own. It answers when it began and ended.
-fn time_client(map: &Map, ready: &Barrier, keys: u32, number: u32, mix: Mix, calls: u32) -> (Instant, Instant) {
-    let mut client = Client { map, keys, drawn: number, into: Vec::with_capacity(1_000), good: 0 };
+fn time_client(map: &Map, ready: &Barrier, load: &Load, number: u32, mix: Mix, calls: u32) -> (Instant, Instant) {
+    let mut client = Client { map, load, drawn: number, into: Vec::with_capacity(1_000), good: 0 };
     ready.wait();
     let start = Instant::now();
     client.play(mix, calls);
@@ -171,43 +207,62 @@ fn time_client(map: &Map, ready: &Barrier, keys: u32, number: u32, mix: Mix, cal
 }
 
 // One run: the nanoseconds from the first start to the last end.
-fn run(mix: Mix, numbers: &[u32], threads: u32, calls: u32) -> u128 {
+fn run(mix: Mix, load: &Load, numbers: &[u32], threads: u32, calls: u32) -> u128 {
     let map = Map::default();
     for number in numbers {
-        map.write().unwrap().insert(number_code(2 * number).to_vec(), object(2 * number, 0).to_vec());
+        let (code, object) = load.pair(2 * number);
+        map.write().unwrap().insert(code, object);
     }
-    let (ready, keys) = (Barrier::new(threads as usize), 2 * numbers.len() as u32);
+    let ready = Barrier::new(threads as usize);
     let times: Vec<(Instant, Instant)> = thread::scope(|scope| {
         let clients: Vec<_> = (1..=threads)
             .map(|number| {
                 let (map, ready) = (&map, &ready);
-                scope.spawn(move || time_client(map, ready, keys, number, mix, calls))
+                scope.spawn(move || time_client(map, ready, load, number, mix, calls))
             })
             .collect();
         clients.into_iter().map(|client| client.join().unwrap()).collect()
     });
-    let total: u32 = map.read().unwrap().values().map(|object| counter_of(object)).sum();
-    assert_eq!(total, if matches!(mix, Mix::Counters(_)) { calls * threads } else { 0 });
+    if load.users.is_empty() {
+        let total: u32 = map.read().unwrap().values().map(|object| counter_of(object)).sum();
+        assert_eq!(total, if matches!(mix, Mix::Counters(_)) { calls * threads } else { 0 });
+    }
     let start = times.iter().map(|time| time.0).min().unwrap();
     let end = times.iter().map(|time| time.1).max().unwrap();
     end.duration_since(start).as_nanos()
 }
 
-fn line((name, mix): (&str, Mix), objects: u32, threads: u32) {
+fn line((name, mix): (&str, Mix), load: &Load, threads: u32) {
+    let objects = load.keys / 2;
     let (numbers, calls) = (shuffled(objects), CALLS / threads);
-    let nanos: u128 = (0..RUNS).map(|_| run(mix, &numbers, threads, calls)).sum();
+    let nanos: u128 = (0..RUNS).map(|_| run(mix, load, &numbers, threads, calls)).sum();
     println!("map,{name},{objects},{threads},{},0,0", u128::from(calls * threads * RUNS) * 1_000_000 / nanos);
+}
+
+fn numbers_load(objects: u32) -> Load {
+    Load { keys: 2 * objects, users: Vec::new() }
 }
 
 fn main() {
     for mix in MIXES {
         for threads in [1, 2, 4] {
-            line(mix, OBJECTS, threads);
+            line(mix, &numbers_load(OBJECTS), threads);
+        }
+    }
+    let users = Load { keys: 2 * OBJECTS, users: (0..2 * OBJECTS).map(user).collect() };
+    for mix in [("user-lookups", MIXES[0].1), ("user-mixed", MIXES[1].1)] {
+        for threads in [1, 2, 4] {
+            line(mix, &users, threads);
         }
     }
     for mix in &MIXES[..2] {
         for objects in SIZES {
-            line(*mix, objects, 1);
+            line(*mix, &numbers_load(objects), 1);
+        }
+        for objects in LARGE {
+            for threads in [1, 4] {
+                line(*mix, &numbers_load(objects), threads);
+            }
         }
     }
 }

@@ -187,12 +187,3 @@ between (suc n) (x ∷ a) (y ∷ b) (z ∷ c) long low high alike =
 
     same_number : (v : ℕ) → nat_cmp v v ≡ Equal
     same_number v = same v
-
--- The rest of a key behind so many bytes, or behind its end.
-pub clipped_rest : (key : List ℕ) (skip from : ℕ) → from ≡ min skip (length key)
-    → take (length key - from) (drop from key) ≡ drop skip key
-clipped_rest key skip from e = take_rest key from ∙ ⊎_elim
-    (λ (l : length key < skip). drop_of_length-le key (omega arith)
-    ∙ sym (drop_of_length-le key (omega arith)))
-    (λ (l : skip ≤ length key). ap (λ (n : ℕ). drop n key) (omega arith))
-    (cases_lt (length key) skip)

@@ -1,5 +1,5 @@
 -- Halves of a base: the words of their items, and the prefix with which their keys begin.
-use Rattle.std.proofs.Common.{◌≡◌, ℕ, zero, suc, ◌+◌, ◌-◌, ◌*◌, ◌<◌, ◌≤◌, min, List, [], ◌∷◌, length, map, take, drop, get_or, sym, refl, ap, ◌∙◌, subst, ⊎_elim, arith}
+use Rattle.std.proofs.Common.{◌≡◌, ℕ, zero, suc, ◌+◌, ◌-◌, ◌*◌, ◌<◌, ◌≤◌, min, List, [], ◌∷◌, length, map, take, drop, get_or, sym, refl, ap, ◌∙◌, subst, ⊎_elim, arith, length-take}
 use Rattle.std.proofs.Math.Nat.{eq-or-lt_of_le}
 use Rattle.std.proofs.lemmas.List.{length-take-le, take-take}
 use Rattle.std.specs.declared.cmp.Ordering.TheVariants.{Less}
@@ -97,32 +97,33 @@ all_begin keypos objects s i j n m long alike k low high = ⊎_elim
     (eq-or-lt_of_le high))
     (eq-or-lt_of_le low)
 
--- Where the first key and the last one share so many bytes, and these are written as the prefix, the
--- words spell a half.
-pub half_spells : (keypos : ℕ) (note : Note) (from count at_level s n : ℕ) (low high front its : List ℕ)
+-- Where the first 32 bytes of the first key and of the last one share so many bytes, and these are
+-- written as the prefix, the words spell a half.
+pub half_spells : (keypos : ℕ) (note : Note) (from count at_level n : ℕ) (low high front its : List ℕ)
     → IsStoreMap keypos (map pair note.objects) → 0 < count → from + count ≤ length note.objects
-    → low ≡ key (get_or note.objects from [])
-    → high ≡ key (get_or note.objects (from + count - 1) []) → AreShared low high s
-    → n ≡ min s 32 → front ≡ take n low
+    → low ≡ take 32 (key (get_or note.objects from []))
+    → high ≡ take 32 (key (get_or note.objects (from + count - 1) [])) → AreShared low high n
+    → front ≡ take n low
     → SpellsBase front (take count (drop from (worded n (items note.its) note.objects))) at_level
     4294967296 its
     → SpellsHalf note from count at_level its
-half_spells keypos note from count at_level s n low high front its ordered any inside low_is high_is
-    shared n_is front_is spells = let within = shared.within in
+half_spells keypos note from count at_level n low high front its ordered any inside low_is high_is
+    shared front_is spells = let within = shared.within in
+    let first : List ℕ = key (get_or note.objects from []) in
+    let last : List ℕ = key (get_or note.objects (from + count - 1) []) in
+    let low_long : length low ≡ min 32 (length first) = ap (λ (xs : List ℕ). length xs) low_is ∙ length-take 32 first in
     let long : length front ≡ n = ap (λ (xs : List ℕ). length xs) front_is
-    ∙ length-take-le n low (omega arith) in
-    let alike : take n low ≡ take n high = sym (take-take n s low (omega arith))
-    ∙ (ap (take n) shared.alike ∙ take-take n s high (omega arith)) in
-    let wide : n ≤ length (key (get_or note.objects from [])) =
-    subst (λ (k : List ℕ). n ≤ length k) low_is (omega arith) in
-    let both : take n (key (get_or note.objects from []))
-    ≡ take n (key (get_or note.objects (from + count - 1) [])) =
-    ap (take n) (sym low_is) ∙ (alike ∙ ap (take n) high_is) in record {
+    ∙ length-take-le n low within in
+    let low_begins : take n low ≡ take n first = ap (take n) low_is ∙ take-take n 32 first (omega (arith, low_long)) in
+    let high_begins : take n high ≡ take n last = ap (take n) high_is ∙ take-take n 32 last (omega (arith, low_long)) in
+    let both : take n first ≡ take n last = sym low_begins ∙ (shared.alike ∙ high_begins) in record {
       prefix = front;
-      short = omega arith;
+      short = omega (arith, low_long);
+      longest = subst (λ (x : List ℕ × (List ℕ × ℕ)). AreShared x.0 x.1.0 x.1.1)
+          (λ i. (low_is i, (high_is i, sym long i))) shared;
       begin = λ k l h. ap (λ (m : ℕ). take m (key (get_or note.objects k []))) long
-          ∙ (all_begin keypos note.objects ordered from (from + count - 1) n (omega arith) wide both k l
-          (omega arith) ∙ (ap (take n) (sym low_is) ∙ sym front_is));
+          ∙ (all_begin keypos note.objects ordered from (from + count - 1) n (omega arith)
+          (omega (arith, low_long)) both k l (omega arith) ∙ (sym low_begins ∙ sym front_is));
       spells = subst (λ (m : ℕ). SpellsBase front
           (take count (drop from (worded m (items note.its) note.objects))) at_level 4294967296 its)
           (sym long) spells;

@@ -1,9 +1,11 @@
 -- A key that is copied, a word at a time.
-use Rattle.std.proofs.Common.{◌≡◌, ℕ, ◌+◌, ◌-◌, ◌*◌, ◌/◌, ◌%◌, ◌<◌, ◌≤◌, List, ◌++◌, length, take, drop, get_or, sym, ap, ◌∙◌, arith, length-take, length-drop}
-use Rattle.std.proofs.lemmas.List.{drop-drop}
+use Rattle.std.proofs.Common.{◌≡◌, ℕ, zero, suc, ◌+◌, ◌-◌, ◌*◌, ◌/◌, ◌%◌, ◌^◌, ◌<◌, ◌≤◌, min, List, [], ◌∷◌, ◌++◌, length, take, drop, get_or, sym, refl, ap, ◌∙◌, arith, length-take, length-drop}
+use Rattle.std.proofs.lemmas.List.{drop-drop, length-take-le, take-take, take_min}
+use Rattle.std.proofs.BufReadLemmas.{drop-take_min}
+use Rattle.std.specs.Prelude.{slice_range}
 use Rattle.std.proofs.Math.Seq.{take-add}
 use Rattle.std.specs.Int.{to_be_bytes, w64}
-use Rattle.ca_node.specs.Row.{bytes_in, count, object, key, key_place, key_length, code_words}
+use Rattle.ca_node.specs.Row.{bytes_in, count, front_of, object, key, key_place, key_length, code_words}
 use Rattle.ca_node.proofs.WordOrder.{bytes_long}
 use Rattle.ca_base.proofs.ObjectBytes.{part_is, code_long}
 use Rattle.ca_rows.specs.Layout.{row_words}
@@ -39,3 +41,25 @@ short_key its long = omega (
   bytes_long (code_words its),
   code_long its long,
 )
+
+-- What is copied of a key, from behind so many bytes on, as far as there is room.
+pub part_behind : (bytes : List ℕ) (first last skip room n m : ℕ) → first ≤ last → last ≤ length bytes
+    → n ≡ min skip (last - first) → m ≡ min room (last - (first + n))
+    → take m (drop (first + n) bytes) ≡ take room (drop skip (slice_range bytes first last))
+part_behind bytes first last skip room n m low inside n_is m_is =
+    let wide : ℕ = last - first in let zs : List ℕ = drop n (drop first bytes) in
+    let long : length zs ≡ length bytes - first - n = length-drop n (drop first bytes)
+    ∙ ap (λ (k : ℕ). k - n) (length-drop first bytes) in
+    let xs : List ℕ = take (wide - n) zs in
+    let xs_long : length xs ≡ wide - n = length-take-le (wide - n) zs (omega (arith, long)) in
+    let same : m ≡ min room (length xs) = omega (arith, xs_long) in
+    ap (λ (ys : List ℕ). take m ys) (ap (λ (k : ℕ). drop k bytes) (omega arith) ∙ sym (drop-drop n first bytes))
+    ∙ (sym (take-take m (wide - n) zs (omega arith))
+    ∙ (ap (λ (k : ℕ). take k xs) same ∙ (take_min room xs
+    ∙ ap (take room) (sym (drop-take_min (drop first bytes) wide skip n n_is)))))
+
+-- The head of bytes is that of the first of them.
+pub front_taken : (n : ℕ) (bytes : List ℕ) → front_of n (take n bytes) ≡ front_of n bytes
+front_taken zero bytes = refl
+front_taken (suc n) [] = refl
+front_taken (suc n) (byte ∷ bytes) = ap (λ (v : ℕ). byte * 256 ^ n + v) (front_taken n bytes)

@@ -37,10 +37,13 @@ worded skip [] objects = []
 worded skip (row ∷ rows) [] = []
 worded skip (row ∷ rows) (object ∷ objects) = (head_of skip object * row_limit + row) ∷ worded skip rows objects
 
--- The words are those of a half of a base: so many of its items, from a place on. Their keys begin with the half's prefix.
+-- The words are those of a half of a base: so many of its items, from a place on. Their keys begin with the half's prefix, the longest one that the
+-- first 32 bytes of the first key and of the last one share.
 pub record SpellsHalf (note : Note) (from count at_level : ℕ) (its : List ℕ) : Type 0 where
   pub prefix : List ℕ
   pub short : length prefix ≤ 32
+  pub longest : AreShared (take 32 (key (slice_index_or note.objects from []))) (take 32 (key (slice_index_or note.objects (from + count - 1) [])))
+      (length prefix)
   pub begin : (k : ℕ) → from ≤ k → k < from + count → take (length prefix) (key (slice_index_or note.objects k [])) ≡ prefix
   pub spells : SpellsBase prefix (take count (drop from (worded (length prefix) (items note.its) note.objects))) at_level 4294967296 its
 

@@ -14,10 +14,9 @@ ghost use Rattle.ca_base.specs.Holding.{ReadsAndHolds};
 ghost use Rattle.ca_rows.specs.Passes.{OnlyReads, IsReading, StillKeepsList, sizes, known};
 ghost use Rattle.ca_node.specs.TreePasses.{tree_of};
 
-use crate::prefixes::{Shift, Trimmed, copy_prefix, shifted, trim};
+use crate::prefixes::{Prefix, Shift, Trimmed, copy_prefix, shifted, trim};
 use crate::target::Target;
 use crate::writing::{Front, set_word, word_of_item, write_head, write_items};
-use ca_model::Code;
 use ca_node::{ITEMS, TreePass, TreeSpace, load_word};
 use ca_rows::ROW_LIMIT;
 
@@ -73,7 +72,7 @@ pub(crate) fn write_base_with(
         target.now.statistic) (known pass.old) (known pass.new) }
     ensures gone { IsItemAt placing.now.place (last_items (tree_of pass.old)) result }
 {
-    let mut prefix = Code::new();
+    let mut prefix = Prefix::new();
     copy_prefix(space, pass, target.cursor.base, &mut prefix);
     let trimmed = trim(&prefix, placing.key);
     let placed = Placed {
@@ -144,13 +143,13 @@ pub(crate) fn write_base_without(
         (known pass.new) }
     ensures gone { result ≡ slice_index (last_items (tree_of pass.old)) at }
 {
-    let mut prefix = Code::new();
+    let mut prefix = Prefix::new();
     keep_prefix(space, pass, target, &mut prefix);
     write_left(space, pass, row, target, at, &prefix)
 }
 
 // The prefix of a base that lacks one of the target's objects: that of the target, or none where no object is left.
-fn keep_prefix(space: &TreeSpace, pass: &mut TreePass, target: &Target, into: &mut Code)
+fn keep_prefix(space: &TreeSpace, pass: &mut TreePass, target: &Target, into: &mut Prefix)
     requires reading { IsReading space.now pass.old }
     requires shown { (note : Note) × IsBaseShown (sizes space.now) (tree_of pass.old) target.now.cursor.base note }
     ensures frame { OnlyReads pass.old pass.new }

@@ -11,10 +11,13 @@ ghost use Rattle.ca_node.specs.TreePasses.{tree_of};
 use crate::comparing::{compare_tops, next_word};
 use crate::reading::append;
 use crate::writing::head_of;
-use ca_model::Code;
+use arrayvec::ArrayVec;
 use ca_node::{PREFIX, PREFIX_LENGTH, TreePass, TreeSpace, load_word};
 use ca_rows::ROW_LIMIT;
 use std::cmp::Ordering;
+
+/// Room for the prefix of a base. (A `Code` would do, but a kilobyte would be cleared for it at each edit.)
+pub(crate) type Prefix = ArrayVec<u8, 32>;
 
 /// What becomes of the heads of a base's items where its prefix gets shorter: each loses so many of its last bytes, and others come before it, of which
 /// `lead` is the head.
@@ -71,7 +74,7 @@ pub(crate) fn compare_prefix(
 }
 
 // Copies the prefix of a base that the pass was shown, a word at a time.
-pub(crate) fn copy_prefix(space: &TreeSpace, pass: &mut TreePass, base: u32, into: &mut Code)
+pub(crate) fn copy_prefix(space: &TreeSpace, pass: &mut TreePass, base: u32, into: &mut Prefix)
     requires reading { IsReading space.now pass.old }
     requires shown { (note : Note) × IsBaseShown (sizes space.now) (tree_of pass.old) base note }
     ensures frame { OnlyReads pass.old pass.new }

@@ -8,6 +8,7 @@ ghost use Rattle.ca_term.specs.declared.bounds.TheConstants.{MOST_CODE_BYTES};
 ghost use Rattle.ca_rows.specs.Passes.{OnlyReads, IsReading, sizes};
 ghost use Rattle.ca_node.specs.TreePasses.{tree_of};
 
+use arrayvec::ArrayVec;
 use ca_model::Code;
 use ca_node::{CODE, ITEMS, TreePass, TreeSpace, load_word};
 use ca_rows::ROW_LIMIT;
@@ -74,8 +75,8 @@ pub fn copy_object(space: &TreeSpace, pass: &mut TreePass, row: u32, into: &mut 
 }
 
 // Appends bytes, for which there is room.
-pub(crate) fn append(into: &mut Code, more: &[u8])
-    requires { array_vec_len into.old + length more.now ≤ MOST_CODE_BYTES }
+pub(crate) fn append<const N: usize>(into: &mut ArrayVec<u8, N>, more: &[u8])
+    requires { array_vec_len into.old + length more.now ≤ N }
     ensures { into.new.items ≡ into.old.items ++ more.now }
 {
     let Ok(()) = into.try_extend_from_slice(more) else {

@@ -1,5 +1,5 @@
 //! The rows of a split are written: a route, its key, and the halves of a base.
-ghost use Rattle.std.specs.Prelude.{◌≡◌, ℕ, ◌+◌, ◌*◌, ◌<◌, ◌≤◌, List, length, slice_index};
+ghost use Rattle.std.specs.Prelude.{◌≡◌, ℕ, ◌+◌, ◌*◌, ◌<◌, ◌≤◌, List, length, take, drop, slice_index};
 ghost use Rattle.ca_node.specs.Layout.{items_word};
 ghost use Rattle.ca_node.specs.Row.{head_of, pair};
 ghost use Rattle.ca_base.specs.Finding.{IsObjectShown, IsReadable};
@@ -15,10 +15,11 @@ ghost use Rattle.ca_node.specs.TreePasses.{tree_of};
 
 use crate::comparing::key_bytes;
 use crate::copying::Run;
-use crate::prefixes::shared;
+use crate::prefixes::{Prefix, shared};
 use crate::reading::{append, item};
 use crate::swapping::STATISTIC;
 use crate::writing::{Front, set_word, word_of_item, write_bytes, write_head, write_words};
+use arrayvec::ArrayVec;
 use ca_model::Code;
 use ca_node::{CODE, ITEMS, KEY, ROUTE, TreePass, TreeSpace, load_word};
 
@@ -62,12 +63,12 @@ pub(crate) fn write_half(space: &TreeSpace, pass: &mut TreePass, row: u32, level
     ensures written { HasWritten row (SpellsHalf (first_note (tree_of pass.old).notes) run.from run.count level) (known pass.old) (known pass.new) }
 {
     let first = item(space, pass, run.base, run.from);
-    let mut low = Code::new();
-    copy_key(space, pass, first, &mut low);
+    let mut low = Prefix::new();
+    copy_part(space, pass, first, 0, &mut low);
     let last = item(space, pass, run.base, run.from + run.count - 1);
-    let mut high = Code::new();
-    copy_key(space, pass, last, &mut high);
-    let skip = shared(&low, &high).min(32);
+    let mut high = Prefix::new();
+    copy_part(space, pass, last, 0, &mut high);
+    let skip = shared(&low, &high);
     let front = Front {
         level,
         statistic: STATISTIC,
@@ -99,25 +100,42 @@ fn word_behind(space: &TreeSpace, pass: &mut TreePass, row: u32, skip: usize) ->
     ensures frame { OnlyReads pass.old pass.new }
     ensures word { (its : List ℕ) → IsObjectShown (tree_of pass.old) row its → result ≡ head_of skip its * row_limit + row }
 {
-    let mut key = Code::new();
-    copy_key(space, pass, row, &mut key);
-    word_of_item(&key[skip.min(key.len())..], row)
+    let mut head = ArrayVec::<u8, 5>::new();
+    copy_part(space, pass, row, skip, &mut head);
+    word_of_item(&head, row)
 }
 
-/// Copies the key of an object that the pass was shown, a word at a time.
+/// Copies the key of an object that the pass was shown.
 pub(crate) fn copy_key(space: &TreeSpace, pass: &mut TreePass, row: u32, into: &mut Code)
     requires object { IsObjectRead space.now pass.old row }
     ensures frame { OnlyReads pass.old pass.new }
     ensures key { (its : List ℕ) → IsObjectShown (tree_of pass.old) row its → into.new.items ≡ (pair its).0 }
 {
-    let (start, end) = key_bytes(space, pass, row);
+    copy_part(space, pass, row, 0, into);
+}
+
+// Copies the bytes of such a key behind so many, a word at a time, as far as there is room.
+fn copy_part<const N: usize>(
+    space: &TreeSpace,
+    pass: &mut TreePass,
+    row: u32,
+    skip: usize,
+    into: &mut ArrayVec<u8, N>,
+)
+    requires object { IsObjectRead space.now pass.old row }
+    ensures frame { OnlyReads pass.old pass.new }
+    ensures part { (its : List ℕ) → IsObjectShown (tree_of pass.old) row its → into.new.items ≡ take N (drop skip (pair its).0) }
+{
+    let (first, last) = key_bytes(space, pass, row);
+    let start = first + skip.min(last - first);
+    let end = start + N.min(last - start);
     into.clear();
     let mut at = start;
     while at < end {
         let to = end.min(at / 8 * 8 + 8);
         let bytes = load_word(space, pass, row, (CODE as usize + at / 8) as u32).to_be_bytes();
-        let first = at % 8;
-        append(into, &bytes[first..first + (to - at)]);
+        let front = at % 8;
+        append(into, &bytes[front..front + (to - at)]);
         at = to;
     }
 }

@@ -1,19 +1,21 @@
 //! Calls of clients on threads, each with a pass of its own on one tree, which grows to many leaves.
 ghost use Rattle.std.specs.Prelude.{◌≡◌, IfOk};
 
+use crate::coded::coded_load;
 use crate::draws::shuffled;
+use crate::load::{USUAL, terms_of};
 use crate::player::{Load, Mix, Player, numbers_below};
 use ca_adapt::Tuning;
 use ca_replace::{Tree, TreeFault, TreeStore};
 use ca_rows::Starts;
-use std::alloc::Global;
+use std::alloc::{AllocError, Global};
 use std::io;
 use std::rt::Clock;
 use std::thread::{Threads, for_each_mut};
 use std::time::Instant;
 
-/// How many rows these trees have.
-pub const ROWS: u32 = 65_535;
+// How many rows these trees have, where that is enough.
+const ROWS: u32 = 65_535;
 
 // How often a measure is taken, each time on a new tree; the times are added.
 const RUNS: u32 = 3;
@@ -35,13 +37,24 @@ const MIXES: [(&str, Mix); 6] = [
     ("counters", Mix::Counters(4)),
 ];
 
+// The trees that all mixes are played on, and how many objects a leaf of each may have. The first one plays on other numbers of objects, too.
+const TREES: [(&str, u8); 2] = [("tree", 60), ("tree-32", 32)];
+
 // How many objects there are where one client alone plays, beside `OBJECTS`.
 const SIZES: [u32; 5] = [100, 400, 1_000, 4_000, 40_000];
 
 const SIZE_MIXES: [(&str, Mix); 2] = [("lookups", Mix::Lookups), ("mixed", Mix::Mixed)];
 
+// How many objects there are in large trees, and how many threads play on these.
+const LARGE: [u32; 2] = [100_000, 1_000_000];
+
+const LARGE_THREADS: [u32; 2] = [1, 4];
+
+// The mixes of objects whose keys begin alike.
+const USER_MIXES: [(&str, Mix); 2] = [("user-lookups", Mix::Lookups), ("user-mixed", Mix::Mixed)];
+
 const TUNING: Tuning = Tuning {
-    leaf: 60,
+    leaf: TREES[0].1,
     levels: 64,
     lost: 250,
     calm: -1,
@@ -71,6 +84,12 @@ pub fn tuning_of(leaf: u8, levels: u16) -> Tuning {
         levels,
         ..TUNING
     }
+}
+
+// How many rows a tree has that begins with so many objects.
+fn rows_for(objects: usize) -> u32 {
+    let objects = objects.min(10_000_000) as u32;
+    ROWS.max(objects + objects / 2)
 }
 
 // The clients play so many calls each, on a thread each. It answers the nanoseconds from the first start to the last end.
@@ -160,7 +179,7 @@ fn run<R: Clock + Threads + Sync + Alloc<A = Global>>(
     threads: usize,
 ) -> io::Result<Option<Taken>> {
     let alloc = rt.alloc();
-    let Ok(mut tree) = tree_of(alloc, ROWS, 4, tuning) else {
+    let Ok(mut tree) = tree_of(alloc, rows_for(first.len()), 4, tuning) else {
         return Ok(None);
     };
     let (Ok(a), Ok(b), Ok(c), Ok(d)) = (
@@ -211,47 +230,102 @@ pub fn rate_of<R: Clock + Threads + Sync + Alloc<A = Global>>(
     Ok(Some((all * 1_000_000 / taken.nanos.max(1), taken)))
 }
 
-// Prints a line for a mix of calls. The even keys are there at the start.
-fn time_mix<R: Clock + Print + Threads + Sync + Alloc<A = Global>>(
-    rt: &R,
-    objects: u32,
-    (name, mix): (&str, Mix),
-    threads: u32,
-) -> io::Result<()> {
-    let Ok(mut numbers) = shuffled(rt.alloc(), objects) else {
-        return println!(rt; "no memory");
-    };
+// Twice the numbers below the count, in an order without pattern.
+fn even_numbers(alloc: Global, count: u32) -> Result<Vec<u32>, AllocError> {
+    let mut numbers = shuffled(alloc, count)?;
     for number in numbers.as_mut_slice() {
         *number = number.wrapping_mul(2);
     }
-    let load = numbers_below(objects.wrapping_mul(2));
-    match rate_of(
-        rt,
-        TUNING,
-        (load, numbers.as_slice()),
-        (mix, CALLS),
-        threads,
-    )? {
+    Ok(numbers)
+}
+
+// Prints a line for a mix of calls on trees that are filled with objects of the first keys.
+fn time_line<R: Clock + Print + Threads + Sync + Alloc<A = Global>>(
+    rt: &R,
+    (who, leaf): (&str, u8),
+    (load, first): (Load<'_>, &[u32]),
+    (name, mix): (&str, Mix),
+    threads: u32,
+) -> io::Result<()> {
+    let objects = first.len();
+    let tuning = Tuning { leaf, ..TUNING };
+    match rate_of(rt, tuning, (load, first), (mix, CALLS), threads)? {
         Some((rate, Taken { full, busy, .. })) => {
-            println!(rt; "tree,{name},{objects},{threads},{rate},{full},{busy}")
+            println!(rt; "{who},{name},{objects},{threads},{rate},{full},{busy}")
         }
-        None => println!(rt; "tree,{name},{objects},{threads},failed,,"),
+        None => println!(rt; "{who},{name},{objects},{threads},failed,,"),
     }
 }
 
-/// Prints a line of comma-separated values for each mix of calls, number of objects and number of threads: who, the mix, how many objects there are at
-/// the start, how many threads, how many thousand calls a second they carry out together, and how often a call was refused for want of rows, and how
-/// often for another reason.
-pub fn time_trees<R: Clock + Print + Threads + Sync + Alloc<A = Global>>(rt: &R) -> io::Result<()> {
-    for mix in MIXES {
-        for threads in THREADS {
-            time_mix(rt, OBJECTS, mix, threads)?;
-        }
-    }
-    for mix in SIZE_MIXES {
-        for objects in SIZES {
-            time_mix(rt, objects, mix, 1)?;
+// Prints a line for a mix of calls on objects of numbers. The even keys are there at the start.
+fn time_mix<R: Clock + Print + Threads + Sync + Alloc<A = Global>>(
+    rt: &R,
+    tree: (&str, u8),
+    objects: u32,
+    mix: (&str, Mix),
+    threads: u32,
+) -> io::Result<()> {
+    let Ok(numbers) = even_numbers(rt.alloc(), objects) else {
+        return println!(rt; "no memory");
+    };
+    let load = numbers_below(objects.wrapping_mul(2));
+    time_line(rt, tree, (load, numbers.as_slice()), mix, threads)
+}
+
+// Prints the lines of objects of the usual kind, whose keys are `<<"userN">>`. Those with even numbers are there at the start.
+fn time_users<R: Clock + Print + Threads + Sync + Alloc<A = Global>>(rt: &R) -> io::Result<()> {
+    let alloc = rt.alloc();
+    let keys = 2 * OBJECTS;
+    let Some(objects) = terms_of(alloc, USUAL, keys) else {
+        return println!(rt; "no memory");
+    };
+    let (Ok(coded), Ok(numbers)) = (
+        coded_load(alloc, objects.as_slice()),
+        even_numbers(alloc, OBJECTS),
+    ) else {
+        return println!(rt; "no memory");
+    };
+    let load = Load {
+        keys,
+        present: 0,
+        coded: coded.as_slice(),
+    };
+    for tree in TREES {
+        for mix in USER_MIXES {
+            for threads in THREADS {
+                time_line(rt, tree, (load, numbers.as_slice()), mix, threads)?;
+            }
         }
     }
     Ok(())
+}
+
+// Prints the lines of other numbers of objects than the usual one.
+fn time_sizes<R: Clock + Print + Threads + Sync + Alloc<A = Global>>(rt: &R) -> io::Result<()> {
+    for mix in SIZE_MIXES {
+        for objects in SIZES {
+            time_mix(rt, TREES[0], objects, mix, 1)?;
+        }
+        for objects in LARGE {
+            for threads in LARGE_THREADS {
+                time_mix(rt, TREES[0], objects, mix, threads)?;
+            }
+        }
+    }
+    Ok(())
+}
+
+/// Prints a line of comma-separated values for each tree, mix of calls, number of objects and number of threads: which tree, the mix, how many objects
+/// there are at the start, how many threads, how many thousand calls a second they carry out together, and how often a call was refused for want of
+/// rows, and how often for another reason.
+pub fn time_trees<R: Clock + Print + Threads + Sync + Alloc<A = Global>>(rt: &R) -> io::Result<()> {
+    for tree in TREES {
+        for mix in MIXES {
+            for threads in THREADS {
+                time_mix(rt, tree, OBJECTS, mix, threads)?;
+            }
+        }
+    }
+    time_users(rt)?;
+    time_sizes(rt)
 }

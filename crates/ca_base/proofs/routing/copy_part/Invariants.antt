@@ -1,10 +1,10 @@
 use Rattle.std.proofs.Common.{◌≡◌, ℕ, List, ◌-◌, ◌≤◌, length, take, drop}
 use Rattle.ca_base.specs.Finding.{IsObjectShown, all_bytes}
 use Rattle.ca_rows.specs.Calls.{IsOf, IsSame}
-use Rattle.ca_base.proofs.routing.copy_key.Given as goal
+use Rattle.ca_base.proofs.routing.copy_part.Given as goal
 
 abbrev pub invariant-loop-at : goal.invariant-loop-at
-invariant-loop-at l = record {
+invariant-loop-at g l = record {
   own : IsOf l.space.table.shared.table_id l.space.table.shared.key l.pass.seat;
   same : IsSame l.fn.pass.seat l.pass.seat;
   number : l.pass.number ≡ l.fn.pass.number;
@@ -19,4 +19,4 @@ invariant-loop-at l = record {
 }
 
 abbrev pub decreases-loop-at : goal.decreases-loop-at
-decreases-loop-at l = l.end - l.at
+decreases-loop-at g l = l.end - l.at
