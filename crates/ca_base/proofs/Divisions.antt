@@ -187,6 +187,7 @@ module _ (z : Sizes) (m0 m1 m2 m3 m4 : MyTree) (route left right many attempt : 
     idle = let j = w.is_route.join_is in omega arith;
     left_link = w.is_route.left_is;
     right_link = w.is_route.right_is;
+    some_left = let a = middle in let c = w.some_left in omega arith;
     middle_is = let a = middle in let b = w.many_are in let c = w.some_left in omega arith;
     key_is = w.is_route.key_is ∙ ap (λ (n : ℕ). key (get_or note.objects n [])) (sym middle);
     is_left = record {

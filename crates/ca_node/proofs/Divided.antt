@@ -7,13 +7,15 @@ use mathlib.Core.Logic.{dite}
 use mathlib.Core.Option.{some, some-ne-none}
 use native.Mathlib.Decide.{ℕ_discrete}
 use lib.ListN.{get_elem?}
-use Rattle.ca_model.specs.StoreMap.{Pair, StoreMap, IsStoreMap}
+use Rattle.std.specs.declared.cmp.Ordering.TheVariants.{Less}
+use Rattle.ca_model.specs.Edges.{Included}
+use Rattle.ca_model.specs.StoreMap.{Pair, StoreMap, bytes_cmp, IsStoreMap}
 use Rattle.ca_rows.specs.declared.sizes.Sizes.{Sizes}
 use Rattle.ca_node.specs.Place.{Span, all_keys, left_of, right_of, HasKey, part, Place, left_place, right_place}
 use Rattle.ca_node.specs.Row.{row_at, IsRouteRow, count, level, items, IsIdle, key, object, route_key, pair, objects_in}
 use Rattle.ca_node.specs.Shape.{Role, Out, Base, Route, place_of, IsLink, LeadsTo, IsBaseAt, IsRouteAt, IsSo, IsShape}
 use Rattle.ca_node.specs.Stays.{word_at}
-use Rattle.ca_node.proofs.Parts.{part_cut, two_sides, left_is_in, right_is_in}
+use Rattle.ca_node.proofs.Parts.{part_cut, part_rises, two_sides, left_is_in, right_is_in}
 use Rattle.ca_node.proofs.Named.{key_in}
 use Rattle.ca_node.specs.Reached.{same_place, base_at}
 use Rattle.ca_node.proofs.Rebased.{out_no_route, IsNewBase, relinked_wide, relinked_here, relinked_keeps, relinked_row, relinked_quiet, relinked_idle, link_still, lead_still, row_still, base_comes}
@@ -40,10 +42,13 @@ pub record IsNewRoute (z : Sizes) (words : List ℕ) (role : ℕ → Role) (deep
   pub left_is : get_or (row_at words row) 1 0 ≡ left
   pub right_is : get_or (row_at words row) 2 0 ≡ right
 
--- The objects of one base are those of two others, and the key is that of the second one's first
--- object.
+-- The objects of one base are those of two others, each of which has some, and the key is that of
+-- the second one's first object.
 pub record AreDivided (words : List ℕ) (old left right : ℕ) (k : List ℕ) : Type 0 where
   pub both : items (row_at words old) ≡ items (row_at words left) ++ items (row_at words right)
+  pub left_first : ℕ
+  pub left_rest : List ℕ
+  pub left_begins : items (row_at words left) ≡ left_first ∷ left_rest
   pub first : ℕ
   pub rest : List ℕ
   pub begins : items (row_at words right) ≡ first ∷ rest
@@ -174,6 +179,13 @@ module _ (z : Sizes) (words : List ℕ) (role : ℕ → Role) (m : StoreMap)
       ∙ (map-append f (its left) (its right)
       ∙ ap (λ (xs : StoreMap). map f (its left) ++ xs) right_has))
 
+  -- The key isn't the least one that was led to the old base: the left base has an object.
+  divided_rises : (low : List ℕ) → place.span.low ≡ Included low → bytes_cmp low k ≡ Less
+  divided_rises low = part_rises p place.span m (map f divided.left_rest) (map f divided.rest)
+      (f divided.left_first) low k (object (row_at words divided.first)) is_map (old_has
+      ∙ ap (λ (xs : List ℕ). map f xs ++ (k, object (row_at words divided.first)) ∷ map f divided.rest)
+      divided.left_begins)
+
   -- So the left base has what the map has left of the key, and the right one what it has from the
   -- key on.
   cut : (part (left_of k place.span) m ≡ map f (its left))
@@ -225,6 +237,7 @@ module _ (z : Sizes) (words : List ℕ) (role : ℕ → Role) (m : StoreMap)
     short = subst (λ ws. count ws ≤ 1000) (sym route_words) r.short;
     key_is = ap route_key route_words ∙ r.key_is;
     inside = divided_inside;
+    rises = divided_rises;
     joins = inl (subst IsIdle (sym route_words) r.idle);
     left = record {
       level = place.level + 1;

@@ -225,11 +225,27 @@ module _ (z : Sizes) (s : State (Unit {0}) (View TreeView)) (r : R z s) (id : �
       let l = length-map (items x.old.its) (λ c. row_at s.words c) in let lo = u.middle_is in
       omega arith)
 
+  -- The first item that goes left, and those behind it.
+  left_first : (row : ℕ) × (rest : List ℕ) × (take x.middle (items x.old.its) ≡ row ∷ rest)
+  left_first = begins_with x.middle (items x.old.its) u.some_left (let e = ap
+      (λ (xs : List (List ℕ)). length xs) objects_are in
+      let l = length-map (items x.old.its) (λ c. row_at s.words c) in let lo = u.middle_is in
+      omega arith)
+    where
+      begins_with : (n : ℕ) (xs : List ℕ) → 0 < n → 0 < length xs
+          → (row : ℕ) × (rest : List ℕ) × (take n xs ≡ row ∷ rest)
+      begins_with zero xs lo any = absurd (omega arith)
+      begins_with (suc n) [] lo any = absurd (omega arith)
+      begins_with (suc n) (y ∷ ys) lo any = (y, take n ys, refl)
+
   are_divided : AreDivided s.words x.old.row x.left x.right (route_key x.route_its)
   are_divided = record {
     both = ap items old_true.spells
         ∙ (both ∙ (ap (λ (xs : List ℕ). xs ++ drop x.middle (items x.old.its)) (sym left_items)
         ∙ ap (λ (xs : List ℕ). items (row_at s.words x.left) ++ xs) (sym right_items)));
+    left_first = left_first.0;
+    left_rest = left_first.1;
+    left_begins = left_items ∙ left_first.2;
     first = first.0;
     rest = first.1;
     begins = right_items ∙ first.2;

@@ -11,6 +11,7 @@ pub mod Looking
 pub mod Members
 pub mod Named
 pub mod Parts
+pub mod Ranged
 pub mod Rebased
 pub mod Remembering
 pub mod Rewriting

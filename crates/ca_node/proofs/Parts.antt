@@ -71,17 +71,17 @@ filter_passed f (x ∷ m) i q e = by (f x) refl i e (filter_passed f m)
     by false is i e rec = rec i q e
 
 -- Of two tests that are asked to hold together, the first one holds where they do.
-first_holds : (a b : Bool) → cond a b false ≡ true → a ≡ true
+pub first_holds : (a b : Bool) → cond a b false ≡ true → a ≡ true
 first_holds true b e = refl
 first_holds false b e = cc
 
 -- So does the second one.
-second_holds : (a b : Bool) → cond a b false ≡ true → b ≡ true
+pub second_holds : (a b : Bool) → cond a b false ≡ true → b ≡ true
 second_holds true b e = e
 second_holds false b e = cc
 
 -- They hold together where each one holds.
-both_hold : (a b : Bool) → a ≡ true → b ≡ true → cond a b false ≡ true
+pub both_hold : (a b : Bool) → a ≡ true → b ≡ true → cond a b false ≡ true
 both_hold a b d e = rw d e
 
 -- An ordering that is told to be less is.
@@ -233,7 +233,7 @@ greater_chain a b c d e =
     ∙ ap ordering_reverse e) (bytes_flip b a ∙ ap ordering_reverse d))
 
 -- What isn't less than a key that is within a lower edge is within it.
-greater_within : (lo : Bound) (x k : List ℕ) → not (is_lt (bytes_cmp x k)) ≡ true
+pub greater_within : (lo : Bound) (x k : List ℕ) → not (is_lt (bytes_cmp x k)) ≡ true
     → is_from lo k ≡ true → is_from lo x ≡ true
 greater_within lo x k far in_it = by (bytes_cmp x k) refl far
   where
@@ -322,6 +322,29 @@ part_cut p s m xs ys k o t e =
       right_from s m k h
           ∙ ap (from (Included k)) e ∙ cut_from p xs ys k o whole,
     )
+
+-- What is from a key on and less than another key shows that this one is greater.
+from_less : (lo x k : List ℕ) → not (is_lt (bytes_cmp x lo)) ≡ true → bytes_cmp x k ≡ Less
+    → bytes_cmp lo k ≡ Less
+from_less lo x k low less = by (bytes_cmp x lo) refl low
+  where
+    by : (r : Ordering) → bytes_cmp x lo ≡ r → not (is_lt r) ≡ true → bytes_cmp lo k ≡ Less
+    by Less is low = cc
+    by Equal is low = subst (λ y. bytes_cmp y k ≡ Less) (same_bytes x lo is) less
+    by Greater is low =
+        bytes_chain lo x k (bytes_flip lo x ∙ ap ordering_reverse is) less
+
+-- A key of a part before which the part has a pair is greater than the key that the part begins with.
+pub part_rises : (p : ℕ) (s : Span) (m xs ys : StoreMap) (q : Pair) (lo k o : List ℕ)
+    → IsStoreMap p m → part s m ≡ (q ∷ xs) ++ (k, o) ∷ ys → s.low ≡ Included lo
+    → bytes_cmp lo k ≡ Less
+part_rises p s m xs ys q lo k o t e low =
+    let whole : IsStoreMap p ((q ∷ xs) ++ (k, o) ∷ ys) = subst
+    (λ (x : StoreMap). IsStoreMap p x) e (part_map p s m t) in
+    let inside : HasKey s q.0 = in_part s m 0 q (ap (λ x. get_elem? x 0) e) in
+    let from_low : is_from (Included lo) q.0 ≡ true = subst
+    (λ (b : Bound). is_from b q.0 ≡ true) low (first_holds (is_from s.low q.0) _ inside) in
+    from_less lo q.0 k from_low (before_it xs q.0 k o ys whole.1)
 
 -- A key of a part that is less than a key is one of what is left of that.
 pub goes_left : (k x : List ℕ) (s : Span) → HasKey s x → bytes_cmp x k ≡ Less

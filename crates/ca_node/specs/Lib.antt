@@ -9,6 +9,7 @@ pub mod Opened
 pub mod Place
 pub mod Reached
 pub mod Row
+pub mod Scenes
 pub mod Shape
 pub mod Standing
 pub mod States

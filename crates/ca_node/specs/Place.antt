@@ -1,16 +1,12 @@
 -- Parts of the keys, and the places of a tree that lead to them.
 use Rattle.std.specs.Prelude.{◌≡◌, ◌⊎◌, ℕ, ◌+◌, ◌*◌, Bool, true, false, cond, List}
-use Rattle.ca_model.specs.Edges.{Bound, Unbounded, Included, Excluded, is_from, is_up_to, within}
+use Rattle.ca_model.specs.Edges.{Unbounded, Included, Excluded, is_from, is_up_to, within}
 use Rattle.ca_model.specs.Event.{Event, Get, Write, WriteNew, Remove, Change, Above, Below, Range}
 use Rattle.ca_model.specs.History.{Edit, Put, Del}
 use Rattle.ca_model.specs.StoreMap.{StoreMap}
+pub use Rattle.ca_runs.specs.Runs.{Span}
 use Rattle.ca_rows.specs.Layout.{row_words}
 use Rattle.ca_node.specs.Layout.{root_word}
-
--- a part of the keys: those within a lower and an upper bound
-pub record Span : Type 0 where
-  pub low : Bound
-  pub high : Bound
 
 abbrev pub all_keys : Span
 all_keys = record { low = Unbounded; high = Unbounded }

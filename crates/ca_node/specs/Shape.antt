@@ -1,7 +1,9 @@
 -- The shape of the tree in the words, row by row: which row is a base and which is a route, where it hangs, and which keys are led to it.
 use Rattle.std.specs.Prelude.{◌≡◌, ◌⊎◌, ℕ, ◌+◌, ◌*◌, ◌<◌, ◌≤◌, List, slice_index}
 use mathlib.Core.Option.{Option, some, none}
-use Rattle.ca_model.specs.StoreMap.{StoreMap}
+use Rattle.std.specs.declared.cmp.Ordering.TheVariants.{Less}
+use Rattle.ca_model.specs.Edges.{Included}
+use Rattle.ca_model.specs.StoreMap.{StoreMap, bytes_cmp}
 use Rattle.ca_rows.specs.declared.sizes.Sizes.{Sizes}
 use Rattle.ca_rows.specs.Words.{IsWide}
 use Rattle.ca_node.specs.Links.{IsIn, IsActive}
@@ -48,8 +50,8 @@ pub record IsBaseAt (z : Sizes) (words : List ℕ) (role : ℕ → Role) (map : 
   pub headed : AreHeaded words row
   pub has : objects_in words row ≡ part place.span map
 
--- The row is a route at this place, above the last level: its key is one of those that are led to it, the lesser ones go left and the others right, and its
--- join word says how far a join is.
+-- The row is a route at this place, above the last level: its key is one of those that are led to it, and not the least one, the lesser ones go left and the
+-- others right, and its join word says how far a join is.
 pub record IsRouteAt (z : Sizes) (words : List ℕ) (role : ℕ → Role) (place : Place) (key : List ℕ) (row : ℕ) : Type 0 where
   pub some_row : 0 < row
   pub in_range : row ≤ z.rows
@@ -61,6 +63,7 @@ pub record IsRouteAt (z : Sizes) (words : List ℕ) (role : ℕ → Role) (place
   pub short : count (row_at words row) ≤ 1000
   pub key_is : route_key (row_at words row) ≡ key
   pub inside : HasKey place.span key
+  pub rises : (low : List ℕ) → place.span.low ≡ Included low → bytes_cmp low key ≡ Less
   pub joins : IsJoinWord z words row
   pub left : LeadsTo words role (row_words * row + 1) (place.level + 1) (left_of key place.span)
   pub right : LeadsTo words role (row_words * row + 2) (place.level + 1) (right_of key place.span)

@@ -148,6 +148,7 @@ route_stands z words others role role' place key row r wide wide' same under is 
   short = subst (λ n. n ≤ 1000) (sym (count_same words others z.rows row wide wide' r.in_range same)) r.short;
   key_is = key_same words others z.rows row wide wide' r.in_range same ∙ r.key_is;
   inside = r.inside;
+  rises = r.rises;
   joins = inl (ap (λ n. n % 4) (word_same words others z.rows row wide wide' r.in_range same 3 (omega arith) (λ e. omega arith) (λ e. omega arith)) ∙ idle);
   left = left;
   right = right;

@@ -328,7 +328,8 @@ pub record IsDivision (z : Sizes) (m : MyTree) (x : Division) : Type 0 where
   pub idle : IsIdle x.route_its
   pub left_link : slice_index x.route_its 1 ≡ x.left
   pub right_link : slice_index x.route_its 2 ≡ x.right
-  -- The route's key is that of the first object that goes right.
+  -- The route's key is that of the first object that goes right; one goes left.
+  pub some_left : 0 < x.middle
   pub middle_is : x.middle < length x.old.objects
   pub key_is : route_key x.route_its ≡ key (slice_index_or x.old.objects x.middle [])
   pub is_left : IsHalf z x.old.place.level (take x.middle (items x.old.its)) (take x.middle x.old.objects) x.left_its

@@ -59,6 +59,20 @@ write_half-requires-2-clause-row c = let t = c.in_ok-route.ensures.taken in
       );
     }
 
+pub item-first-requires-clause-readable : goal.item-first-requires-clause-readable
+item-first-requires-clause-readable c = let r = c.requires in let u = c.args.pass.now.seat.me.0.upper in
+    let upper = c.write_half-2.ensures.frame.same.4
+    ∙ (c.write_half.ensures.frame.same.4 ∙ c.take_three.ensures.frame.same.4) in
+    let many = r.target.many_are in let some = r.two in (
+      first_note u.notes,
+      subst (λ (v : TreeView).
+      IsReadable c.args.space.now.table.shared.key v c.args.cursor.base (first_note u.notes))
+          (sym upper)
+          (last_readable c.args.space.now.table.shared.key u c.args.cursor.base r.target.shown
+          r.target.leaf r.ordered),
+      omega arith,
+    )
+
 pub copy_key-requires : goal.copy_key-requires
 copy_key-requires c = let r = c.requires in let u = c.args.pass.now.seat.me.0.upper in
     let upper = c.write_half-2.ensures.frame.same.4
