@@ -1,4 +1,4 @@
--- Walks from the root link down, a link at a time.
+-- Walks from a link down, a link at a time.
 use Rattle.std.proofs.Common.{◌≡◌, ◌≢◌, true, false, ℕ, suc, ◌+◌, ◌-◌, ◌*◌, ◌/◌, ◌%◌, ◌<◌, ◌≤◌, List, [], ◌∷◌, ◌++◌, get_or, Option, None, Some, sym, refl, ap, subst, ◌∙◌, inl, inr, ⊎_elim, arith, append-nil}
 use Rattle.std.proofs.lemmas.List.{append_assoc}
 use Rattle.std.specs.declared.cmp.Ordering.{Ordering}
@@ -19,14 +19,14 @@ use Rattle.ca_node.specs.Inventory.{IsListed}
 use Rattle.ca_node.specs.Links.{IsIn}
 use Rattle.ca_node.specs.Place.{Span, all_keys, left_of, right_of, HasKey, Place}
 use Rattle.ca_node.specs.Row.{level, route_key}
-use Rattle.ca_node.specs.Told.{MyTree, with_upper, IsBaseNote, IsRouteNote, IsKnown, IsKnownLink, IsAnyLink, IsLed, IsLedToBase, IsLedToRoute, IsShownWord, led_to_base, led_to_route}
+use Rattle.ca_node.specs.Told.{MyTree, with_upper, IsBaseNote, IsRouteNote, IsKnown, IsKnownLink, IsAnyLink, IsLed, IsLedToBase, IsLedToRoute, IsShownWord, led_to_base, led_to_route, link_word}
 use Rattle.ca_node.specs.States.{IsAlone, HasState}
 use Rattle.ca_node.specs.TreeView.{Note, Way, TreeView}
-use Rattle.ca_node.specs.Walking.{IsSought, IsSide, IsAbove, IsLowRoute, IsHighRoute, IsPlaced, IsRouteShown, IsAtRoute, IsAtBase, IsWalking, IsWalked, walked, passed}
+use Rattle.ca_node.specs.Walking.{IsSought, IsSide, IsAbove, IsLowRoute, IsHighRoute, IsPlaced, IsBegin, IsRouteShown, IsAtRoute, IsAtBase, IsWalking, IsWalked, walked, passed}
 use Rattle.ca_node.proofs.Parts.{goes_left, goes_right, of_all}
 use Rattle.ca_node.proofs.RouteWords.{fixed_word, first_fixed}
 use Rattle.ca_rows.specs.Layout.{row_words}
-use Rattle.ca_node.specs.Layout.{form_unit, root_word}
+use Rattle.ca_node.specs.Layout.{form_unit}
 
 -- What is looked for is one of all keys.
 pub sought_first : (s : Spot) → IsSought s all_keys
@@ -251,6 +251,16 @@ module _ (z : Sizes) (s : Spot) (m m' m'' : MyTree) (some_rows : 0 < z.rows)
         placed = subst
             (λ (x : MyTree). IsPlaced z x.0.upper.ways led.note.place next) (sym led.now)
             (placed led.note.place led.place.0 at.1);
+        begins = let here = placed led.note.place led.place.0 at.1 in
+            subst (λ (x : MyTree). IsBegin z x.0.upper led.note.place.span next) (sym led.now)
+            record {
+              least = least;
+              is_link = subst
+                  (λ (w : ℕ). IsKnownLink m'.0.upper w least led.note.place.span)
+                  (sym led.place.0 ∙ here.link)
+                  (subst (λ (p : Span). IsKnownLink m'.0.upper word least p) (sym at.1) is_link);
+              placed = placed _ (sym here.link ∙ led.place.0) at.1;
+            };
         is_base = subst (λ (y : Sizes). IsBaseNote y led.note) sizes told.0;
         has = subst (λ (x : MyTree). HasState z x.0.upper led.note) (sym led.now) (subst
             (λ (y : Sizes).
@@ -373,33 +383,50 @@ pub one_load_less : (first before after levels : ℕ) → before + 1 ≤ first +
     → first + levels + 1 - after < first + levels + 1 - before
 one_load_less first before after levels few one = omega arith
 
--- the cursor at the row that the root link names
-abbrev pub root_cursor : ℕ → Cursor
-root_cursor base =
-    record { base = base; link = link.Root; above = None; level = 0; low = None; high = None }
+-- the cursor at the row that a link names, where a walk begins
+abbrev pub begin_cursor : Cursor → ℕ → Cursor
+begin_cursor from base = record from { base = base }
 
--- The walk begins with a load of the root link.
-pub begins : (z : Sizes) (s : Spot) (m m' : MyTree) (base : ℕ) → 0 < z.rows → m.0.sizes ≡ z
-    → IsLed true root_word m base m' → IsWalking z s m (root_cursor base) m'
-begins z s m m' base some_rows sizes led =
-    comes_to z s m m m' some_rows sizes [] [] 0 here root_word 0 all_keys (inl (refl, refl, refl))
-    (omega arith)
-    (sought_first s) (root_cursor base) placed led
+-- The walk begins with a load of a link to which what is looked for is led.
+pub begins : (z : Sizes) (s : Spot) (m m' : MyTree) (from : Cursor) (base : ℕ) (span : Span)
+    → 0 < z.rows → m.0.sizes ≡ z → IsBegin z m.0.upper span from → IsSought s span
+    → IsLed true (link_word from.link) m base m' → IsWalking z s m (begin_cursor from base) m'
+begins z s m m' from base span some_rows sizes at sought led =
+    comes_to z s m m m' some_rows sizes [] [] 0 here (link_word from.link) at.least span at.is_link
+    (omega arith) sought (begin_cursor from base) placed led
   where
     here : m ≡ with_upper m (passed m.0.upper [] [] 0)
     here = let u : TreeView = m.0.upper in let n : u.loads ≡ u.loads + 0 = omega arith in
         ap (λ (h : History). with_upper m (record u { seen = h })) (sym (append-nil u.seen))
         ∙ ap (λ (k : ℕ). with_upper m (record u { seen = u.seen ++ []; loads = k })) n
 
-    placed : (place : Place) → place.link ≡ root_word → place.span ≡ all_keys
-        → IsPlaced z m.0.upper.ways place (root_cursor base)
+    placed : (place : Place) → place.link ≡ link_word from.link → place.span ≡ span
+        → IsPlaced z m.0.upper.ways place (begin_cursor from base)
     placed place l p = record {
       link = l;
-      inside = omega arith;
-      above = refl;
-      low = ap (λ (x : Span). x.low) p;
-      high = ap (λ (x : Span). x.high) p;
+      inside = at.placed.inside;
+      above = at.placed.above;
+      low = subst
+          (λ (x : Span). IsLowRoute m.0.upper.ways from.low x.low) (sym p) at.placed.low;
+      high = subst
+          (λ (x : Span). IsHighRoute m.0.upper.ways from.high x.high) (sym p) at.placed.high;
     }
+
+-- A walk may begin with the root link, to which all keys are led.
+pub begins_first : (z : Sizes) (u : TreeView)
+    → IsBegin z u all_keys (record {
+      base = 0;
+      link = link.Root;
+      above = None;
+      level = 0;
+      low = None;
+      high = None;
+    })
+begins_first z u = record {
+  least = 0;
+  is_link = inl (refl, refl, refl);
+  placed = record { link = refl; inside = omega arith; above = refl; low = refl; high = refl };
+}
 
 -- The first word of the row under the cursor was shown, and tells whether it is a route.
 module _ (z : Sizes) (s : Spot) (m : MyTree) (cursor : Cursor) (m' : MyTree) where
@@ -477,6 +504,17 @@ module _ (z : Sizes) (s : Spot) (m : MyTree) (cursor : Cursor) (m' : MyTree) whe
       high = at.placed.high;
     };
     inside = at.placed.inside;
+    begins = record {
+      least = at.begins.least;
+      is_link = at.begins.is_link;
+      placed = record {
+        link = at.begins.placed.link;
+        inside = at.begins.placed.inside;
+        above = at.begins.placed.above;
+        low = at.begins.placed.low;
+        high = at.begins.placed.high;
+      };
+    };
     is_base = at.is_base;
     has = at.has;
     known = at.known;

@@ -71,11 +71,15 @@ pub record IsKnown (z : Sizes) (u : TreeView) : Type 0 where
   pub enrolled : u.number ≤ z.passes
   pub by_passes : AreByPasses z.passes u.seen
 
+-- The seat remembers the route as one that is living. So far that is each one that it remembers, since no step unlinks a route.
+abbrev pub RemembersLiving : TreeView → Way → Type 0
+RemembersLiving u way = IsIn way u.ways
+
 -- The seat knows of the link which keys are led there, and from which level on rows hang there: it is the root link, or one of a route that it
--- was shown.
+-- was shown, and remembers as living.
 abbrev pub IsKnownLink : TreeView → ℕ → ℕ → Span → Type 0
 IsKnownLink u link least span = ((link ≡ root_word) × (least ≡ 0) × (span ≡ all_keys))
-    ⊎ ((way : Way) × IsIn way u.ways × (least ≡ way.place.level + 1)
+    ⊎ ((way : Way) × RemembersLiving u way × (least ≡ way.place.level + 1)
     × (((link ≡ row_words * way.row + 1) × (span ≡ left_of (route_key way.its) way.place.span))
     ⊎ ((link ≡ row_words * way.row + 2) × (span ≡ right_of (route_key way.its) way.place.span))))
 

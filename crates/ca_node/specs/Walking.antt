@@ -15,7 +15,7 @@ use Rattle.ca_node.specs.Inventory.{IsListed}
 use Rattle.ca_node.specs.Links.{IsIn}
 use Rattle.ca_node.specs.Place.{Span, HasKey, Place}
 use Rattle.ca_node.specs.Row.{count, route_key}
-use Rattle.ca_node.specs.Told.{MyTree, with_upper, IsBaseNote, IsRouteNote, IsKnown, IsShownRoute, link_word}
+use Rattle.ca_node.specs.Told.{MyTree, with_upper, IsBaseNote, IsRouteNote, IsKnown, IsKnownLink, IsShownRoute, link_word}
 use Rattle.ca_node.specs.States.{HasState, IsAlone}
 use Rattle.ca_node.specs.TreeView.{Note, Way, TreeView}
 use Rattle.ca_rows.specs.Layout.{row_words}
@@ -90,6 +90,13 @@ pub record IsPlaced (z : Sizes) (ways : List Way) (place : Place) (cursor : Curs
   pub low : IsLowRoute ways cursor.low place.span.low
   pub high : IsHighRoute ways cursor.high place.span.high
 
+-- A walk may begin with the cursor's link: it is the root link, or one of a route that is remembered as living. These keys are led there, and the cursor
+-- tells where it hangs.
+pub record IsBegin (z : Sizes) (u : TreeView) (span : Span) (cursor : Cursor) : Type 0 where
+  pub least : ℕ
+  pub is_link : IsKnownLink u (link_word cursor.link) least span
+  pub placed : IsPlaced z u.ways (record { link = link_word cursor.link; level = least; span = span }) cursor
+
 -- what a seat knows on its way down, when no base was shown to it yet
 abbrev pub passed : TreeView → History → List Way → ℕ → TreeView
 passed u more ways loads = record u { seen = u.seen ++ more; ways = ways ++ u.ways; loads = u.loads + loads }
@@ -119,6 +126,7 @@ pub record IsAtBase (z : Sizes) (spot : Spot) (m : MyTree) (cursor : Cursor) (m'
   pub sought : IsSought spot note.place.span
   pub row : note.row ≡ cursor.base
   pub placed : IsPlaced z m'.0.upper.ways note.place cursor
+  pub begins : IsBegin z m'.0.upper note.place.span cursor
   pub is_base : IsBaseNote z note
   pub has : HasState z m'.0.upper note
   pub known : IsKnown z m'.0.upper
@@ -139,8 +147,9 @@ pub record IsWalked (z : Sizes) (spot : Spot) (m : MyTree) (cursor : Cursor) (m'
   pub few : loads ≤ z.levels + 1
   pub sought : IsSought spot note.place.span
   pub cursor_is : IsCursor m'.0.upper.ways note cursor
-  -- The link is within the table.
+  -- The link is within the table, and another walk may begin with it.
   pub inside : link_word cursor.link < row_words * z.rows + row_words
+  pub begins : IsBegin z m'.0.upper note.place.span cursor
   pub is_base : IsBaseNote z note
   pub has : HasState z m'.0.upper note
   pub known : IsKnown z m'.0.upper

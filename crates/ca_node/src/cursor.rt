@@ -1,8 +1,9 @@
-//! Walks from the root to a base.
+//! Walks down to a base, from the root or from a link.
 ghost use Rattle.std.specs.Prelude.{◌≡◌, ◌+◌, ◌≤◌, ℕ, List, true};
 ghost use Rattle.ca_node.specs.Row.{route_key};
 ghost use Rattle.ca_node.specs.Told.{MyTree};
-ghost use Rattle.ca_node.specs.Walking.{IsWalked, IsAtRoute, IsWalking, IsRouteShown, IsSide};
+ghost use Rattle.ca_node.specs.Place.{Span};
+ghost use Rattle.ca_node.specs.Walking.{IsBegin, IsSought, IsWalked, IsAtRoute, IsWalking, IsRouteShown, IsSide};
 ghost use Rattle.ca_rows.specs.Passes.{OnlyReads, IsReading, KeepsList, sizes, known, view};
 ghost use Rattle.ca_node.specs.TreePasses.{tree_of};
 
@@ -46,14 +47,27 @@ pub fn walk(space: &TreeSpace, pass: &mut TreePass, spot: Spot<'_>) -> Cursor
     ensures frame { KeepsList pass.old pass.new }
     ensures walked { IsWalked (sizes space.now) spot.entry (known pass.old) result (known pass.new) }
 {
-    let mut cursor = Cursor {
-        base: descend(space, pass, Link::Root),
+    let root = Cursor {
+        base: 0,
         link: Link::Root,
         above: None,
         level: 0,
         low: None,
         high: None,
     };
+    walk_from(space, pass, root, spot)
+}
+
+/// The same from the link of this cursor down, to which what is looked for is led: it is the root link, or one of a route that is remembered as living.
+/// The link is loaded anew, whichever base the cursor is at.
+pub fn walk_from(space: &TreeSpace, pass: &mut TreePass, from: Cursor, spot: Spot<'_>) -> Cursor
+    requires reading { IsReading space.now pass.old }
+    requires begins { (span : Span) × IsBegin (sizes space.now) (tree_of pass.old) span from × IsSought spot span }
+    ensures frame { KeepsList pass.old pass.new }
+    ensures walked { IsWalked (sizes space.now) spot.entry (known pass.old) result (known pass.new) }
+{
+    let base = descend(space, pass, from.link);
+    let mut cursor = Cursor { base, ..from };
     loop {
         let word = load_word(space, pass, cursor.base, 0);
         if word / FORM != ROUTE / FORM {

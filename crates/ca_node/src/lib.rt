@@ -16,7 +16,7 @@ mod tallying;
 mod view;
 
 pub use closing::close_words;
-pub use cursor::{Cursor, Spot, walk};
+pub use cursor::{Cursor, Spot, walk, walk_from};
 pub use exchange::{divide_base, replace_base};
 pub use handed::Front;
 pub use handing::{front, learn};

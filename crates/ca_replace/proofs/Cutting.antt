@@ -1,5 +1,5 @@
 -- Which bases a call split.
-use Rattle.std.proofs.Common.{◌≡◌, ◌⊎◌, ℕ, ◌<◌, ◌≤◌, Bool, true, false, List, [], ◌∷◌, ◌++◌, length, map, Result, Ok, Err, IsErr, sym, refl, ap, ◌∙◌, subst, inl, inr, ⊎_elim, arith, append_assoc}
+use Rattle.std.proofs.Common.{◌≡◌, ℕ, ◌<◌, ◌≤◌, Bool, true, false, List, [], ◌∷◌, ◌++◌, length, map, Result, Ok, Err, IsErr, sym, refl, ap, ◌∙◌, subst, inl, inr, ⊎_elim, arith, append_assoc}
 use denote.Ref.{Bor}
 use Rattle.std.specs.declared.option.Option.{Option}
 use Rattle.std.specs.declared.option.Option.TheVariants.{Some}
@@ -26,7 +26,7 @@ use Rattle.ca_node.specs.Laws.{in_nothing}
 use Rattle.ca_node.specs.Links.{IsIn}
 use Rattle.ca_node.specs.Row.{pair}
 use Rattle.ca_node.specs.Told.{MyTree, with_upper, IsEntered, one_more_lost}
-use Rattle.ca_node.specs.TreeView.{Note, Division, TreeView, pinned, unpinned}
+use Rattle.ca_node.specs.TreeView.{Note, Division, TreeView, unpinned}
 use Rattle.ca_node.specs.Walking.{IsWalked}
 use Rattle.ca_node.proofs.Listing.{in_either}
 use Rattle.ca_node.proofs.Looking.{in_more}
@@ -213,18 +213,18 @@ pub entered_cut : (m m' m'' : MyTree) (event : Event) → IsQuiet m m'
     → IsEntered event m' m'' → m''.0.upper.cuts ≡ m.0.upper.cuts
 entered_cut m m' m'' event q is = ap (λ (x : MyTree). x.0.upper.cuts) is.now ∙ q.same_cuts
 
--- What was done while the pass was pinned.
-pub cut_pinned : {T : Type 0} (edits : T → Bool) (z : Sizes) (adds : Option (List ℕ))
+-- The pass unpins then.
+pub cut_unpinned : {T : Type 0} (edits : T → Bool) (z : Sizes) (adds : Option (List ℕ))
     (r : Result T Halt) (u v w : TreeView) → w ≡ unpinned v
-    → HasCut edits z adds r (pinned u) v → HasCut edits z adds r u w
-cut_pinned {T} edits z adds r u v w same h = subst
+    → HasCut edits z adds r u v → HasCut edits z adds r u w
+cut_unpinned {T} edits z adds r u v w same h = subst
     (λ (x : TreeView). HasCut edits z adds r u x) (sym same) (by r h)
   where
     if_edits : (edited : Bool) → HasCutBehind edited z u.cuts v → HasCutBehind edited z u.cuts (unpinned v)
     if_edits true h = h
     if_edits false h = h
 
-    by : (r : Result T Halt) → HasCut edits z adds r (pinned u) v
+    by : (r : Result T Halt) → HasCut edits z adds r u v
         → HasCut edits z adds r u (unpinned v)
     by (Ok x) h = if_edits (edits x) h
     by (Err halt.Split) h = h

@@ -26,7 +26,7 @@ use Rattle.ca_node.specs.Laws.{starts_whole}
 use Rattle.ca_node.specs.Links.{IsIn}
 use Rattle.ca_node.specs.Place.{HasKey, edit_key}
 use Rattle.ca_node.specs.Told.{MyTree, IsEntered, IsKnown, one_more_lost}
-use Rattle.ca_node.specs.TreeView.{Inventory, Note, Renewal, TreeView, Turns, one_passed, pinned, unpinned}
+use Rattle.ca_node.specs.TreeView.{Inventory, Note, Renewal, TreeView, Turns, one_passed, unpinned}
 use Rattle.ca_node.specs.Walking.{IsWalked}
 use Rattle.ca_node.proofs.Looking.{further}
 use Rattle.ca_replace.specs.declared.adapting.Adapting.{Adapting}
@@ -520,11 +520,10 @@ entered_waits a u w m m' event same idle is = let up = ap (λ (x : MyTree). x.0.
       ap (λ (x : TreeView). x.lost) up ∙ (ap (λ (x : TreeView). x.lost) same ∙ idle.1),
     )
 
--- What was done while the pass was pinned.
-adapts_pinned : (z : Sizes) (t : Tuning) (lost : Bool) (last : Last) (u v : TreeView)
-    → Adapts z t lost last (pinned u) v
-    → Adapts z t lost last u (unpinned v)
-adapts_pinned z t lost last u v h = record {
+-- The pass unpins then.
+adapts_unpinned : (z : Sizes) (t : Tuning) (lost : Bool) (last : Last) (u v : TreeView)
+    → Adapts z t lost last u v → Adapts z t lost last u (unpinned v)
+adapts_unpinned z t lost last u v h = record {
   one_more = h.one_more;
   lost = h.lost;
   since = h.since;
@@ -533,17 +532,18 @@ adapts_pinned z t lost last u v h = record {
   adapted = h.adapted;
 }
 
-goes_pinned : (edited : Bool) (z : Sizes) (t : Tuning) (a b : Adapting) (u v : TreeView)
-    → Goes edited z t a b (pinned u) v → Goes edited z t a b u (unpinned v)
-goes_pinned true z t a b u v h = adapts_pinned z t a.lost b.last u v h
-goes_pinned false z t a b u v h = h
+goes_unpinned : (edited : Bool) (z : Sizes) (t : Tuning) (a b : Adapting) (u v : TreeView)
+    → Goes edited z t a b u v → Goes edited z t a b u (unpinned v)
+goes_unpinned true z t a b u v h = adapts_unpinned z t a.lost b.last u v h
+goes_unpinned false z t a b u v h = h
 
-pub gone_pinned : {T E : Type 0} (edits : T → Bool) (z : Sizes) (t : Tuning) (a b : Adapting)
+pub gone_unpinned : {T E : Type 0} (edits : T → Bool) (z : Sizes) (t : Tuning) (a b : Adapting)
     (r : Result T E) (u v w : TreeView) → w ≡ unpinned v
-    → HasGoneOn edits z t a b r (pinned u) v → HasGoneOn edits z t a b r u w
-gone_pinned edits z t a b (Ok x) u v w same h = subst
-    (λ (y : TreeView). Goes (edits x) z t a b u y) (sym same) (goes_pinned (edits x) z t a b u v h)
-gone_pinned edits z t a b (Err why) u v w same h = subst
+    → HasGoneOn edits z t a b r u v → HasGoneOn edits z t a b r u w
+gone_unpinned edits z t a b (Ok x) u v w same h = subst
+    (λ (y : TreeView). Goes (edits x) z t a b u y) (sym same)
+    (goes_unpinned (edits x) z t a b u v h)
+gone_unpinned edits z t a b (Err why) u v w same h = subst
     (λ (y : TreeView). Waits a b u y) (sym same) h
 
 -- What the last attempt came to is what the attempts came to.

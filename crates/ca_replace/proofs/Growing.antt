@@ -25,7 +25,7 @@ use Rattle.ca_node.specs.Place.{Place, Span, left_of, right_of, left_place, righ
 use Rattle.ca_node.specs.Row.{count, pair, route_key, item_words, row_in}
 use Rattle.ca_node.specs.Told.{MyTree, IsEntered, IsKnown, with_upper, divided, one_more_lost}
 use Rattle.ca_node.specs.States.{IsAlone}
-use Rattle.ca_node.specs.TreeView.{Inventory, Note, TreeView, pinned, unpinned, Division}
+use Rattle.ca_node.specs.TreeView.{Inventory, Note, TreeView, unpinned, Division}
 use Rattle.ca_node.proofs.Listing.{of_but, but_shorter, but_all_shorter}
 use Rattle.ca_node.proofs.Looking.{in_more}
 use Rattle.ca_node.proofs.Parts.{part_cut}
@@ -35,7 +35,7 @@ use Rattle.ca_base.specs.Splitting.{IsSplit, HasSplit}
 use Rattle.ca_replace.specs.declared.adapting.Adapting.{Adapting}
 use Rattle.ca_model.specs.declared.outcome.Cause.{Cause}
 use Rattle.ca_replace.specs.Adapting.{HasSettled}
-use Rattle.ca_replace.specs.Attempting.{HasNext, IsLooking, IsQuiet, HasTriedTo, come_to, refused_as, split_to}
+use Rattle.ca_replace.specs.Attempting.{HasNext, IsLooking, IsQuiet, HasTriedSince, HasTriedTo, come_to, refused_as, split_to}
 use Rattle.ca_replace.specs.Growing.{Grows, GrowsInCall, IsSameTree, HasRoom, HasRoomFor, HasGrown, HasWaited, HasGrownInAttempts}
 use Rattle.ca_replace.proofs.Settling.{IsSettling}
 use Rattle.ca_replace.proofs.OneHand.{seen_still}
@@ -470,14 +470,29 @@ attempts_so_far tells z adds (Err why) u w v k l f before tried h a =
     waits z adds u w v (before a) (seen_still z u w a k l f) (seen_still z w v b l tried.1 tried.0)
     (h b)
 
+-- Where the tree has what it had, and the pass learnt of nothing.
+pub waited_on : (z : Sizes) (adds : Option (List ℕ)) (u w v : TreeView) → HasWaited z adds u w
+    → v.seen ≡ w.seen → IsSameTree w v → HasWaited z adds u v
+waited_on z adds u w v before seen same = ⊎_elim
+    (λ (s : IsSameTree u w). inl (same_both u w v s same))
+    (λ (t : Grows 1 2 1 u w × HasRoomFor z adds w × ¬ HasRoomFor z adds u). inr (
+      grows_both 1 2 1 0 0 0 u w v t.0 (same_grows 0 0 0 w v same),
+      room_stays z adds w v seen same.1 t.1,
+      t.2,
+    )) before
+
 -- An attempt behind others.
 pub one_more_attempt : {T : Type 0} (tells : T → Event → Type 0) (z : Sizes)
     (adds : Option (List ℕ)) (r : Result T Halt) (u w v : TreeView) → IsKnown z u
-    → IsKnown z w → IsFurther u w → (IsAlone z u → HasWaited z adds u w) → HasTriedTo tells z r w v
-    → (IsAlone z w → HasGrown z adds r w v)
+    → IsKnown z w → IsFurther u w → (IsAlone z u → HasWaited z adds u w)
+    → HasTriedSince tells z r w v → (IsAlone z w → HasGrown z adds r w v)
     → IsAlone z u → HasGrownInAttempts z adds r u v
-one_more_attempt tells z adds r u w v k l f before tried h =
-    attempts_so_far tells z adds r u w v k l f before tried (λ b. one_attempt z adds r w v (h b))
+one_more_attempt {T} tells z adds (Ok x) u w v k l f before tried h a =
+    done z adds u w v (before a) (seen_still z u w a k l f)
+    (one_attempt {T = T} z adds (Ok x) w v (h (alone_on z u w f.number a)))
+one_more_attempt {T} tells z adds (Err why) u w v k l f before tried h a =
+    attempts_so_far tells z adds (Err why) u w v k l f before tried
+    (λ b. one_attempt {T = T} z adds (Err why) w v (h b)) a
 
 -- Attempts that came to a stop did not do the call.
 pub has_waited : {T E : Type 0} (z : Sizes) (adds : Option (List ℕ)) (r : Result T E) (why : E)
@@ -509,14 +524,13 @@ entered_grown m m' m'' event q is = let e = ap (λ (x : MyTree). x.0.upper) is.n
       ap (λ (x : TreeView). x.inventory) e ∙ q.same_inventory,
     )
 
--- What was done while the pass was pinned.
-pub grown_pinned : {T : Type 0} (z : Sizes) (adds : Option (List ℕ)) (r : Result T Halt)
-    (u v w : TreeView) → w ≡ unpinned v
-    → HasGrown z adds r (pinned u) v → HasGrown z adds r u w
-grown_pinned {T} z adds r u v w same h = subst
+-- The pass unpins then.
+pub grown_unpinned : {T : Type 0} (z : Sizes) (adds : Option (List ℕ)) (r : Result T Halt)
+    (u v w : TreeView) → w ≡ unpinned v → HasGrown z adds r u v → HasGrown z adds r u w
+grown_unpinned {T} z adds r u v w same h = subst
     (λ (x : TreeView). HasGrown z adds r u x) (sym same) (by r h)
   where
-    grew : (a b c : ℕ) → Grows a b c (pinned u) v → Grows a b c u (unpinned v)
+    grew : (a b c : ℕ) → Grows a b c u v → Grows a b c u (unpinned v)
     grew a b c g =
         record {
           splits_are =
@@ -526,13 +540,10 @@ grown_pinned {T} z adds r u v w same h = subst
           most_are = g.most_are;
         }
 
-    by : (r : Result T Halt) → HasGrown z adds r (pinned u) v → HasGrown z adds r u (unpinned v)
+    by : (r : Result T Halt) → HasGrown z adds r u v → HasGrown z adds r u (unpinned v)
     by (Ok x) h = grew 1 3 1 h
-    by (Err halt.Split) h = (
-      grew 1 2 1 h.0,
-      room_stays z adds v (unpinned v) refl refl h.1,
-      λ room. h.2 (room_stays z adds u (pinned u) refl refl room),
-    )
+    by (Err halt.Split) h =
+        (grew 1 2 1 h.0, room_stays z adds v (unpinned v) refl refl h.1, h.2)
     by (Err halt.Deep) h = h
     by (Err (halt.Stopped why)) h = h
 

@@ -1,5 +1,7 @@
+pub mod Again
 pub mod Asking
 pub mod Behind
+pub mod Between
 pub mod Causing
 pub mod Counted
 pub mod Cutting
@@ -21,4 +23,5 @@ pub mod Tallies
 pub mod Telling
 pub mod Tuning
 pub mod Turns
+pub mod Waiting
 pub mod Winning

@@ -36,25 +36,23 @@ pinned_both k m n x y = let again = x.looks ∙ sym x.begun_at in record {
   begun_before = λ e. y.begun_before again ∙ x.begun_before e;
 }
 
--- A turn behind none, or behind others.
-pub pinned_behind : (k m n : MyTree) → ((m.0.pin ≡ k.0.pin) × (m.0.claims ≡ k.0.claims))
-    ⊎ HasPinned k m → HasPinned m n → HasPinned k n
-pinned_behind k m n so y = ⊎_elim
-    (λ (same : (m.0.pin ≡ k.0.pin) × (m.0.claims ≡ k.0.claims)). first same.0 same.1)
-    (λ (x : HasPinned k m). pinned_both k m n x y) so
-  where
-    first : m.0.pin ≡ k.0.pin → m.0.claims ≡ k.0.claims → HasPinned k n
-    first pin claims = let looks = ap (λ (e : Pin). e.looks) pin in
-        let lags = ap (λ (e : Pin). e.lags) pin in
-        let at = ap (λ (e : Pin). e.begun_at) pin in record {
-          lags = y.lags ∙ lags;
-          looks = y.looks ∙ looks;
-          entered = y.entered ∙ lags;
-          begun_at = y.begun_at ∙ looks;
-          begun = λ no. y.begun (λ e. no (sym looks ∙ (e ∙ at))) ∙ claims;
-          begun_before = λ e. y.begun_before (looks ∙ (e ∙ sym at))
-              ∙ ap (λ (x : Pin). x.begun) pin;
-        }
+-- It is pinned so still, or unpinned then.
+pub pinned_still : (k m n : MyTree) → HasPinned k m → n.0.pin.lags ≡ m.0.pin.lags
+    → n.0.pin.looks ≡ m.0.pin.looks → n.0.pin.entered.lags ≡ m.0.pin.entered.lags
+    → n.0.pin.begun_at ≡ m.0.pin.begun_at → n.0.pin.begun ≡ m.0.pin.begun → HasPinned k n
+pinned_still k m n x lags looks entered begun_at begun = record {
+  lags = lags ∙ x.lags;
+  looks = looks ∙ x.looks;
+  entered = entered ∙ x.entered;
+  begun_at = begun_at ∙ x.begun_at;
+  begun = λ no. begun ∙ x.begun no;
+  begun_before = λ e. begun ∙ x.begun_before e;
+}
+
+pub pinned_as : (k m n : MyTree) → HasPinned k m → n.0.pin ≡ m.0.pin → HasPinned k n
+pinned_as k m n x same = pinned_still k m n x (ap (λ (e : Pin). e.lags) same)
+    (ap (λ (e : Pin). e.looks) same) (ap (λ (e : Pin). e.entered.lags) same)
+    (ap (λ (e : Pin). e.begun_at) same) (ap (λ (e : Pin). e.begun) same)
 
 -- No attempt found the head empty until now, and so many rows are kept as at first; or one did, of
 -- a call that had begun with rows kept, and none is kept now, unless an exchange was lost. The pass

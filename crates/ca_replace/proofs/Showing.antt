@@ -21,7 +21,7 @@ use Rattle.ca_node.specs.States.{HasState, IsAlone, IsAtPin, IsReadSince, IsUnan
 use Rattle.ca_node.specs.Row.{object, pair}
 use Rattle.ca_node.specs.Told.{MyTree, with_upper, IsEntered, IsKnown, led_to_base, led_to_route, IsLed, IsLedToBase, IsLedToRoute}
 use Rattle.ca_node.specs.TreeView.{Note, TreeView}
-use Rattle.ca_node.specs.Walking.{walked, IsWalked}
+use Rattle.ca_node.specs.Walking.{walked, IsBegin, IsWalked}
 use Rattle.ca_node.proofs.Parts.{part_map, part_get}
 use Rattle.ca_replace.specs.Attempting.{IsLooking, HasFetched, HasDoneSuch, HasSeenAlike, HasTriedTo, IsQuiet, come_to}
 use Rattle.ca_replace.specs.Causes.{IsFull, IsFullSince}
@@ -71,6 +71,7 @@ looking z key m m' cursor w most =
       has = has;
       known = known;
       listed = w.listed;
+      begins = subst (λ (v : TreeView). IsBegin z v w.note.place.span cursor) here w.begins;
     }
 
 -- A pass that is alone lists the base that a walk came to.

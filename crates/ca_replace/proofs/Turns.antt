@@ -1,5 +1,5 @@
 -- A call's attempts, one after another, and its end.
-use Rattle.std.proofs.Common.{◌≡◌, ◌⊎◌, ◌≤◌, le_refl, ℕ, false, [], Result, Ok, Err, Vec, sym, refl, ap, ◌∙◌, subst, inl, ⊎_elim}
+use Rattle.std.proofs.Common.{◌≡◌, ◌≤◌, le_refl, ℕ, false, [], Result, Ok, Err, Vec, sym, refl, ap, ◌∙◌, subst, inl, ⊎_elim}
 use Rattle.std.specs.Global.{Global}
 use Rattle.ca_replace.specs.declared.attempting.Halt.{Halt}
 use Rattle.atomic_table.specs.declared.shared.Seat.{Seat}
@@ -18,7 +18,7 @@ use Rattle.ca_rows.specs.Told.{met_of}
 use Rattle.ca_node.specs.TreeView.{TreeView, pinned, unpinned}
 use Rattle.ca_model.specs.declared.outcome.Cause.{Cause}
 use Rattle.ca_model.specs.declared.outcome.Spent.{Spent}
-use Rattle.ca_replace.specs.Attempting.{HasAttempted, HasDoneSuch, HasNext, HasTriedTo, refused_as}
+use Rattle.ca_replace.specs.Attempting.{HasAttempted, HasDoneSuch, HasNext, HasTriedSince, HasTriedTo, refused_as}
 use Rattle.ca_base.specs.Progress.{IsFurther, HasDone, IsRefused}
 use Rattle.ca_replace.specs.Resting.{IsResting, known_of}
 use Rattle.ca_base.specs.Taking.{AreHeld, HoldsFew}
@@ -31,6 +31,7 @@ use Rattle.ca_rows.specs.declared.view.View.{View}
 use Rattle.ca_rows.specs.Claims.{claim_of}
 use Rattle.ca_rows.specs.Kept.{AreKept}
 use Rattle.ca_replace.proofs.Meeting.{meets, declines}
+use Rattle.ca_replace.proofs.Showing.{tried_on}
 
 abbrev pub MySeat : Type 0
 MySeat = Seat (Unit {0}) (View TreeView)
@@ -73,11 +74,11 @@ holds_none table z number kept seat r = (
   r.few,
 )
 
--- What was tried while the pass was pinned.
-pub tried_pinned : {T : Type 0} (tells : T → Event → Type 0) (z : Sizes) (r : Result T Halt)
+-- What was tried by a pass that unpinned then.
+pub tried_unpinned : {T : Type 0} (tells : T → Event → Type 0) (z : Sizes) (r : Result T Halt)
     (u v w : TreeView) → w ≡ unpinned v
-    → HasTriedTo tells z r (pinned u) v → HasTriedTo tells z r u w
-tried_pinned tells z (Ok x) u v w same h = let d = h.0.2 in
+    → HasTriedTo tells z r u v → HasTriedTo tells z r u w
+tried_unpinned tells z (Ok x) u v w same h = let d = h.0.2 in
     subst (λ (y : TreeView). HasDoneSuch (tells x) u y × IsKnown z y) (sym same) (
       (
         h.0.0,
@@ -93,11 +94,19 @@ tried_pinned tells z (Ok x) u v w same h = let d = h.0.2 in
       ),
       known_unpinned z v h.1,
     )
-tried_pinned tells z (Err why) u v w same h = subst
+tried_unpinned tells z (Err why) u v w same h = subst
     (λ (y : TreeView). IsFurther u y × IsKnown z y) (sym same) (
       record { number = h.0.number; seen = h.0.seen; log = h.0.log; counts = h.0.counts },
       known_unpinned z v h.1,
     )
+
+-- What was tried while it was pinned.
+pub tried_pinned : {T : Type 0} (tells : T → Event → Type 0) (z : Sizes) (r : Result T Halt)
+    (u v w : TreeView) → w ≡ unpinned v
+    → HasTriedTo tells z r (pinned u) v → HasTriedTo tells z r u w
+tried_pinned tells z r u v w same h = tried_unpinned tells z r u v w same
+    (tried_on tells z r u (pinned u) v
+    (record { number = refl; seen = starts_whole u.seen; log = refl; counts = refl }) h)
 
 -- Whatever was tried, its history is known, and the pass has its number.
 pub tried_known : {T : Type 0} (tells : T → Event → Type 0) (z : Sizes) (r : Result T Halt)
@@ -242,7 +251,7 @@ stopped_further tells z r why u v e h =
 
 -- So did one after which another turn may follow.
 pub turn_further : {T : Type 0} (tells : T → Event → Type 0) (z : Sizes) (r : Result T Halt)
-    (u v : TreeView) → HasNext r → HasTriedTo tells z r u v → IsFurther u v
+    (u v : TreeView) → HasNext r → HasTriedSince tells z r u v → IsFurther u v
 turn_further tells z (Ok x) u v next h = absurd next
 turn_further tells z (Err why) u v next h = h.0
 

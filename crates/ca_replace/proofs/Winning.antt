@@ -18,7 +18,7 @@ use Rattle.ca_node.specs.declared.cursor.Spot.TheVariants as spot
 use Rattle.ca_node.specs.Inventory.{IsListed}
 use Rattle.ca_node.specs.Told.{MyTree}
 use Rattle.ca_node.specs.States.{IsAlone}
-use Rattle.ca_node.specs.TreeView.{Note, Renewal, TreeView, pinned, unpinned}
+use Rattle.ca_node.specs.TreeView.{Note, Renewal, TreeView, unpinned}
 use Rattle.ca_node.specs.Walking.{IsWalked}
 use Rattle.ca_base.specs.Putting.{HasRenewed, HasTried, first_note, stopped}
 use Rattle.ca_base.specs.Splitting.{HasSplit}
@@ -170,18 +170,16 @@ pub turn_won : {T : Type 0} (edits : T → Bool) (r : Result T Halt) (u v : Tree
 turn_won edits (Ok x) u v next h = absurd next
 turn_won edits (Err why) u v next h = h
 
--- What was done while the pass was pinned.
-won_unpinned : (edited : Bool) (u v : TreeView) → HasWon edited (pinned u) v
-    → HasWon edited u (unpinned v)
-won_unpinned true u v h = h
-won_unpinned false u v h = h
+-- The pass unpins then.
+wins_unpinned : (edited : Bool) (u v : TreeView) → HasWon edited u v → HasWon edited u (unpinned v)
+wins_unpinned true u v h = h
+wins_unpinned false u v h = h
 
-pub won_pinned : {T E : Type 0} (edits : T → Bool) (r : Result T E) (u v w : TreeView)
-    → w ≡ unpinned v → HasWonInAttempts edits r (pinned u) v
-    → HasWonInAttempts edits r u w
-won_pinned edits (Ok x) u v w same h = subst
-    (λ (y : TreeView). HasWon (edits x) u y) (sym same) (won_unpinned (edits x) u v h)
-won_pinned edits (Err why) u v w same h = subst (λ (y : TreeView). y.lost ≡ u.lost) (sym same) h
+pub won_unpinned : {T E : Type 0} (edits : T → Bool) (r : Result T E) (u v w : TreeView)
+    → w ≡ unpinned v → HasWonInAttempts edits r u v → HasWonInAttempts edits r u w
+won_unpinned edits (Ok x) u v w same h = subst
+    (λ (y : TreeView). HasWon (edits x) u y) (sym same) (wins_unpinned (edits x) u v h)
+won_unpinned edits (Err why) u v w same h = subst (λ (y : TreeView). y.lost ≡ u.lost) (sym same) h
 
 -- What the attempts come to where the last one's is told otherwise.
 pub won_refused : {T : Type 0} (edits : T → Bool) (tried : Result T Halt) (r : Result T Cause)

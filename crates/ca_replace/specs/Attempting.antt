@@ -1,5 +1,5 @@
 -- Attempts of a call: each looks at the tree anew.
-use Rattle.std.specs.Prelude.{◌≡◌, ℕ, ◌+◌, ◌-◌, ◌<◌, ◌≤◌, min, List, [], None, Some, Result, Ok, Err}
+use Rattle.std.specs.Prelude.{◌≡◌, ℕ, ◌+◌, ◌-◌, ◌<◌, ◌≤◌, min, List, [], Option, None, Some, Result, Ok, Err}
 use Rattle.ca_base.specs.declared.stop.Stop.{Stop}
 use Rattle.ca_base.specs.declared.stop.Stop.TheVariants as stop
 use Rattle.ca_replace.specs.declared.attempting.Halt.{Halt}
@@ -12,10 +12,12 @@ use Rattle.ca_model.specs.Event.{Event}
 use Rattle.ca_model.specs.StoreMap.{IsFound, IsPair}
 use Rattle.ca_node.specs.declared.cursor.Cursor.{Cursor}
 use Rattle.ca_node.specs.Inventory.{IsListed}
-use Rattle.ca_node.specs.Place.{HasKey}
+use Rattle.ca_node.specs.Place.{Span, HasKey}
+use Rattle.ca_node.specs.Tree.{StartsWith}
+use Rattle.ca_node.specs.Walking.{IsBegin}
 use Rattle.ca_base.specs.Counting.{losses, HasMet, HasStoppedBy}
 use Rattle.ca_node.specs.Told.{IsKnown, MyTree}
-use Rattle.ca_node.specs.States.{HasState, IsAlone, OfSomeState}
+use Rattle.ca_node.specs.States.{HasState, IsAlone, IsUnanswered, OfSomeState}
 use Rattle.ca_node.specs.TreeView.{TreeView}
 use Rattle.ca_model.specs.declared.outcome.Cause.{Cause}
 use Rattle.ca_model.specs.declared.outcome.Cause.TheVariants as refusal
@@ -34,6 +36,13 @@ pub record IsLooking (z : Sizes) (u : TreeView) (key : List ℕ) (cursor : Curso
   pub has : HasState z u (first_note u.notes)
   pub known : IsKnown z u
   pub listed : IsAlone z u → IsListed u.inventory (first_note u.notes)
+  -- Another walk to such a key may begin with the cursor's link.
+  pub begins : IsBegin z u (first_note u.notes).place.span cursor
+
+-- An attempt may begin with this cursor's link, if there is one, and else at the root: the key is led there.
+abbrev pub BeginsAt : Sizes → List ℕ → TreeView → Option Cursor → Type 0
+BeginsAt z key u None = Unit {0}
+BeginsAt z key u (Some cursor) = (span : Span) × IsBegin z u span cursor × HasKey span key
 
 -- The key's object was copied, or there is none.
 abbrev pub HasFetched : Sizes → TreeView → List ℕ → Result ℕ ℕ → List ℕ → Type 0
@@ -52,6 +61,25 @@ HasDoneSuch tells u v = (event : Event) × tells event × HasDone event u v
 abbrev pub HasTriedTo : {T : Type 0} → (T → Event → Type 0) → Sizes → Result T Halt → TreeView → TreeView → Type 0
 HasTriedTo tells z (Ok x) u v = HasDoneSuch (tells x) u v × IsKnown z v
 HasTriedTo tells z (Err why) u v = IsFurther u v × IsKnown z v
+
+-- what the pass knew of the history as it was pinned
+abbrev pub at_pin : TreeView → TreeView
+at_pin u = record u { seen = u.since }
+
+-- Since it was pinned the pass learnt of others' edits alone.
+pub record IsAsking (u : TreeView) : Type 0 where
+  pub before : StartsWith u.seen u.since
+  pub unanswered : IsUnanswered u
+
+-- The attempt did the call, which is told so, at a place that isn't before the pin; or it came to a stop, and learnt of others' edits alone.
+abbrev pub HasTriedSince : {T : Type 0} → (T → Event → Type 0) → Sizes → Result T Halt → TreeView → TreeView → Type 0
+HasTriedSince tells z (Ok x) u v = HasDoneSuch (tells x) (at_pin u) v × IsKnown z v
+HasTriedSince tells z (Err why) u v = IsFurther u v × IsKnown z v
+
+-- Where an attempt came to a stop another one may follow under the same pin, which begins so.
+abbrev pub StaysAt : {T : Type 0} → Sizes → List ℕ → Result T Halt → TreeView → TreeView → Option Cursor → Type 0
+StaysAt z key (Ok x) u v again = Unit {0}
+StaysAt z key (Err why) u v again = (v.since ≡ u.since) × BeginsAt z key v again
 
 -- what an attempt comes to that tried to split a full base, given what became of it
 abbrev pub split_to : {T : Type 0} → Result T Stop → Halt

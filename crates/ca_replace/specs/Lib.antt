@@ -1,5 +1,6 @@
 pub mod Adapting
 pub mod Attempting
+pub mod Between
 pub mod Called
 pub mod Causes
 pub mod Cutting

@@ -21,7 +21,7 @@ use crate::tree::Tree;
 use ca_adapt::{Adapted, Due, statistic_of, try_split};
 use ca_base::{Exchange, Stop, statistic_word};
 use ca_model::Spent;
-use ca_node::{Spot, TreePass, walk};
+use ca_node::{Cursor, Spot, TreePass, walk};
 
 /// What a store keeps of its last update: the new base's statistic, and what was done about that base.
 #[derive(Clone, Copy)]
@@ -42,6 +42,8 @@ pub(crate) struct Adapting {
 pub(crate) struct Course {
     pub(crate) adapting: Adapting,
     pub(crate) spent: Spent,
+    /// The cursor with whose link the next attempt begins, while the pass is pinned as it was as that link was loaded; none: it begins at the root.
+    pub(crate) again: Option<Cursor>,
 }
 
 /// A base that an update was to put in place: the update's key, and the base's row.
@@ -83,6 +85,7 @@ pub(crate) fn settle(
     ensures met { IsOk tried → IsCauseMet course.new.adapting.last.adapted (met_of (known pass.new)) (tree_of pass.new) }
     ensures settled { HasSettled (sizes tree.now.space) tree.now.tuning statistic tried course.old.adapting course.new.adapting (known pass.old) (known pass.new) }
     ensures counted { IsPaid course.old.spent course.new.spent (known pass.old) (known pass.new) }
+    ensures again { course.new.again ≡ course.old.again }
     ensures grows { IsAlone (sizes tree.now.space) (tree_of pass.old) → Grows 1 2 1 (tree_of pass.old) (tree_of pass.new) }
     ensures won { IsAlone (sizes tree.now.space) (tree_of pass.old) → IsOk tried → ((tree_of pass.new).lost ≡ (tree_of pass.old).lost)
         × ((tree_of pass.new).last.row ≡ (tree_of pass.new).renewal.new.row) }

@@ -7,9 +7,11 @@ ghost use Rattle.ca_node.specs.Row.{pair};
 ghost use Rattle.ca_replace.specs.declared.attempting.Halt.TheVariants.{Deep as IsDeep, Split as IsSplit};
 ghost use Rattle.ca_replace.specs.Causes.{IsFullSince};
 ghost use Rattle.ca_replace.specs.Cutting.{IsFullFor};
-ghost use Rattle.ca_replace.specs.Attempting.{IsLooking, HasFetched, HasSeenAlike, HasTriedTo, come_to, split_to};
+ghost use Rattle.ca_replace.specs.Attempting.{BeginsAt, IsAsking, IsLooking, HasFetched, HasSeenAlike, HasTriedSince, HasTriedTo, StaysAt, come_to, split_to};
 ghost use Rattle.ca_node.specs.Told.{IsKnown};
-ghost use Rattle.ca_node.specs.States.{IsAtPin, IsUnanswered};
+ghost use Rattle.ca_node.specs.Walking.{IsWalked};
+ghost use Rattle.ca_node.specs.declared.cursor.Spot.TheVariants.{At as IsAt};
+ghost use Rattle.ca_node.specs.States.{IsUnanswered};
 ghost use Rattle.ca_base.specs.Progress.{IsFurther};
 ghost use Rattle.ca_base.specs.Putting.{object_at, IsRoom, IsFor};
 ghost use Rattle.ca_base.specs.Targets.{IsKeyed, event_of, key_in};
@@ -17,7 +19,7 @@ ghost use Rattle.ca_rows.specs.declared.sizes.Sizes.{Sizes};
 ghost use Rattle.ca_rows.specs.Told.{met_of};
 ghost use Rattle.ca_replace.specs.Looking.{HasLooked};
 ghost use Rattle.ca_replace.specs.Turning.{IsTurn, course_after};
-ghost use Rattle.ca_rows.specs.Passes.{IsReading, sizes, known};
+ghost use Rattle.ca_rows.specs.Passes.{IsReading, KeepsList, sizes, known};
 ghost use Rattle.ca_node.specs.TreePasses.{tree_of};
 ghost use Rattle.ca_base.specs.Readiness.{IsReady, StaysReady, shown_last};
 
@@ -27,7 +29,7 @@ use crate::tree::Tree;
 use ca_adapt::{first_attempt, word_of};
 use ca_base::{Insertion, Removal, Stop, Target, count, put_at, remove_at, search, split_at};
 use ca_model::Code;
-use ca_node::{Cursor, Spot, TreePass, TreeSpace, walk};
+use ca_node::{Cursor, Spot, TreePass, TreeSpace, walk, walk_from};
 
 /// Why an attempt came to nothing.
 #[derive(Clone, Copy)]
@@ -63,7 +65,11 @@ pub(crate) trait Attempt {
     /// Whether the call edits the map, given its answer.
     ghost edits: { Self → Self.Answer → Bool };
 
-    /// One attempt, of a pass that is pinned and holds no row.
+    /// The key that the call is about.
+    ghost about: { Self → List ℕ };
+
+    /// One attempt, of a pass that is pinned, holds no row, and answered no call since it pinned. It begins at the root, or with the link that the course
+    /// names; where it comes to nothing, another one may begin so while the pass is pinned.
     fn attempt(
         &self,
         tree: &Tree,
@@ -75,24 +81,47 @@ pub(crate) trait Attempt {
         requires ready { IsReady tree.now.space pass.old }
         requires may { may self.now (sizes tree.now.space) }
         requires known { IsKnown (sizes tree.now.space) (tree_of pass.old) }
-        requires first { IsAtPin (tree_of pass.old) }
+        requires asking { IsAsking (tree_of pass.old) }
+        requires begins { BeginsAt (sizes tree.now.space) (about self.now) (tree_of pass.old) course.old.again }
         ensures frame { StaysReady tree.now.space pass.old pass.new }
-        ensures tried { HasTriedTo (λ answer. tells self.now answer left.new) (sizes tree.now.space) result (tree_of pass.old) (tree_of pass.new) }
+        ensures tried { HasTriedSince (λ answer. tells self.now answer left.new) (sizes tree.now.space) result (tree_of pass.old) (tree_of pass.new) }
+        ensures stays { StaysAt (sizes tree.now.space) (about self.now) result (tree_of pass.old) (tree_of pass.new) course.new.again }
         ensures deep { result ≡ Err IsDeep → IsFullSince (sizes tree.now.space) (adds self.now) (tree_of pass.new) }
         ensures turn { IsTurn (edits self.now) (adds self.now) (sizes tree.now.space) tree.now.tuning course.old course.new (met_of (known pass.new)) result
             (known pass.old) (known pass.new) };
 }
 
-/// The base that has the key, and the key's place among its objects. It is shown to the pass, which has seen the whole history then.
-pub(crate) fn find(space: &TreeSpace, pass: &mut TreePass, key: &[u8]) -> (Cursor, Result<u32, u32>)
+/// The base that has the key, and the key's place among its objects. It is shown to the pass, which has seen the whole history then. The walk begins with
+/// the link of this cursor, if there is one, to which the key is led, and else at the root.
+pub(crate) fn find(
+    space: &TreeSpace,
+    pass: &mut TreePass,
+    key: &[u8],
+    again: Option<Cursor>,
+) -> (Cursor, Result<u32, u32>)
     requires reading { IsReading space.now pass.old }
     requires leaf { (sizes space.now).leaf ≤ 120 }
     requires unanswered { IsUnanswered (tree_of pass.old) }
+    requires begins { BeginsAt (sizes space.now) key.now (tree_of pass.old) again }
     ensures looked { HasLooked space.now key.now result.0 result.1 pass.old pass.new }
 {
-    let cursor = walk(space, pass, Spot::At(key));
+    let cursor = walk_again(space, pass, key, again);
     let place = search(space, pass, cursor.base, key);
     (cursor, place)
+}
+
+// Walks to the base that has the key, from the link of this cursor, if there is one, or from the root.
+fn walk_again(space: &TreeSpace, pass: &mut TreePass, key: &[u8], again: Option<Cursor>) -> Cursor
+    requires reading { IsReading space.now pass.old }
+    requires begins { BeginsAt (sizes space.now) key.now (tree_of pass.old) again }
+    ensures frame { KeepsList pass.old pass.new }
+    ensures walked { IsWalked (sizes space.now) (IsAt key.entry) (known pass.old) result (known pass.new) }
+{
+    let spot = Spot::At(key);
+    match again {
+        Some(from) => walk_from(space, pass, from, spot),
+        None => walk(space, pass, spot),
+    }
 }
 
 /// The base that has the key, and the key's place among its objects; then `old` is the key's object, or it is empty where there is none.
@@ -100,15 +129,17 @@ pub(crate) fn fetch(
     space: &TreeSpace,
     pass: &mut TreePass,
     key: &[u8],
+    again: Option<Cursor>,
     old: &mut Code,
 ) -> (Cursor, Result<u32, u32>)
     requires reading { IsReading space.now pass.old }
     requires leaf { (sizes space.now).leaf ≤ 120 }
     requires unanswered { IsUnanswered (tree_of pass.old) }
+    requires begins { BeginsAt (sizes space.now) key.now (tree_of pass.old) again }
     ensures looked { HasLooked space.now key.now result.0 result.1 pass.old pass.new }
     ensures fetched { HasFetched (sizes space.now) (tree_of pass.new) key.now result.1 old.new.items }
 {
-    let (cursor, place) = find(space, pass, key);
+    let (cursor, place) = find(space, pass, key, again);
     match place {
         Ok(at) => copy_at(space, pass, cursor.base, at, old),
         Err(_between) => old.clear(),
@@ -132,6 +163,7 @@ pub(crate) fn put_there(
     ensures frame { StaysReady tree.now.space pass.old pass.new }
     ensures tried { HasTriedTo (λ _ event. event ≡ event_of insertion.now (shown_last pass.old).objects) (sizes tree.now.space) result (tree_of pass.old)
         (tree_of pass.new) }
+    ensures stays { StaysAt (sizes tree.now.space) (key_in insertion.now.keyed) result (tree_of pass.old) (tree_of pass.new) course.new.again }
     ensures deep { OnOk insertion.now.place (result ≢ Err IsDeep) }
     ensures no_split { OnOk insertion.now.place (result ≢ Err IsSplit) }
     ensures full { result ≡ Err IsDeep → IsFullSince (sizes tree.now.space) (Some (key_in insertion.now.keyed)) (tree_of pass.new) }
@@ -151,6 +183,7 @@ pub(crate) fn put_there(
         statistic: word_of(statistic),
     };
     let mut row = 0;
+    course.again = Some(cursor);
     let spent = &mut course.spent;
     let tried = put_at(space, pass, &target, insertion, &mut row, spent);
     let keyed = insertion.keyed;
@@ -172,11 +205,14 @@ fn make_room(
     ensures frame { StaysReady tree.now.space pass.old pass.new }
     ensures further { IsFurther (tree_of pass.old) (tree_of pass.new) × IsKnown (sizes tree.now.space) (tree_of pass.new) }
     ensures same_seen { HasSeenAlike (tree_of pass.old) (tree_of pass.new) }
+    ensures stays { (key : List ℕ) → IsLooking (sizes tree.now.space) (tree_of pass.old) key cursor → StaysAt {T = Unit {0}} (sizes tree.now.space) key (Err result)
+        (tree_of pass.old) (tree_of pass.new) course.new.again }
     ensures deep { result ≡ IsDeep → (sizes tree.now.space).levels ≤ (shown_last pass.old).place.level }
     ensures turn { (key : List ℕ) → IsLooking (sizes tree.now.space) (tree_of pass.old) key cursor
         → IsFullFor (sizes tree.now.space) (Some key) (shown_last pass.old) → IsTurn {T = Unit {0}} (λ _. true) (Some key) (sizes tree.now.space)
         tree.now.tuning course.old course.new (met_of (known pass.new)) (Err result) (known pass.old) (known pass.new) }
 {
+    course.again = Some(cursor);
     if cursor.level >= tree.tuning.levels {
         return Halt::Deep;
     }
@@ -221,6 +257,7 @@ pub(crate) fn remove_there(
     ensures frame { StaysReady tree.now.space pass.old pass.new }
     ensures tried { HasTriedTo (λ _ event. event ≡ Remove removal.now.key.now (Some (object_at (Ok removal.now.at) (shown_last pass.old).objects))) (sizes tree.now.space) result
         (tree_of pass.old) (tree_of pass.new) }
+    ensures stays { StaysAt (sizes tree.now.space) removal.now.key.now result (tree_of pass.old) (tree_of pass.new) course.new.again }
     ensures deep { result ≢ Err IsDeep }
     ensures turn { IsTurn (λ _. true) None (sizes tree.now.space) tree.now.tuning course.old course.new (met_of (known pass.new)) result
         (known pass.old) (known pass.new) }
@@ -235,6 +272,7 @@ pub(crate) fn remove_there(
         statistic: word_of(statistic),
     };
     let mut row = 0;
+    course.again = Some(cursor);
     let spent = &mut course.spent;
     let tried = remove_at(space, pass, &target, removal, &mut row, spent);
     let key = removal.key;

@@ -10,7 +10,8 @@ ghost use Rattle.ca_replace.specs.Causes.{EndsAtLag, HasPinned, IsCaused, IsFull
 ghost use Rattle.ca_replace.specs.Seen.{store_of};
 ghost use Rattle.ca_base.specs.Progress.{IsRefused};
 ghost use Rattle.ca_model.specs.Known.{one_more};
-ghost use Rattle.ca_replace.specs.Turning.{AreTurns, IsTurn};
+ghost use Rattle.ca_replace.specs.Turning.{AreTurns};
+ghost use Rattle.ca_replace.specs.Between.{GoesOn, MayBegin};
 ghost use Rattle.ca_rows.specs.Passes.{sizes, known, view};
 ghost use Rattle.ca_node.specs.TreePasses.{tree_of};
 ghost use Rattle.ca_replace.specs.Resting.{IsAtRest, StaysAtRest};
@@ -20,9 +21,12 @@ use crate::attempting::{Attempt, Halt};
 use crate::giving::{add, keep_few, refill, spent_in_all};
 use crate::refusing::{outcome_by, refuse};
 use crate::tree::Tree;
-use ca_base::Stop;
+use ca_base::{Exchange, Stop};
 use ca_model::{Cause, Code, Counter, Outcome, Spent};
 use ca_node::TreePass;
+
+// So many attempts are made under one pin at most, so that a call that loses many doesn't hold back the epoch.
+const ATTEMPTS_OF_A_PIN: u8 = 16;
 
 /// A call that is to be made, and by how many turns it may be lost.
 #[derive(Drop)]
@@ -70,6 +74,7 @@ pub(crate) fn call<A: Attempt>(
             helped: 0,
             passed: 0,
         },
+        again: None,
     };
     match attempts(tree, pass, order, left, room, &mut course) {
         Ok(answer) => {
@@ -149,7 +154,8 @@ fn or_refusal<T>(tried: Result<T, Halt>, spent: Spent, levels: u16) -> Result<T,
     }
 }
 
-// Attempts, until one isn't lost to another pass and doesn't split a full base, or the budget is spent. What the last one comes to is the answer.
+// Attempts, until one isn't lost to another pass and doesn't split a full base, or the budget is spent. What the last one comes to is the answer. One that
+// lost the exchange of its link is followed by one that begins with this link, under the same pin, and any other one by one that begins at the root.
 fn turns<A: Attempt>(
     tree: &Tree,
     pass: &mut TreePass,
@@ -171,12 +177,20 @@ fn turns<A: Attempt>(
     ensures turns { AreTurns (A.edits order.now.what.now) (A.adds order.now.what.now) (sizes tree.now.space) tree.now.tuning course.old course.new
         (view pass.new).pin.left result (known pass.old) (known pass.new) }
 {
+    let space = &tree.space;
     let budget = order.budget();
+    let mut made = 0_u8;
+    space.pin(pass);
+    course.again = None;
     loop {
-        let tried = once(tree, pass, order.what, left, room, course);
+        let tried = order.what.attempt(tree, pass, left, room, course);
         if !has_next(&tried) || spent_in_all(&course.spent) >= budget {
+            space.unpin(pass);
             return tried;
         }
+        made = made.wrapping_add(1);
+        let anew = !has_lost_link(&tried) || made % ATTEMPTS_OF_A_PIN == 0;
+        go_on(tree, pass, order, anew, course);
     }
 }
 
@@ -187,29 +201,29 @@ fn has_next<T>(tried: &Result<T, Halt>) -> bool
     matches!(tried, Err(Halt::Split | Halt::Stopped(Stop::Lost(_))))
 }
 
-// One attempt of a call, while the pass is pinned.
-fn once<A: Attempt>(
+// Whether an attempt lost the exchange of its link.
+fn has_lost_link<T>(tried: &Result<T, Halt>) -> bool {
+    matches!(tried, Err(Halt::Stopped(Stop::Lost(Exchange::Link))))
+}
+
+// What comes between two attempts: where the next one is to begin anew, the pass pins anew, and remembers no link.
+fn go_on<A: Attempt>(
     tree: &Tree,
     pass: &mut TreePass,
-    what: &A,
-    left: &mut A::Left,
-    room: &mut A::Room,
+    order: &Order<'_, A>,
+    anew: bool,
     course: &mut Course,
-) -> Result<A::Answer, Halt>
-    requires resting { IsAtRest tree.now.space pass.old }
-    requires may { A.may what.now (sizes tree.now.space) }
-    ensures frame { StaysAtRest tree.now.space pass.old pass.new }
-    ensures tried { HasTriedTo (λ answer. A.tells what.now answer left.new) (sizes tree.now.space) result (tree_of pass.old) (tree_of pass.new) }
-    ensures deep { result ≡ Err IsDeep → IsFullSince (sizes tree.now.space) (A.adds what.now) (tree_of pass.new) }
-    ensures pinned { HasPinned (known pass.old) (known pass.new) }
-    ensures turn { IsTurn (A.edits what.now) (A.adds what.now) (sizes tree.now.space) tree.now.tuning course.old course.new (view pass.new).pin.left result
-        (known pass.old) (known pass.new) }
+)
+    requires may { MayBegin tree.now.space (A.about order.now.what.now) course.old.again pass.old }
+    ensures may { MayBegin tree.now.space (A.about order.now.what.now) course.new.again pass.new }
+    ensures still { GoesOn pass.old pass.new }
+    ensures course { (course.new.adapting ≡ course.old.adapting) × (course.new.spent ≡ course.old.spent) }
 {
-    let space = &tree.space;
-    space.pin(pass);
-    let tried = what.attempt(tree, pass, left, room, course);
-    space.unpin(pass);
-    tried
+    if anew {
+        tree.space.unpin(pass);
+        tree.space.pin(pass);
+        course.again = None;
+    }
 }
 
 // Counts a refusal.

@@ -34,6 +34,8 @@ impl<F: Fn(&[u8], &mut Code, &mut usize) -> bool> Attempt for ChangeCall<'_, F> 
 
     ghost edits = { λ call changed. is_put changed };
 
+    ghost about = { λ call. call.key.now };
+
     fn attempt(
         &self,
         tree: &Tree,
@@ -43,7 +45,7 @@ impl<F: Fn(&[u8], &mut Code, &mut usize) -> bool> Attempt for ChangeCall<'_, F> 
         course: &mut Course,
     ) -> Result<Changed, Halt> {
         let (key, f) = (self.key, self.f);
-        let (cursor, place) = fetch(&tree.space, pass, key, old);
+        let (cursor, place) = fetch(&tree.space, pass, key, course.again, old);
         let Ok(at) = place else {
             enter(&tree.space, pass, cursor.base, Read::NothingToChange(key));
             return Ok(Changed::Absent);

@@ -37,6 +37,8 @@ impl Attempt for PutCall<'_> {
 
     ghost edits = { λ call _. true };
 
+    ghost about = { λ call. key_in call.keyed };
+
     fn attempt(
         &self,
         tree: &Tree,
@@ -47,7 +49,7 @@ impl Attempt for PutCall<'_> {
     ) -> Result<(), Halt> {
         let keyed = self.keyed;
         let key = &keyed.object[keyed.key_at..keyed.key_end];
-        let (cursor, place) = find(&tree.space, pass, key);
+        let (cursor, place) = find(&tree.space, pass, key, course.again);
         let why = Putting::Put;
         let insertion = Insertion { keyed, why, place };
         put_there(tree, pass, cursor, &insertion, course)
@@ -69,6 +71,8 @@ impl Attempt for PutNewCall<'_> {
 
     ghost edits = { λ call new. new };
 
+    ghost about = { λ call. key_in call.keyed };
+
     fn attempt(
         &self,
         tree: &Tree,
@@ -79,7 +83,7 @@ impl Attempt for PutNewCall<'_> {
     ) -> Result<bool, Halt> {
         let keyed = self.keyed;
         let key = &keyed.object[keyed.key_at..keyed.key_end];
-        let (cursor, place) = find(&tree.space, pass, key);
+        let (cursor, place) = find(&tree.space, pass, key, course.again);
         if place.is_ok() {
             let read = Read::NotNew(key, keyed.object);
             enter(&tree.space, pass, cursor.base, read);

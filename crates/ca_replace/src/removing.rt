@@ -33,6 +33,8 @@ impl Attempt for RemoveCall<'_> {
 
     ghost edits = { λ call was. was };
 
+    ghost about = { λ call. call.key.now };
+
     fn attempt(
         &self,
         tree: &Tree,
@@ -42,7 +44,7 @@ impl Attempt for RemoveCall<'_> {
         course: &mut Course,
     ) -> Result<bool, Halt> {
         let key = self.key;
-        let (cursor, place) = fetch(&tree.space, pass, key, old);
+        let (cursor, place) = fetch(&tree.space, pass, key, course.again, old);
         let Ok(at) = place else {
             enter(&tree.space, pass, cursor.base, Read::NothingToRemove(key));
             return Ok(false);
@@ -77,6 +79,8 @@ impl<F: Fn(&[u8]) -> bool> Attempt for RemoveIfCall<'_, F> {
 
     ghost edits = { λ call changed. is_put changed };
 
+    ghost about = { λ call. call.key.now };
+
     fn attempt(
         &self,
         tree: &Tree,
@@ -86,7 +90,7 @@ impl<F: Fn(&[u8]) -> bool> Attempt for RemoveIfCall<'_, F> {
         course: &mut Course,
     ) -> Result<Changed, Halt> {
         let (key, f) = (self.key, self.f);
-        let (cursor, place) = fetch(&tree.space, pass, key, old);
+        let (cursor, place) = fetch(&tree.space, pass, key, course.again, old);
         let Ok(at) = place else {
             enter(&tree.space, pass, cursor.base, Read::GotNothing(key));
             return Ok(Changed::Absent);

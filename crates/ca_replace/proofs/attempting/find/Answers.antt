@@ -11,10 +11,10 @@ use Rattle.ca_replace.proofs.attempting.find.Goals as goal
 
 pub search-place-requires-clause-readable : goal.search-place-requires-clause-readable
 search-place-requires-clause-readable c = (
-  first_note c.walk-cursor.new.pass.seat.me.0.upper.notes,
+  first_note c.walk_again-cursor.new.pass.seat.me.0.upper.notes,
   (looking c.args.space.now.table.shared.key c.args.key c.args.pass.now.seat.me
-      c.walk-cursor.new.pass.seat.me c.walk-cursor.result
-      c.walk-cursor.ensures.walked c.requires.leaf).readable,
+      c.walk_again-cursor.new.pass.seat.me c.walk_again-cursor.result
+      c.walk_again-cursor.ensures.walked c.requires.leaf).readable,
 )
 
 pub returns : goal.returns
@@ -23,41 +23,41 @@ returns c = record {
     same = search rules;
     number = search rules;
     tally = λ h.
-        tallied_as c.walk-cursor.new.pass.tally c.search-place.new.pass.tally
-        c.walk-cursor.new.pass.seat.me.0.upper
+        tallied_as c.walk_again-cursor.new.pass.tally c.search-place.new.pass.tally
+        c.walk_again-cursor.new.pass.seat.me.0.upper
         c.search-place.new.pass.seat.me.0.upper c.search-place.ensures.frame.tally (ap
         (λ (m : MyTree). m.0.upper) c.search-place.ensures.frame.still)
         (tallied_walk c.args.space.now.table.shared.key _ c.args.pass.now.seat.me
-        c.walk-cursor.new.pass.seat.me c.walk-cursor.result c.args.pass.now.tally
-        c.walk-cursor.new.pass.tally c.walk-cursor.ensures.walked c.walk-cursor.ensures.frame.tally
+        c.walk_again-cursor.new.pass.seat.me c.walk_again-cursor.result c.args.pass.now.tally
+        c.walk_again-cursor.new.pass.tally c.walk_again-cursor.ensures.walked c.walk_again-cursor.ensures.frame.tally
         h);
     kept = search rules;
     still = search rules;
     quiet = search rules;
     looking = let z = c.args.space.now.table.shared.key in
-        subst (λ (m : MyTree). IsLooking z m.0.upper c.args.key.now c.walk-cursor.result)
+        subst (λ (m : MyTree). IsLooking z m.0.upper c.args.key.now c.walk_again-cursor.result)
         (sym c.search-place.ensures.frame.still)
-        (looking z c.args.key c.args.pass.now.seat.me c.walk-cursor.new.pass.seat.me
-        c.walk-cursor.result c.walk-cursor.ensures.walked c.requires.leaf);
+        (looking z c.args.key c.args.pass.now.seat.me c.walk_again-cursor.new.pass.seat.me
+        c.walk_again-cursor.result c.walk_again-cursor.ensures.walked c.requires.leaf);
     place = let z = c.args.space.now.table.shared.key in
-        place_still z c.walk-cursor.new.pass.seat.me c.search-place.new.pass.seat.me
-        c.walk-cursor.result c.args.key.now c.search-place.result
+        place_still z c.walk_again-cursor.new.pass.seat.me c.search-place.new.pass.seat.me
+        c.walk_again-cursor.result c.args.key.now c.search-place.result
         c.search-place.ensures.frame.still
-        (looking z c.args.key c.args.pass.now.seat.me c.walk-cursor.new.pass.seat.me
-        c.walk-cursor.result c.walk-cursor.ensures.walked c.requires.leaf)
+        (looking z c.args.key c.args.pass.now.seat.me c.walk_again-cursor.new.pass.seat.me
+        c.walk_again-cursor.result c.walk_again-cursor.ensures.walked c.requires.leaf)
         c.search-place.ensures.place;
     further = subst
         (λ (m : MyTree). IsFurther c.args.pass.now.seat.me.0.upper m.0.upper)
         (sym c.search-place.ensures.frame.still)
         (walked_further c.args.space.now.table.shared.key _ c.args.pass.now.seat.me
-        c.walk-cursor.new.pass.seat.me c.walk-cursor.result
-        c.walk-cursor.ensures.walked);
+        c.walk_again-cursor.new.pass.seat.me c.walk_again-cursor.result
+        c.walk_again-cursor.ensures.walked);
     since = ap (λ (m : MyTree). m.0.upper.since) c.search-place.ensures.frame.still
-        ∙ ap (λ (m : MyTree). m.0.upper.since) c.walk-cursor.ensures.walked.now;
+        ∙ ap (λ (m : MyTree). m.0.upper.since) c.walk_again-cursor.ensures.walked.now;
     unanswered = subst (λ (m : MyTree). IsUnanswered m.0.upper)
         (sym c.search-place.ensures.frame.still)
         (walked_unanswered c.args.space.now.table.shared.key _ c.args.pass.now.seat.me
-        c.walk-cursor.new.pass.seat.me c.walk-cursor.result c.walk-cursor.ensures.walked
+        c.walk_again-cursor.new.pass.seat.me c.walk_again-cursor.result c.walk_again-cursor.ensures.walked
         c.requires.unanswered);
   };
 }

@@ -2,7 +2,10 @@ use Rattle.ca_replace.specs.declared.attempting.Halt.{Halt}
 use Rattle.ca_replace.proofs.Tuning.{tuned_on}
 use Rattle.ca_replace.proofs.FullBases.{room_found, room_paid, room_waits}
 use Rattle.ca_replace.proofs.GoingOn.{split_further}
-use Rattle.std.proofs.Common.{true, Err, Some, refl, sym, subst, arith}
+use Rattle.std.proofs.Common.{◌≡◌, true, Err, Option, Some, refl, sym, ap, ◌∙◌, subst, arith}
+use Rattle.ca_node.specs.declared.cursor.Cursor.{Cursor}
+use Rattle.ca_replace.specs.Attempting.{BeginsAt}
+use Rattle.ca_replace.proofs.Again.{again_after, deep_stays, split_alike, split_stays}
 use Rattle.ca_replace.proofs.Growing.{made_room}
 use Rattle.ca_replace.proofs.Showing.{shown_last}
 use Rattle.ca_replace.proofs.Cutting.{made_cut}
@@ -33,7 +36,10 @@ pub returns-clause-turn : goal.returns-clause-turn
 returns-clause-turn c key looking full = let z = c.args.tree.now.space.table.shared.key in
     let m = c.args.pass.now.seat.me in let m' = c.split_at-split.new.pass.seat.me in
     let r = c.split_at-split.result in let split = c.split_at-split.ensures.split in
-    let course = record c.args.course.now { spent = c.split_at-split.new.spent } in
+    let course = record c.args.course.now {
+      spent = c.split_at-split.new.spent;
+      again = Some c.args.cursor;
+    } in
     let least = (tuned_on c.args.tree.now).allowed.least_leaf in
     let leaf = (tuned_on c.args.tree.now).leaf in let over = c.requires.many.1 in
     subst (λ (x : Halt × Course). IsTurn {T = Unit {0}} (λ _. true) (Some key) z
@@ -52,3 +58,24 @@ returns-clause-turn c key looking full = let z = c.args.tree.now.space.table.sha
       cut = made_cut (λ (_ : Unit {0}). true) z (Some key) c.args.many _ r m.0.upper m'.0.upper
           full c.requires.many.0 c.first_attempt.ensures.value split;
     }
+
+pub returns-clause-stays : goal.returns-clause-stays
+returns-clause-stays c key looking = let z = c.args.tree.now.space.table.shared.key in
+    let u = c.args.pass.now.seat.me.0.upper in let v = c.split_at-split.new.pass.seat.me.0.upper in
+    let r = c.split_at-split.result in
+    let course = record c.args.course.now {
+      spent = c.split_at-split.new.spent;
+      again = Some c.args.cursor;
+    } in
+    subst (λ (again : Option Cursor). (v.since ≡ u.since) × BeginsAt z key v again)
+    (sym (ap (λ (x : Course). x.again) c.note_split.ensures ∙ again_after r course))
+    (split_stays z key c.args.cursor c.args.many _ r u v looking c.split_at-split.ensures.split)
+
+pub returns-then-cursor-tree-clause-stays : goal.returns-then-cursor-tree-clause-stays
+returns-then-cursor-tree-clause-stays c key looking = deep_stays c.args.tree.now.space.table.shared.key
+    key c.args.cursor c.args.pass.now.seat.me.0.upper looking
+
+pub returns-clause-same_seen : goal.returns-clause-same_seen
+returns-clause-same_seen c = split_alike c.args.many _ c.split_at-split.result
+    c.args.pass.now.seat.me.0.upper c.split_at-split.new.pass.seat.me.0.upper
+    c.split_at-split.ensures.split

@@ -1,4 +1,6 @@
-use Rattle.std.proofs.Common.{◌≡◌, ◌≤◌, ℕ, ℤ, Result, OnOk, Ok, Err, Some, get_or, to_z, of_z, w32, Bool, true, false, length, sym, ap, ◌∙◌, subst, arith, ◌<◌, [], map, rules}
+use Rattle.ca_node.specs.declared.cursor.Cursor.{Cursor}
+use Rattle.ca_replace.proofs.Again.{settled_stays}
+use Rattle.std.proofs.Common.{◌≡◌, Option, ◌≤◌, ℕ, ℤ, Result, OnOk, Ok, Err, Some, get_or, to_z, of_z, w32, Bool, true, false, length, sym, ap, ◌∙◌, subst, arith, ◌<◌, [], map, rules}
 use Rattle.std.proofs.lemmas.Int.{ints, to_z-of_z}
 use Rattle.ca_replace.specs.declared.attempting.Halt.{Halt}
 use Rattle.ca_replace.specs.declared.attempting.Halt.TheVariants as halt
@@ -25,7 +27,7 @@ use Rattle.ca_replace.proofs.Winning.{settled_won}
 use Rattle.ca_node.specs.Row.{pair}
 use Rattle.ca_base.specs.Progress.{IsFurther}
 use Rattle.ca_model.specs.Places.{IsPlace}
-use Rattle.ca_replace.specs.Attempting.{IsLooking}
+use Rattle.ca_replace.specs.Attempting.{IsLooking, StaysAt}
 use Rattle.ca_rows.specs.declared.view.Pin.{Pin}
 use Rattle.ca_replace.proofs.Entries.{held_looked}
 use Rattle.ca_replace.proofs.Numbering.{numbered_as}
@@ -437,3 +439,20 @@ returns-then-not-has_room-clause-turn c = let z = c.args.tree.now.space.table.sh
     c.requires.looking)
     (subst (λ (m : MyTree). IsFullFor z (Some key) (first_note m.0.upper.notes)) (sym still)
     full))
+
+pub returns-clause-stays : goal.returns-clause-stays
+returns-clause-stays c = subst
+    (λ (again : Option Cursor). StaysAt c.args.tree.now.space.table.shared.key
+    (key_in c.args.insertion.now.keyed) c.settle.result c.args.pass.now.seat.me.0.upper
+    c.settle.new.pass.seat.me.0.upper again) (sym c.settle.ensures.again)
+    (settled_stays c.put_at-tried.result (key_in c.args.insertion.now.keyed) c.args.cursor (settling c)
+    c.requires.looking)
+
+pub returns-then-not-has_room-clause-stays : goal.returns-then-not-has_room-clause-stays
+returns-then-not-has_room-clause-stays c = let z = c.args.tree.now.space.table.shared.key in
+    let key = key_in c.args.insertion.now.keyed in let still = c.count-many.ensures.frame.still in
+    subst (λ (m : MyTree). StaysAt {T = Unit {0}} z key (Err c.make_room.result) m.0.upper
+    c.make_room.new.pass.seat.me.0.upper c.make_room.new.course.again) still
+    (c.make_room.ensures.stays key
+    (subst (λ (m : MyTree). IsLooking z m.0.upper key c.args.cursor) (sym still)
+    c.requires.looking))

@@ -1,4 +1,6 @@
-use Rattle.std.proofs.Common.{◌≡◌, ℤ, get_or, to_z, of_z, w32, length, Ok, None, Some, sym, ap, ◌∙◌, subst, arith, ◌<◌, [], map, rules}
+use Rattle.ca_node.specs.declared.cursor.Cursor.{Cursor}
+use Rattle.ca_replace.proofs.Again.{settled_stays}
+use Rattle.std.proofs.Common.{◌≡◌, Option, ℤ, get_or, to_z, of_z, w32, length, Ok, None, Some, sym, ap, ◌∙◌, subst, arith, ◌<◌, [], map, rules}
 use Rattle.std.proofs.lemmas.Int.{ints, to_z-of_z}
 use Rattle.ca_model.specs.Event.{Remove}
 use Rattle.ca_model.specs.History.{Del}
@@ -8,6 +10,7 @@ use Rattle.ca_node.specs.Told.{MyTree}
 use Rattle.ca_node.specs.TreeView.{TreeView}
 use Rattle.ca_base.specs.Putting.{IsShownLast, first_note, object_at}
 use Rattle.ca_replace.specs.Adapting.{IsMoved, IsCauseMet}
+use Rattle.ca_replace.specs.Attempting.{StaysAt}
 use Rattle.ca_replace.proofs.Tuning.{tuned_on}
 use Rattle.ca_replace.proofs.Settling.{IsSettling}
 use Rattle.ca_replace.proofs.GoingOn.{is_new, known_then, settled_found, settled_on, settled_paid, settled_tried, tried_turns}
@@ -267,3 +270,11 @@ returns-clause-turn c = record {
       c.settle.ensures.won;
   cut = settled_cut (settling c) None c.settle.ensures.cut;
 }
+
+pub returns-clause-stays : goal.returns-clause-stays
+returns-clause-stays c = subst
+    (λ (again : Option Cursor). StaysAt c.args.tree.now.space.table.shared.key
+    c.args.removal.now.key.now c.settle.result c.args.pass.now.seat.me.0.upper
+    c.settle.new.pass.seat.me.0.upper again) (sym c.settle.ensures.again)
+    (settled_stays c.remove_at-tried.result c.args.removal.now.key.now c.args.cursor (settling c)
+    c.requires.looking)

@@ -1,181 +1,189 @@
-use Rattle.std.proofs.Common.{inl, inr, refl, ◌∙◌, arith}
-use Rattle.ca_base.proofs.Counts.{met_both}
-use Rattle.ca_replace.proofs.Counted.{met_turn, met_then, none_met, none_paid, one_turn_less, paid_both}
-use Rattle.ca_replace.proofs.GoingOn.{gone_on, idle_waits, turn_waits, waits_on}
+use Rattle.std.proofs.Common.{◌∙◌, ap, arith, refl, subst, sym}
+use Rattle.ca_node.specs.Told.{MyTree}
+use Rattle.ca_rows.specs.declared.view.Pin.{Pin}
+use Rattle.ca_replace.specs.Attempting.{at_pin, total}
+use Rattle.ca_replace.specs.Causes.{IsFullSince}
+use Rattle.ca_replace.proofs.Again.{known_since, may_follow, next_since, tried_since}
+use Rattle.ca_replace.proofs.Between.{announced, first_since, may_first}
+use Rattle.ca_replace.proofs.Counted.{met_then, met_turn, one_turn_less, paid_both}
 use Rattle.ca_replace.proofs.Meeting.{further_on}
-use Rattle.ca_replace.proofs.Pinning.{pinned_behind}
-use Rattle.ca_replace.proofs.Showing.{tried_on}
-use Rattle.ca_replace.proofs.Turns.{turn_further, no_further}
-use Rattle.ca_replace.proofs.Growing.{alone_on, one_more_attempt, turn_waited}
-use Rattle.ca_replace.proofs.Cutting.{none_full, one_more_cut, turn_cut}
-use Rattle.ca_replace.proofs.Winning.{turn_won, won_behind}
+use Rattle.ca_replace.proofs.Pinning.{pinned_as, pinned_once, pinned_still}
+use Rattle.ca_replace.proofs.Turns.{rests_again, rests_as, tried_unpinned, turn_further}
+use Rattle.ca_replace.proofs.Waiting.{moved_further, moved_quiet, turn_unpinned, turns_left, waits_more, waits_none, waits_quiet}
 use Rattle.ca_replace.proofs.calls.turns.Goals as goal
 
 pub loop-course-init : goal.loop-course-init
-loop-course-init g c = record {
-  number = refl;
-  resting = c.requires.resting;
-  further = no_further c.args.pass.now.seat.me.0.upper;
-  counted = none_paid c.args.course.now.spent c.args.pass.now.seat.me c.args.pass.now.seat.me refl
-      refl;
-  pinned = inl (refl, refl);
-  met = none_met c.args.pass.now.seat.me;
-  unspent = c.requires.unspent;
-  waits = idle_waits c.args.course.now.adapting c.args.pass.now.seat.me.0.upper
-      c.args.pass.now.seat.me.0.upper (refl, refl);
-  won = λ _. refl;
-  waited = λ _. inl (refl, refl);
-  full = none_full c.args.tree.now.space.table.shared.key
-      (g.A.Attempt.adds c.args.order.now.what.now) c.args.pass.now.seat.me.0.upper.cuts
-      c.args.pass.now.seat.me.0.upper.cuts refl;
-}
-
-pub once-tried-requires-clause-resting : goal.once-tried-requires-clause-resting
-once-tried-requires-clause-resting g c = c.loop-course.invariant.resting
-
-pub loop-course-preserved : goal.loop-course-preserved
-loop-course-preserved g c =
-    let tells = λ (x : _). g.A.Attempt.tells c.args.order.now.what.now x c.once-tried.new.left in
-    record {
-      number = c.once-tried.ensures.frame.number ∙ c.loop-course.invariant.number;
-      resting = c.once-tried.ensures.frame.resting;
-      further = further_on c.args.pass.now.seat.me.0.upper c.loop-course.pass.seat.me.0.upper
-          c.once-tried.new.pass.seat.me.0.upper c.loop-course.invariant.further
-          (turn_further tells c.args.tree.now.space.table.shared.key c.once-tried.result
-          c.loop-course.pass.seat.me.0.upper
-          c.once-tried.new.pass.seat.me.0.upper (c.if-not-has_next.ensures.0 refl)
-          c.once-tried.ensures.tried);
-      counted = paid_both c.args.course.now.spent c.loop-course.course.spent c.once-tried.new.course.spent
-          c.args.pass.now.seat.me c.loop-course.pass.seat.me
-          c.once-tried.new.pass.seat.me c.loop-course.invariant.counted c.once-tried.ensures.turn.counted;
-      unspent = let room = c.if-spent_in_all-budget.false in let all = c.spent_in_all.ensures in
-          let most = c.budget-budget.type_inv in let is = c.budget-budget.ensures in omega arith;
-      pinned = inr (pinned_behind c.args.pass.now.seat.me c.loop-course.pass.seat.me
-          c.once-tried.new.pass.seat.me
-          c.loop-course.invariant.pinned
-          c.once-tried.ensures.pinned);
-      met = met_both 0 0 0 0 c.args.pass.now.seat.me c.loop-course.pass.seat.me
-          c.once-tried.new.pass.seat.me c.loop-course.invariant.met
-          (met_turn c.once-tried.result c.loop-course.pass.seat.me c.once-tried.new.pass.seat.me
-          (c.if-not-has_next.ensures.0 refl) c.once-tried.ensures.turn.found).0;
-      waits = waits_on c.args.course.now.adapting c.loop-course.course.adapting
-          c.once-tried.new.course.adapting c.args.pass.now.seat.me.0.upper
-          c.loop-course.pass.seat.me.0.upper
-          c.once-tried.new.pass.seat.me.0.upper c.loop-course.invariant.waits
-          (turn_waits
-          (λ (x : _). g.A.Attempt.edits c.args.order.now.what.now x)
-          c.args.tree.now.space.table.shared.key c.args.tree.now.tuning c.loop-course.course.adapting
-          c.once-tried.new.course.adapting c.once-tried.result c.loop-course.pass.seat.me.0.upper
-          c.once-tried.new.pass.seat.me.0.upper
-          (c.if-not-has_next.ensures.0 refl) c.once-tried.ensures.turn.gone_on);
-      won = λ alone. turn_won
-          (λ (x : _). g.A.Attempt.edits c.args.order.now.what.now x) c.once-tried.result
-          c.args.pass.now.seat.me.0.upper
-          c.once-tried.new.pass.seat.me.0.upper (c.if-not-has_next.ensures.0 refl)
-          (won_behind
-          (λ (x : _). g.A.Attempt.edits c.args.order.now.what.now x) c.once-tried.result
-          c.args.pass.now.seat.me.0.upper
-          c.loop-course.pass.seat.me.0.upper c.once-tried.new.pass.seat.me.0.upper
-          (c.loop-course.invariant.won alone)
-          (c.once-tried.ensures.turn.won
-          (alone_on c.args.tree.now.space.table.shared.key c.args.pass.now.seat.me.0.upper
-          c.loop-course.pass.seat.me.0.upper
-          c.loop-course.invariant.further.number alone)));
-      waited = λ alone.
-          turn_waited c.args.tree.now.space.table.shared.key
-          (g.A.Attempt.adds c.args.order.now.what.now) c.once-tried.result
-          c.args.pass.now.seat.me.0.upper c.once-tried.new.pass.seat.me.0.upper
-          (c.if-not-has_next.ensures.0 refl)
-          (one_more_attempt tells c.args.tree.now.space.table.shared.key
-          (g.A.Attempt.adds c.args.order.now.what.now) c.once-tried.result
-          c.args.pass.now.seat.me.0.upper c.loop-course.pass.seat.me.0.upper
-          c.once-tried.new.pass.seat.me.0.upper c.requires.resting.known
-          c.loop-course.invariant.resting.known c.loop-course.invariant.further c.loop-course.invariant.waited
-          c.once-tried.ensures.tried
-          c.once-tried.ensures.turn.grown alone);
-      full = let edits = λ (x : _). g.A.Attempt.edits c.args.order.now.what.now x in
-          let z = c.args.tree.now.space.table.shared.key in
-          let adds = g.A.Attempt.adds c.args.order.now.what.now in
-          turn_cut edits z adds c.once-tried.result c.args.pass.now.seat.me.0.upper
-          c.once-tried.new.pass.seat.me.0.upper (c.if-not-has_next.ensures.0 refl)
-          (one_more_cut edits z adds c.once-tried.result c.args.pass.now.seat.me.0.upper
-          c.loop-course.pass.seat.me.0.upper
-          c.once-tried.new.pass.seat.me.0.upper c.loop-course.invariant.full
-          c.once-tried.ensures.turn.cut);
+loop-course-init g c = let z = c.args.tree.now.space.table.shared.key in
+    let k = c.args.pass.now.seat.me in let m = c.pin.new.pass.seat.me in
+    let is = c.pin.ensures.pinned.3 in
+    let pin = (announced c.pin.ensures.pinned.0 c.pin.ensures.pinned.1 k).0.pin in
+    let u = k.0.upper in record {
+      same = c.pin.ensures.frame.same;
+      number = c.pin.ensures.frame.number;
+      sizes = ap (λ (x : MyTree). x.0.sizes) is;
+      pin_number = ap (λ (x : MyTree). x.0.pin.number) is;
+      may = may_first c.args.tree.now.space c.args.pass.now c.pin.new.pass (g.A.Attempt.about c.args.order.now.what.now) c.pin.ensures.pinned.0
+          c.pin.ensures.pinned.1 c.requires.resting c.pin.ensures.frame.same
+          c.pin.ensures.frame.number c.pin.ensures.frame.kept c.pin.ensures.frame.tally is;
+      since = first_since k m pin u.notes u.ways is;
+      pinned = pinned_once k m (ap (λ (x : MyTree). x.0.pin.lags) is)
+          (ap (λ (x : MyTree). x.0.pin.looks) is)
+          (ap (λ (x : MyTree). x.0.pin.entered.lags) is)
+          (ap (λ (x : MyTree). x.0.pin.begun_at) is) (ap (λ (x : MyTree). x.0.pin.begun) is);
+      unspent = c.requires.unspent;
+      waiting = waits_none z (g.A.Attempt.adds c.args.order.now.what.now) _ _ k m (refl, refl)
+          (moved_quiet k m pin u.seen u.notes u.ways is)
+          (ap (λ (x : MyTree). x.0.upper.seen) is)
+          (moved_further k m pin u.seen u.notes u.ways is);
     }
 
-pub returns-then-not-has_next-clause-frame : goal.returns-then-not-has_next-clause-frame
-returns-then-not-has_next-clause-frame g c = record {
-  number = c.once-tried.ensures.frame.number ∙ c.loop-course.invariant.number;
-  resting = c.once-tried.ensures.frame.resting;
-}
+pub attempt-tried-requires-clause-ready : goal.attempt-tried-requires-clause-ready
+attempt-tried-requires-clause-ready g c = c.loop-course.invariant.may.ready
 
-pub returns-then-not-has_next-clause-tried : goal.returns-then-not-has_next-clause-tried
-returns-then-not-has_next-clause-tried g c =
-    let tells = λ (x : _). g.A.Attempt.tells c.args.order.now.what.now x c.once-tried.new.left in
-    tried_on tells c.args.tree.now.space.table.shared.key c.once-tried.result
-    c.args.pass.now.seat.me.0.upper c.loop-course.pass.seat.me.0.upper
-    c.once-tried.new.pass.seat.me.0.upper c.loop-course.invariant.further c.once-tried.ensures.tried
+pub attempt-tried-requires-clause-known : goal.attempt-tried-requires-clause-known
+attempt-tried-requires-clause-known g c = c.loop-course.invariant.may.known
+
+pub attempt-tried-requires-clause-asking : goal.attempt-tried-requires-clause-asking
+attempt-tried-requires-clause-asking g c = c.loop-course.invariant.may.asking
+
+pub attempt-tried-requires-clause-begins : goal.attempt-tried-requires-clause-begins
+attempt-tried-requires-clause-begins g c = c.loop-course.invariant.may.begins
+
+-- Another attempt may begin behind this one.
+pub go_on-requires : goal.go_on-requires
+go_on-requires g c = let z = c.args.tree.now.space.table.shared.key in
+    let tells = λ (x : _).
+    g.A.Attempt.tells c.args.order.now.what.now x c.attempt-tried.new.left in
+    let next = c.if-not-has_next.ensures.0 refl in record {
+      may = may_follow tells (g.A.Attempt.about c.args.order.now.what.now) c.attempt-tried.result
+          c.loop-course.course.again c.attempt-tried.new.course.again c.loop-course.invariant.may
+          c.attempt-tried.ensures.frame next c.attempt-tried.ensures.tried
+          (turn_further tells z c.attempt-tried.result c.loop-course.pass.seat.me.0.upper
+          c.attempt-tried.new.pass.seat.me.0.upper next c.attempt-tried.ensures.tried)
+          c.attempt-tried.ensures.stays;
+    }
+
+pub loop-course-preserved : goal.loop-course-preserved
+loop-course-preserved g c = let z = c.args.tree.now.space.table.shared.key in
+    let adds = g.A.Attempt.adds c.args.order.now.what.now in
+    let edits = λ (x : _). g.A.Attempt.edits c.args.order.now.what.now x in
+    let tells = λ (x : _).
+    g.A.Attempt.tells c.args.order.now.what.now x c.attempt-tried.new.left in
+    let next = c.if-not-has_next.ensures.0 refl in let before = c.loop-course.invariant in
+    let k = c.args.pass.now.seat.me in let m = c.loop-course.pass.seat.me in
+    let n = c.attempt-tried.new.pass.seat.me in let p = c.go_on.new.pass.seat.me in
+    let did = c.attempt-tried.ensures in let on = c.go_on.ensures.still in
+    let more = waits_more tells edits z adds c.args.tree.now.tuning c.args.course.now
+    c.loop-course.course c.attempt-tried.new.course _ c.attempt-tried.result k m n
+    c.requires.resting.known before.may.known before.waiting did.tried did.turn next in record {
+      same = (
+        on.same.0 ∙ (did.frame.same.0 ∙ before.same.0),
+        on.same.1 ∙ (did.frame.same.1 ∙ before.same.1),
+      );
+      number = on.number ∙ (did.frame.number ∙ before.number);
+      sizes = on.sizes ∙ (did.frame.pin.0 ∙ before.sizes);
+      pin_number = on.pin_number ∙ (ap (λ (e : Pin). e.number) did.frame.pin.1
+          ∙ before.pin_number);
+      may = c.go_on.ensures.may;
+      since = further_on k.0.upper (at_pin n.0.upper) (at_pin p.0.upper)
+          (next_since z (g.A.Attempt.about c.args.order.now.what.now) tells
+          c.attempt-tried.result k.0.upper m.0.upper n.0.upper c.attempt-tried.new.course.again
+          next before.since did.tried did.stays) on.since;
+      pinned = on.pinned k (pinned_as k m n before.pinned did.frame.pin.1);
+      unspent = let room = c.if-spent_in_all-budget.false in let all = c.spent_in_all.ensures in
+          let most = c.budget-budget.type_inv in let is = c.budget-budget.ensures in
+          let same = ap total c.go_on.ensures.course.1 in omega arith;
+      waiting = waits_quiet z adds c.args.course.now c.attempt-tried.new.course c.go_on.new.course
+          k n p c.go_on.ensures.course more on.quiet on.seen on.further;
+    }
 
 pub loop-course-smaller : goal.loop-course-smaller
 loop-course-smaller g c = let most = c.budget-budget.type_inv in
     let room = c.loop-course.invariant.unspent in let is = c.budget-budget.ensures in
-    one_turn_less c.loop-course.course.spent c.once-tried.new.course.spent c.budget-budget.result
-    c.loop-course.pass.seat.me c.once-tried.new.pass.seat.me (omega arith) (omega arith)
-    c.once-tried.ensures.turn.counted
-    (met_turn c.once-tried.result c.loop-course.pass.seat.me c.once-tried.new.pass.seat.me
-    (c.if-not-has_next.ensures.0 refl) c.once-tried.ensures.turn.found).1
+    let same = ap total c.go_on.ensures.course.1 in
+    let less = one_turn_less c.loop-course.course.spent c.attempt-tried.new.course.spent
+    c.budget-budget.result c.loop-course.pass.seat.me c.attempt-tried.new.pass.seat.me
+    (omega arith) (omega arith) c.attempt-tried.ensures.turn.counted
+    (met_turn c.attempt-tried.result c.loop-course.pass.seat.me
+    c.attempt-tried.new.pass.seat.me (c.if-not-has_next.ensures.0 refl)
+    c.attempt-tried.ensures.turn.found).1 in omega arith
+
+pub returns-then-not-has_next-clause-frame : goal.returns-then-not-has_next-clause-frame
+returns-then-not-has_next-clause-frame g c = let space = c.args.tree.now.space.table.shared in
+    let two = c.attempt-tried.ensures in let before = c.loop-course.invariant in
+    let tells = λ (x : _).
+    g.A.Attempt.tells c.args.order.now.what.now x c.attempt-tried.new.left in record {
+      number = c.unpin.ensures.frame.number ∙ (two.frame.number ∙ before.number);
+      resting = rests_as space.table_id space.key c.args.pass.now.number c.unpin.new.pass.number
+          c.attempt-tried.new.pass.kept c.unpin.new.pass.kept c.unpin.new.pass.seat
+          (c.unpin.ensures.frame.number ∙ (two.frame.number ∙ before.number))
+          c.unpin.ensures.frame.tally c.unpin.ensures.frame.kept
+          (rests_again space.table_id space.key c.args.pass.now.number c.args.pass.now.kept.rows
+          c.attempt-tried.new.pass.kept.rows c.args.pass.now.seat c.loop-course.pass.seat
+          c.attempt-tried.new.pass.seat c.unpin.new.pass.seat c.requires.resting
+          (before.sizes, before.pin_number, before.waiting.further.number)
+          (two.frame.same.0 ∙ before.same.0) two.frame.pin two.frame.none
+          (known_since tells space.key c.attempt-tried.result c.loop-course.pass.seat.me.0.upper
+          c.attempt-tried.new.pass.seat.me.0.upper two.tried) c.unpin.ensures.frame.same.0
+          c.unpin.ensures.unpinned (λ _. two.frame.tally before.may.tallied));
+    }
+
+pub returns-then-not-has_next-clause-tried : goal.returns-then-not-has_next-clause-tried
+returns-then-not-has_next-clause-tried g c = let z = c.args.tree.now.space.table.shared.key in
+    let tells = λ (x : _).
+    g.A.Attempt.tells c.args.order.now.what.now x c.attempt-tried.new.left in
+    tried_unpinned tells z c.attempt-tried.result c.args.pass.now.seat.me.0.upper
+    c.attempt-tried.new.pass.seat.me.0.upper c.unpin.new.pass.seat.me.0.upper
+    (ap (λ (m : MyTree). m.0.upper) c.unpin.ensures.unpinned)
+    (tried_since tells z c.attempt-tried.result c.args.pass.now.seat.me.0.upper
+    c.loop-course.pass.seat.me.0.upper c.attempt-tried.new.pass.seat.me.0.upper
+    c.loop-course.invariant.since c.loop-course.invariant.waiting.further
+    c.attempt-tried.ensures.tried)
+
+pub returns-then-not-has_next-clause-deep : goal.returns-then-not-has_next-clause-deep
+returns-then-not-has_next-clause-deep g c deep = subst
+    (λ (m : MyTree). IsFullSince c.args.tree.now.space.table.shared.key
+    (g.A.Attempt.adds c.args.order.now.what.now) m.0.upper) (sym c.unpin.ensures.unpinned)
+    (c.attempt-tried.ensures.deep deep)
 
 pub returns-then-not-has_next-clause-counted : goal.returns-then-not-has_next-clause-counted
-returns-then-not-has_next-clause-counted g c =
-    paid_both c.args.course.now.spent c.loop-course.course.spent c.once-tried.new.course.spent
-    c.args.pass.now.seat.me
-    c.loop-course.pass.seat.me c.once-tried.new.pass.seat.me c.loop-course.invariant.counted
-    c.once-tried.ensures.turn.counted
+returns-then-not-has_next-clause-counted g c = let i = turn_unpinned (λ (x : _). g.A.Attempt.edits c.args.order.now.what.now x)
+    c.args.tree.now.space.table.shared.key (g.A.Attempt.adds c.args.order.now.what.now)
+    c.args.tree.now.tuning c.loop-course.course c.attempt-tried.new.course c.attempt-tried.result
+    c.loop-course.pass.seat.me c.attempt-tried.new.pass.seat.me c.unpin.new.pass.seat.me
+    c.attempt-tried.ensures.turn c.unpin.ensures.unpinned in
+    paid_both c.args.course.now.spent c.loop-course.course.spent
+    c.attempt-tried.new.course.spent c.args.pass.now.seat.me c.loop-course.pass.seat.me
+    c.unpin.new.pass.seat.me c.loop-course.invariant.waiting.counted i.counted
 
 pub returns-then-not-has_next-clause-found : goal.returns-then-not-has_next-clause-found
-returns-then-not-has_next-clause-found g c = met_then c.once-tried.result c.args.pass.now.seat.me
-    c.loop-course.pass.seat.me c.once-tried.new.pass.seat.me c.loop-course.invariant.met
-    c.loop-course.invariant.counted.more c.loop-course.invariant.counted.more_passed
-    c.once-tried.ensures.turn.found
+returns-then-not-has_next-clause-found g c = let i = turn_unpinned (λ (x : _). g.A.Attempt.edits c.args.order.now.what.now x)
+    c.args.tree.now.space.table.shared.key (g.A.Attempt.adds c.args.order.now.what.now)
+    c.args.tree.now.tuning c.loop-course.course c.attempt-tried.new.course c.attempt-tried.result
+    c.loop-course.pass.seat.me c.attempt-tried.new.pass.seat.me c.unpin.new.pass.seat.me
+    c.attempt-tried.ensures.turn c.unpin.ensures.unpinned in
+    met_then c.attempt-tried.result c.args.pass.now.seat.me
+    c.loop-course.pass.seat.me c.unpin.new.pass.seat.me c.loop-course.invariant.waiting.met
+    c.loop-course.invariant.waiting.counted.more
+    c.loop-course.invariant.waiting.counted.more_passed i.found
 
 pub returns-then-not-has_next-clause-pinned : goal.returns-then-not-has_next-clause-pinned
-returns-then-not-has_next-clause-pinned g c = pinned_behind c.args.pass.now.seat.me
-    c.loop-course.pass.seat.me c.once-tried.new.pass.seat.me
-    c.loop-course.invariant.pinned
-    c.once-tried.ensures.pinned
+returns-then-not-has_next-clause-pinned g c = let is = c.unpin.ensures.unpinned in
+    let n = c.attempt-tried.new.pass.seat.me in
+    pinned_still c.args.pass.now.seat.me n c.unpin.new.pass.seat.me
+    (pinned_as c.args.pass.now.seat.me c.loop-course.pass.seat.me n
+    c.loop-course.invariant.pinned c.attempt-tried.ensures.frame.pin.1)
+    (ap (λ (x : MyTree). x.0.pin.lags) is) (ap (λ (x : MyTree). x.0.pin.looks) is)
+    (ap (λ (x : MyTree). x.0.pin.entered.lags) is) (ap (λ (x : MyTree). x.0.pin.begun_at) is)
+    (ap (λ (x : MyTree). x.0.pin.begun) is)
 
 pub returns-then-not-has_next-clause-turns : goal.returns-then-not-has_next-clause-turns
-returns-then-not-has_next-clause-turns g c = record {
-  met_as = c.once-tried.ensures.turn.met_as;
-  gone_on = gone_on
-      (λ (x : _). g.A.Attempt.edits c.args.order.now.what.now x)
-      c.args.tree.now.space.table.shared.key
-      c.args.tree.now.tuning c.args.course.now.adapting c.loop-course.course.adapting
-      c.once-tried.new.course.adapting c.once-tried.result c.args.pass.now.seat.me.0.upper
-      c.loop-course.pass.seat.me.0.upper c.once-tried.new.pass.seat.me.0.upper
-      c.loop-course.invariant.waits c.once-tried.ensures.turn.gone_on;
-  grown = let tells = λ (x : _).
-      g.A.Attempt.tells c.args.order.now.what.now x c.once-tried.new.left in
-      one_more_attempt tells c.args.tree.now.space.table.shared.key
-      (g.A.Attempt.adds c.args.order.now.what.now) c.once-tried.result
-      c.args.pass.now.seat.me.0.upper c.loop-course.pass.seat.me.0.upper
-      c.once-tried.new.pass.seat.me.0.upper c.requires.resting.known
-      c.loop-course.invariant.resting.known c.loop-course.invariant.further c.loop-course.invariant.waited
-      c.once-tried.ensures.tried c.once-tried.ensures.turn.grown;
-  won = λ alone. won_behind
-      (λ (x : _). g.A.Attempt.edits c.args.order.now.what.now x) c.once-tried.result
-      c.args.pass.now.seat.me.0.upper c.loop-course.pass.seat.me.0.upper
-      c.once-tried.new.pass.seat.me.0.upper (c.loop-course.invariant.won alone)
-      (c.once-tried.ensures.turn.won
-      (alone_on c.args.tree.now.space.table.shared.key c.args.pass.now.seat.me.0.upper
-      c.loop-course.pass.seat.me.0.upper
-      c.loop-course.invariant.further.number alone));
-  cut = one_more_cut
-      (λ (x : _). g.A.Attempt.edits c.args.order.now.what.now x)
-      c.args.tree.now.space.table.shared.key
-      (g.A.Attempt.adds c.args.order.now.what.now) c.once-tried.result
-      c.args.pass.now.seat.me.0.upper c.loop-course.pass.seat.me.0.upper
-      c.once-tried.new.pass.seat.me.0.upper c.loop-course.invariant.full
-      c.once-tried.ensures.turn.cut;
-}
+returns-then-not-has_next-clause-turns g c = let z = c.args.tree.now.space.table.shared.key in
+    let tells = λ (x : _).
+    g.A.Attempt.tells c.args.order.now.what.now x c.attempt-tried.new.left in
+    turns_left tells (λ (x : _). g.A.Attempt.edits c.args.order.now.what.now x) z
+    (g.A.Attempt.adds c.args.order.now.what.now) c.args.tree.now.tuning c.args.course.now
+    c.loop-course.course c.attempt-tried.new.course c.attempt-tried.result c.args.pass.now.seat.me
+    c.loop-course.pass.seat.me c.attempt-tried.new.pass.seat.me c.unpin.new.pass.seat.me
+    c.requires.resting.known c.loop-course.invariant.may.known c.loop-course.invariant.waiting
+    c.attempt-tried.ensures.tried c.attempt-tried.ensures.turn c.unpin.ensures.unpinned

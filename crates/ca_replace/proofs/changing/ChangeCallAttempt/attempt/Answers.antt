@@ -1,3 +1,6 @@
+use Rattle.ca_replace.proofs.Again.{further_since, since_before}
+use Rattle.ca_replace.specs.Attempting.{BeginsAt, at_pin}
+use Rattle.std.proofs.Common.{◌∙◌}
 use Rattle.std.proofs.Common.{ℕ, ◌+◌, List, length, map, Ok, Err, Some, None, false, true, refl, sym, ap, subst, arith}
 use Rattle.std.specs.Prelude.{Result}
 use Rattle.std.specs.List.{slice_range}
@@ -15,7 +18,6 @@ use Rattle.ca_replace.specs.Attempting.{IsLooking, HasFetched}
 use Rattle.ca_replace.specs.Tells.{Alters}
 use Rattle.ca_replace.proofs.Asking.{left_of}
 use Rattle.ca_replace.proofs.Showing.{did, read_done}
-use Rattle.ca_replace.proofs.States.{none_since, seen_before}
 use Rattle.ca_replace.proofs.Meeting.{further_on}
 use Rattle.ca_replace.specs.Adapting.{is_put}
 use Rattle.ca_replace.proofs.Entries.{read_by}
@@ -23,8 +25,7 @@ use Rattle.ca_replace.proofs.Behind.{frame_behind, frame_entered, ready_behind, 
 use Rattle.ca_replace.proofs.changing.ChangeCallAttempt.attempt.Goals as goal
 
 pub fetch-place-requires-clause-unanswered : goal.fetch-place-requires-clause-unanswered
-fetch-place-requires-clause-unanswered g c = none_since c.args.tree.now.space.table.shared.key
-    c.args.pass.now.seat.me.0.upper c.requires.known c.requires.first
+fetch-place-requires-clause-unanswered g c = c.requires.asking.unanswered
 
 pub enter-requires-clause-answer : goal.enter-requires-clause-answer
 enter-requires-clause-answer g c = let key : List ℕ = c.args.self.now.key.now in
@@ -56,13 +57,14 @@ returns-in_default-clause-tried g c = let key : List ℕ = c.args.self.now.key.n
     c.fetch-place.ensures.fetched in
     read_done (λ (x : Changed)
     (e : Event). Alters g.F.Fn c.args.self.now.f.now key x old e) z
-    c.args.pass.now.seat.me.0.upper
+    (at_pin c.args.pass.now.seat.me.0.upper)
     c.fetch-place.new.pass.seat.me c.enter.new.pass.seat.me changed.Absent (Change key None None) (
       refl,
       none.1,
-    ) c.fetch-place.ensures.looked.further c.fetch-place.ensures.looked.looking.known
-    (seen_before c.args.pass.now.seat.me.0.upper c.fetch-place.new.pass.seat.me.0.upper
-    c.requires.first c.fetch-place.ensures.looked.since) c.enter.ensures.entered
+    ) (further_since c.args.pass.now.seat.me.0.upper
+    c.fetch-place.new.pass.seat.me.0.upper c.requires.asking c.fetch-place.ensures.looked.further) c.fetch-place.ensures.looked.looking.known
+    (since_before c.args.pass.now.seat.me.0.upper c.fetch-place.new.pass.seat.me.0.upper
+    c.fetch-place.ensures.looked.since) c.enter.ensures.entered
 
 pub returns-then-not-f-clause-tried : goal.returns-then-not-f-clause-tried
 returns-then-not-f-clause-tried g c = let key : List ℕ = c.args.self.now.key.now in
@@ -73,7 +75,7 @@ returns-then-not-f-clause-tried g c = let key : List ℕ = c.args.self.now.key.n
     (λ (p : Result ℕ ℕ). HasFetched z w key p old) c.in-Ok.is c.fetch-place.ensures.fetched in
     read_done (λ (x : Changed)
     (e : Event). Alters g.F.Fn c.args.self.now.f.now key x old e) z
-    c.args.pass.now.seat.me.0.upper
+    (at_pin c.args.pass.now.seat.me.0.upper)
     c.fetch-place.new.pass.seat.me c.enter-then-not-f.new.pass.seat.me changed.Kept (Change key (Some old) None) (
       (
         _,
@@ -83,9 +85,10 @@ returns-then-not-f-clause-tried g c = let key : List ℕ = c.args.self.now.key.n
       ),
       refl,
     )
-    c.fetch-place.ensures.looked.further c.fetch-place.ensures.looked.looking.known
-    (seen_before c.args.pass.now.seat.me.0.upper c.fetch-place.new.pass.seat.me.0.upper
-    c.requires.first c.fetch-place.ensures.looked.since)
+    (further_since c.args.pass.now.seat.me.0.upper
+    c.fetch-place.new.pass.seat.me.0.upper c.requires.asking c.fetch-place.ensures.looked.further) c.fetch-place.ensures.looked.looking.known
+    (since_before c.args.pass.now.seat.me.0.upper c.fetch-place.new.pass.seat.me.0.upper
+    c.fetch-place.ensures.looked.since)
     (subst (λ (o : List ℕ). IsEntered (Change key (Some o) None) c.fetch-place.new.pass.seat.me
     c.enter-then-not-f.new.pass.seat.me) c.as_slice-then-not-f.ensures.value
     c.enter-then-not-f.ensures.entered)
@@ -168,13 +171,14 @@ returns-in-Ok-put_there-clause-tried g c = let key : List ℕ = c.args.self.now.
     did (λ (x : Changed) (e : Event). Alters g.F.Fn c.args.self.now.f.now key x old e) z
     (Change (slice_range slice start (start + length key))
     (Some (object_at (Ok c.in-Ok.at) (first_note w.notes).objects)) (Some slice)) changed.Put
-    c.args.pass.now.seat.me.0.upper w c.put_there.new.pass.seat.me.0.upper (
+    (at_pin c.args.pass.now.seat.me.0.upper) w c.put_there.new.pass.seat.me.0.upper (
       c.f.new.arg3.items,
       start,
       may,
       λ i. Change (own i).0 (Some (found.2 i)) (Some (own i).1),
     )
-    c.fetch-place.ensures.looked.further
+    (further_since c.args.pass.now.seat.me.0.upper
+    c.fetch-place.new.pass.seat.me.0.upper c.requires.asking c.fetch-place.ensures.looked.further)
     c.in-Ok-put_there.ensures.tried
 
 pub returns-in_default-clause-frame : goal.returns-in_default-clause-frame
@@ -224,3 +228,20 @@ pub returns-in-Err-clause-turn : goal.returns-in-Err-clause-turn
 returns-in-Err-clause-turn g c =
     turn_halted c.fetch-place.ensures.looked c.requires.ready c.requires.known c.put_there.new.pass is_put (Some _) None
     c.args.tree.now.tuning c.args.course.now c.put_there.new.course _ c.in-Err.stop (λ e. absurd (c.in-Err.ensures.no_split (ap Err e))) c.in-Err.ensures.turn
+
+pub returns-in-Err-clause-stays : goal.returns-in-Err-clause-stays
+returns-in-Err-clause-stays g c = let key : List ℕ = c.args.self.now.key.now in
+    let z = c.args.tree.now.space.table.shared.key in
+    let old : List ℕ = c.fetch-place.new.old.items in
+    let found = subst
+    (λ (p : Result ℕ ℕ). HasFetched z c.fetch-place.new.pass.seat.me.0.upper key p old) c.in-Ok.is
+    c.fetch-place.ensures.fetched in
+    let l = left_of g.F.Fn c.args.self.now.f.now z.keypos key old c.f.result _ _ _ _ _
+    c.if-not-f.false c.as_slice.ensures.value
+    c.clear.ensures c.requires.may found.1 c.f.ensures in (
+      c.in-Err.ensures.stays.0 ∙ c.fetch-place.ensures.looked.since,
+      subst (λ (q : Pair).
+          BeginsAt z q.0 c.put_there.new.pass.seat.me.0.upper c.put_there.new.course.again)
+          (pair_of_bytes c.as_slice-2.result.now c.f.new.arg3.items key
+          c.f.new.arg4 c.as_slice-2.ensures.value l.key) c.in-Err.ensures.stays.1,
+    )

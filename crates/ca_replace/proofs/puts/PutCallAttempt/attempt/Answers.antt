@@ -1,24 +1,26 @@
+use Rattle.ca_replace.proofs.Again.{since_tried, stays_behind}
 use Rattle.std.specs.Prelude.{slice_range}
 use Rattle.ca_model.specs.Event.{Event, Write}
 use Rattle.std.proofs.Common.{◌≡◌, true}
 use Rattle.ca_replace.proofs.Showing.{tried_on}
-use Rattle.ca_replace.proofs.States.{none_since}
 use Rattle.std.proofs.Common.{Some}
+use Rattle.ca_base.specs.Targets.{key_in}
 use Rattle.ca_replace.proofs.Behind.{frame_behind, ready_behind, turn_tried}
 use Rattle.ca_replace.proofs.puts.PutCallAttempt.attempt.Goals as goal
 
 pub returns-clause-tried : goal.returns-clause-tried
 returns-clause-tried c = let o = c.args.self.now.keyed in
-    tried_on (λ _ (e : Event). e
-    ≡ Write (slice_range o.object.now o.key_at o.key_end) o.object.now)
-    c.args.tree.now.space.table.shared.key c.put_there.result
+    let tells = λ (_ : Unit {0}) (e : Event). e
+    ≡ Write (slice_range o.object.now o.key_at o.key_end) o.object.now in
+    since_tried tells c.args.tree.now.space.table.shared.key c.put_there.result
+    c.args.pass.now.seat.me.0.upper c.put_there.new.pass.seat.me.0.upper c.requires.asking
+    (tried_on tells c.args.tree.now.space.table.shared.key c.put_there.result
     c.args.pass.now.seat.me.0.upper c.find-place.new.pass.seat.me.0.upper
     c.put_there.new.pass.seat.me.0.upper c.find-place.ensures.looked.further
-    c.put_there.ensures.tried
+    c.put_there.ensures.tried)
 
 pub find-place-requires-clause-unanswered : goal.find-place-requires-clause-unanswered
-find-place-requires-clause-unanswered c = none_since c.args.tree.now.space.table.shared.key
-    c.args.pass.now.seat.me.0.upper c.requires.known c.requires.first
+find-place-requires-clause-unanswered c = c.requires.asking.unanswered
 
 pub returns-clause-frame : goal.returns-clause-frame
 returns-clause-frame c =
@@ -36,3 +38,9 @@ returns-clause-turn c =
     turn_tried c.find-place.ensures.looked c.requires.ready c.requires.known c.put_there.new.pass (λ (_ : Unit {0}). true)
     (Some (slice_range c.args.self.now.keyed.object.now c.args.self.now.keyed.key_at c.args.self.now.keyed.key_end)) (Some (slice_range c.args.self.now.keyed.object.now c.args.self.now.keyed.key_at c.args.self.now.keyed.key_end))
     c.args.tree.now.tuning c.args.course.now c.put_there.new.course _ c.put_there.result c.put_there.ensures.turn
+
+pub returns-clause-stays : goal.returns-clause-stays
+returns-clause-stays c = stays_behind c.args.tree.now.space.table.shared.key
+    (key_in c.args.self.now.keyed) c.put_there.result c.args.pass.now.seat.me.0.upper
+    c.find-place.new.pass.seat.me.0.upper c.put_there.new.pass.seat.me.0.upper
+    c.put_there.new.course.again c.find-place.ensures.looked.since c.put_there.ensures.stays

@@ -1,10 +1,11 @@
+use Rattle.ca_replace.proofs.Again.{further_since, since_before}
+use Rattle.ca_replace.specs.Attempting.{at_pin}
 use Rattle.std.proofs.Common.{◌≡◌, ◌∙◌, Bool, true, false, refl, sym, ap}
 use Rattle.std.specs.Prelude.{slice_range, Result}
 use Rattle.ca_replace.specs.declared.attempting.Halt.{Halt}
 use Rattle.ca_replace.specs.declared.attempting.Halt.TheVariants as halt
 use Rattle.ca_model.specs.Event.{Event, WriteNew}
 use Rattle.ca_replace.proofs.Showing.{did, not_new, read_done}
-use Rattle.ca_replace.proofs.States.{none_since, seen_before}
 use Rattle.ca_replace.proofs.Meeting.{further_on}
 use Rattle.std.proofs.Common.{Ok, Err, Some}
 use Rattle.ca_replace.proofs.Behind.{frame_behind, frame_entered, ready_behind, turn_edited, turn_entered, turn_halted}
@@ -25,15 +26,15 @@ returns-then-is_ok-clause-tried c = let o = c.args.self.now.keyed in
     let z = c.args.tree.now.space.table.shared.key in
     let event = WriteNew k o.object.now false in
     read_done (λ (new : Bool)
-    (e : Event). e ≡ WriteNew k o.object.now new) z c.args.pass.now.seat.me.0.upper
+    (e : Event). e ≡ WriteNew k o.object.now new) z (at_pin c.args.pass.now.seat.me.0.upper)
     c.find-place.new.pass.seat.me c.enter.new.pass.seat.me false event refl
-    c.find-place.ensures.looked.further c.find-place.ensures.looked.looking.known
-    (seen_before c.args.pass.now.seat.me.0.upper c.find-place.new.pass.seat.me.0.upper
-    c.requires.first c.find-place.ensures.looked.since) c.enter.ensures.entered
+    (further_since c.args.pass.now.seat.me.0.upper
+    c.find-place.new.pass.seat.me.0.upper c.requires.asking c.find-place.ensures.looked.further) c.find-place.ensures.looked.looking.known
+    (since_before c.args.pass.now.seat.me.0.upper c.find-place.new.pass.seat.me.0.upper
+    c.find-place.ensures.looked.since) c.enter.ensures.entered
 
 pub find-place-requires-clause-unanswered : goal.find-place-requires-clause-unanswered
-find-place-requires-clause-unanswered c = none_since c.args.tree.now.space.table.shared.key
-    c.args.pass.now.seat.me.0.upper c.requires.known c.requires.first
+find-place-requires-clause-unanswered c = c.requires.asking.unanswered
 
 pub returns-in-Ok-clause-tried : goal.returns-in-Ok-clause-tried
 returns-in-Ok-clause-tried c = let o = c.args.self.now.keyed in
@@ -41,9 +42,10 @@ returns-in-Ok-clause-tried c = let o = c.args.self.now.keyed in
     let z = c.args.tree.now.space.table.shared.key in
     did (λ (new : Bool) (e : Event). e
     ≡ WriteNew k o.object.now new) z (WriteNew k o.object.now true) true
-    c.args.pass.now.seat.me.0.upper
+    (at_pin c.args.pass.now.seat.me.0.upper)
     c.find-place.new.pass.seat.me.0.upper c.put_there.new.pass.seat.me.0.upper refl
-    c.find-place.ensures.looked.further c.in-Ok.ensures.tried
+    (further_since c.args.pass.now.seat.me.0.upper
+    c.find-place.new.pass.seat.me.0.upper c.requires.asking c.find-place.ensures.looked.further) c.in-Ok.ensures.tried
 
 -- what an attempt came to
 abbrev why_of : Result Bool Halt → Halt
@@ -94,3 +96,9 @@ pub returns-in-Err-clause-turn : goal.returns-in-Err-clause-turn
 returns-in-Err-clause-turn c =
     turn_halted c.find-place.ensures.looked c.requires.ready c.requires.known c.put_there.new.pass (λ (new : Bool). new) (Some (slice_range c.args.self.now.keyed.object.now c.args.self.now.keyed.key_at c.args.self.now.keyed.key_end)) (Some (slice_range c.args.self.now.keyed.object.now c.args.self.now.keyed.key_at c.args.self.now.keyed.key_end))
     c.args.tree.now.tuning c.args.course.now c.put_there.new.course _ c.in-Err.stop (λ _. refl) c.in-Err.ensures.turn
+
+pub returns-in-Err-clause-stays : goal.returns-in-Err-clause-stays
+returns-in-Err-clause-stays c = (
+  c.in-Err.ensures.stays.0 ∙ c.find-place.ensures.looked.since,
+  c.in-Err.ensures.stays.1,
+)

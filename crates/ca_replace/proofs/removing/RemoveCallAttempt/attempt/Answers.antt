@@ -1,3 +1,6 @@
+use Rattle.ca_replace.proofs.Again.{further_since, since_before}
+use Rattle.ca_replace.specs.Attempting.{at_pin}
+use Rattle.std.proofs.Common.{◌∙◌}
 use Rattle.std.proofs.Common.{ℕ, Bool, List, map, Ok, Some, None, false, true, refl, subst}
 use Rattle.std.specs.Prelude.{Result}
 use Rattle.ca_model.specs.Event.{Event, Remove}
@@ -7,15 +10,13 @@ use Rattle.ca_base.specs.Putting.{first_note, object_at}
 use Rattle.ca_replace.specs.Attempting.{HasFetched}
 use Rattle.ca_replace.specs.Tells.{Removes}
 use Rattle.ca_replace.proofs.Showing.{did, read_done}
-use Rattle.ca_replace.proofs.States.{none_since, seen_before}
 use Rattle.ca_replace.proofs.Meeting.{further_on}
 use Rattle.ca_replace.proofs.Entries.{read_by}
 use Rattle.ca_replace.proofs.Behind.{frame_behind, frame_entered, ready_behind, turn_edited, turn_entered, turn_halted}
 use Rattle.ca_replace.proofs.removing.RemoveCallAttempt.attempt.Goals as goal
 
 pub fetch-place-requires-clause-unanswered : goal.fetch-place-requires-clause-unanswered
-fetch-place-requires-clause-unanswered c = none_since c.args.tree.now.space.table.shared.key
-    c.args.pass.now.seat.me.0.upper c.requires.known c.requires.first
+fetch-place-requires-clause-unanswered c = c.requires.asking.unanswered
 
 pub enter-requires-clause-answer : goal.enter-requires-clause-answer
 enter-requires-clause-answer c = let key : List ℕ = c.args.self.now.key.now in
@@ -34,13 +35,14 @@ returns-in_default-clause-tried c = let key : List ℕ = c.args.self.now.key.now
     let none = subst
     (λ (p : Result ℕ ℕ). HasFetched z w key p old) c.in_default.is
     c.fetch-place.ensures.fetched in
-    read_done (λ (x : Bool) (e : Event). Removes key x old e) z c.args.pass.now.seat.me.0.upper
+    read_done (λ (x : Bool) (e : Event). Removes key x old e) z (at_pin c.args.pass.now.seat.me.0.upper)
     c.fetch-place.new.pass.seat.me c.enter.new.pass.seat.me false (Remove key None) (
       refl,
       none.1,
-    ) c.fetch-place.ensures.looked.further c.fetch-place.ensures.looked.looking.known
-    (seen_before c.args.pass.now.seat.me.0.upper c.fetch-place.new.pass.seat.me.0.upper
-    c.requires.first c.fetch-place.ensures.looked.since) c.enter.ensures.entered
+    ) (further_since c.args.pass.now.seat.me.0.upper
+    c.fetch-place.new.pass.seat.me.0.upper c.requires.asking c.fetch-place.ensures.looked.further) c.fetch-place.ensures.looked.looking.known
+    (since_before c.args.pass.now.seat.me.0.upper c.fetch-place.new.pass.seat.me.0.upper
+    c.fetch-place.ensures.looked.since) c.enter.ensures.entered
 
 pub remove_there-requires-clause-place : goal.remove_there-requires-clause-place
 remove_there-requires-clause-place c =
@@ -57,8 +59,9 @@ returns-in-Ok-remove_there-clause-tried c = let key : List ℕ = c.args.self.now
     (λ (p : Result ℕ ℕ). HasFetched z w key p old) c.in-Ok.is c.fetch-place.ensures.fetched in
     did (λ (x : Bool) (e : Event). Removes key x old e) z
     (Remove key (Some (object_at (Ok c.in-Ok.at) (first_note w.notes).objects))) true
-    c.args.pass.now.seat.me.0.upper w c.remove_there.new.pass.seat.me.0.upper
-    (λ i. Remove key (Some (found.2 i))) c.fetch-place.ensures.looked.further
+    (at_pin c.args.pass.now.seat.me.0.upper) w c.remove_there.new.pass.seat.me.0.upper
+    (λ i. Remove key (Some (found.2 i))) (further_since c.args.pass.now.seat.me.0.upper
+    c.fetch-place.new.pass.seat.me.0.upper c.requires.asking c.fetch-place.ensures.looked.further)
     c.in-Ok-remove_there.ensures.tried
 
 pub returns-in_default-clause-frame : goal.returns-in_default-clause-frame
@@ -99,3 +102,9 @@ pub returns-in-Err-clause-turn : goal.returns-in-Err-clause-turn
 returns-in-Err-clause-turn c =
     turn_halted c.fetch-place.ensures.looked c.requires.ready c.requires.known c.remove_there.new.pass (λ (was : Bool). was) None None
     c.args.tree.now.tuning c.args.course.now c.remove_there.new.course _ c.in-Err.stop (λ _. refl) c.in-Err.ensures.turn
+
+pub returns-in-Err-clause-stays : goal.returns-in-Err-clause-stays
+returns-in-Err-clause-stays c = (
+  c.in-Err.ensures.stays.0 ∙ c.fetch-place.ensures.looked.since,
+  c.in-Err.ensures.stays.1,
+)

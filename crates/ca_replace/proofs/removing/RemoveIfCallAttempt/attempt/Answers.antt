@@ -1,4 +1,7 @@
-use Rattle.std.proofs.Common.{ℕ, List, map, Ok, Some, None, true, refl, subst, sym, false}
+use Rattle.ca_replace.proofs.Again.{further_since, since_before}
+use Rattle.ca_replace.specs.Attempting.{at_pin}
+use Rattle.std.proofs.Common.{◌∙◌}
+use Rattle.std.proofs.Common.{ℕ, List, map, Ok, Some, None, refl, subst, sym}
 use Rattle.std.specs.Prelude.{Result}
 use Rattle.ca_model.specs.declared.outcome.Changed.{Changed}
 use Rattle.ca_model.specs.declared.outcome.Changed.TheVariants as changed
@@ -11,7 +14,6 @@ use Rattle.ca_base.specs.Putting.{first_note, object_at}
 use Rattle.ca_replace.specs.Attempting.{HasFetched}
 use Rattle.ca_replace.specs.Tells.{RemovesIf}
 use Rattle.ca_replace.proofs.Showing.{did, read_done}
-use Rattle.ca_replace.proofs.States.{none_since, seen_before}
 use Rattle.ca_replace.proofs.Meeting.{further_on}
 use Rattle.ca_replace.specs.Adapting.{is_put}
 use Rattle.ca_replace.proofs.Entries.{read_by}
@@ -19,8 +21,7 @@ use Rattle.ca_replace.proofs.Behind.{frame_behind, frame_entered, ready_behind, 
 use Rattle.ca_replace.proofs.removing.RemoveIfCallAttempt.attempt.Goals as goal
 
 pub fetch-place-requires-clause-unanswered : goal.fetch-place-requires-clause-unanswered
-fetch-place-requires-clause-unanswered g c = none_since c.args.tree.now.space.table.shared.key
-    c.args.pass.now.seat.me.0.upper c.requires.known c.requires.first
+fetch-place-requires-clause-unanswered g c = c.requires.asking.unanswered
 
 pub enter-requires-clause-answer : goal.enter-requires-clause-answer
 enter-requires-clause-answer g c = let key : List ℕ = c.args.self.now.key.now in
@@ -52,13 +53,14 @@ returns-in_default-clause-tried g c = let key : List ℕ = c.args.self.now.key.n
     c.fetch-place.ensures.fetched in
     read_done (λ (x : Changed)
     (e : Event). RemovesIf g.F.Fn c.args.self.now.f.now key x old e) z
-    c.args.pass.now.seat.me.0.upper
+    (at_pin c.args.pass.now.seat.me.0.upper)
     c.fetch-place.new.pass.seat.me c.enter.new.pass.seat.me changed.Absent (Get key None) (
       refl,
       none.1,
-    ) c.fetch-place.ensures.looked.further c.fetch-place.ensures.looked.looking.known
-    (seen_before c.args.pass.now.seat.me.0.upper c.fetch-place.new.pass.seat.me.0.upper
-    c.requires.first c.fetch-place.ensures.looked.since) c.enter.ensures.entered
+    ) (further_since c.args.pass.now.seat.me.0.upper
+    c.fetch-place.new.pass.seat.me.0.upper c.requires.asking c.fetch-place.ensures.looked.further) c.fetch-place.ensures.looked.looking.known
+    (since_before c.args.pass.now.seat.me.0.upper c.fetch-place.new.pass.seat.me.0.upper
+    c.fetch-place.ensures.looked.since) c.enter.ensures.entered
 
 pub f-requires : goal.f-requires
 f-requires g c = let z = c.args.tree.now.space.table.shared.key in
@@ -78,7 +80,7 @@ returns-then-not-f-clause-tried g c = let key : List ℕ = c.args.self.now.key.n
     (λ (p : Result ℕ ℕ). HasFetched z w key p old) c.in-Ok.is c.fetch-place.ensures.fetched in
     read_done (λ (x : Changed)
     (e : Event). RemovesIf g.F.Fn c.args.self.now.f.now key x old e) z
-    c.args.pass.now.seat.me.0.upper
+    (at_pin c.args.pass.now.seat.me.0.upper)
     c.fetch-place.new.pass.seat.me c.enter-then-not-f.new.pass.seat.me changed.Kept (Get key (Some old)) (
       record {
         shown =
@@ -88,9 +90,10 @@ returns-then-not-f-clause-tried g c = let key : List ℕ = c.args.self.now.key.n
       },
       refl,
     )
-    c.fetch-place.ensures.looked.further c.fetch-place.ensures.looked.looking.known
-    (seen_before c.args.pass.now.seat.me.0.upper c.fetch-place.new.pass.seat.me.0.upper
-    c.requires.first c.fetch-place.ensures.looked.since)
+    (further_since c.args.pass.now.seat.me.0.upper
+    c.fetch-place.new.pass.seat.me.0.upper c.requires.asking c.fetch-place.ensures.looked.further) c.fetch-place.ensures.looked.looking.known
+    (since_before c.args.pass.now.seat.me.0.upper c.fetch-place.new.pass.seat.me.0.upper
+    c.fetch-place.ensures.looked.since)
     (subst (λ (o : List ℕ). IsEntered (Get key (Some o)) c.fetch-place.new.pass.seat.me
     c.enter-then-not-f.new.pass.seat.me) c.as_slice-then-not-f.ensures.value
     c.enter-then-not-f.ensures.entered)
@@ -110,7 +113,7 @@ returns-in-Ok-remove_there-clause-tried g c = let key : List ℕ = c.args.self.n
     (λ (p : Result ℕ ℕ). HasFetched z w key p old) c.in-Ok.is c.fetch-place.ensures.fetched in
     did (λ (x : Changed) (e : Event). RemovesIf g.F.Fn c.args.self.now.f.now key x old e) z
     (Remove key (Some (object_at (Ok c.in-Ok.at) (first_note w.notes).objects))) changed.Put
-    c.args.pass.now.seat.me.0.upper w c.remove_there.new.pass.seat.me.0.upper (
+    (at_pin c.args.pass.now.seat.me.0.upper) w c.remove_there.new.pass.seat.me.0.upper (
       record {
         shown =
             _;
@@ -119,7 +122,8 @@ returns-in-Ok-remove_there-clause-tried g c = let key : List ℕ = c.args.self.n
       },
       λ i. Remove key (Some (found.2 i)),
     )
-    c.fetch-place.ensures.looked.further
+    (further_since c.args.pass.now.seat.me.0.upper
+    c.fetch-place.new.pass.seat.me.0.upper c.requires.asking c.fetch-place.ensures.looked.further)
     c.in-Ok-remove_there.ensures.tried
 
 pub returns-in_default-clause-frame : goal.returns-in_default-clause-frame
@@ -169,3 +173,9 @@ pub returns-in-Err-clause-turn : goal.returns-in-Err-clause-turn
 returns-in-Err-clause-turn g c =
     turn_halted c.fetch-place.ensures.looked c.requires.ready c.requires.known c.remove_there.new.pass is_put None None
     c.args.tree.now.tuning c.args.course.now c.remove_there.new.course _ c.in-Err.stop (λ _. refl) c.in-Err.ensures.turn
+
+pub returns-in-Err-clause-stays : goal.returns-in-Err-clause-stays
+returns-in-Err-clause-stays g c = (
+  c.in-Err.ensures.stays.0 ∙ c.fetch-place.ensures.looked.since,
+  c.in-Err.ensures.stays.1,
+)

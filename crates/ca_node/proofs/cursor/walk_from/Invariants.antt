@@ -1,7 +1,7 @@
 use Rattle.std.proofs.Common.{◌≡◌, ◌+◌, ◌-◌, true}
 use Rattle.ca_node.specs.Walking.{IsWalking}
 use Rattle.ca_rows.specs.Calls.{IsOf, IsSame}
-use Rattle.ca_node.proofs.cursor.walk.Given as goal
+use Rattle.ca_node.proofs.cursor.walk_from.Given as goal
 
 abbrev pub invariant-loop-level : goal.invariant-loop-level
 invariant-loop-level l = record {
