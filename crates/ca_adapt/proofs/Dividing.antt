@@ -1,5 +1,5 @@
 -- What became of a base that was to be split, by what became of its exchange.
-use Rattle.std.proofs.Common.{◌≡◌, ◌≢◌, ℕ, length, Result, Ok, Err, sym, refl, subst, inl, inr}
+use Rattle.std.proofs.Common.{◌≡◌, ◌≢◌, ℕ, [], length, Result, Ok, Err, sym, refl, subst, inl, inr}
 use Rattle.ca_adapt.specs.declared.adapted.Adapted.{Adapted}
 use Rattle.ca_adapt.specs.Splits.{HasSplitBack, IsOneTry, IsSplitOutcome, MayBeSplit, IsPoolsLoss, answer_to, attempts_at_first}
 use Rattle.ca_base.specs.declared.stop.Exchange.TheVariants as exchange
@@ -7,7 +7,7 @@ use Rattle.ca_base.specs.declared.stop.Stop.{Stop}
 use Rattle.ca_base.specs.declared.stop.Stop.TheVariants as stop
 use Rattle.ca_base.specs.Counting.{HasCleared, HasFound}
 use Rattle.ca_base.specs.Putting.{first_note}
-use Rattle.ca_base.specs.Splitting.{HasSplit}
+use Rattle.ca_base.specs.Splitting.{HasSplit, split_forms}
 use Rattle.ca_node.specs.Inventory.{IsListed}
 use Rattle.ca_node.specs.Told.{MyTree}
 use Rattle.ca_node.specs.States.{IsAlone}
@@ -74,12 +74,12 @@ one_try (Err stop.Empty) m m' ended e = absurd cc
 one_try (Err stop.Worn) m m' ended e = absurd cc
 
 -- The rows of one that wasn't were put back.
-put_back : (r : Result (Unit {0}) Stop) (m m' : MyTree) (kept kept' : KeptRows)
-    → HasCleared r m m' kept kept' → HasSplitBack (answer_to r) m m' kept kept'
-put_back (Ok x) m m' kept kept' h = tt
-put_back (Err (stop.Lost x)) m m' kept kept' h = h
-put_back (Err stop.Empty) m m' kept kept' h = h
-put_back (Err stop.Worn) m m' kept kept' h = h
+put_back : (r : Result (Unit {0}) Stop) (base : ℕ) (m m' : MyTree) (kept kept' : KeptRows)
+    → HasCleared split_forms base [] r m m' kept kept' → HasSplitBack (answer_to r) m m' kept kept'
+put_back (Ok x) base m m' kept kept' h = tt
+put_back (Err (stop.Lost x)) base m m' kept kept' h = h
+put_back (Err stop.Empty) base m m' kept kept' h = h
+put_back (Err stop.Worn) base m m' kept kept' h = h
 
 -- The same, where the pass knew and kept as much before.
 pub one_try_as : (r : Result (Unit {0}) Stop) (a : Adapted) (k m m' : MyTree) → m ≡ k → a ≡ answer_to r
@@ -87,10 +87,10 @@ pub one_try_as : (r : Result (Unit {0}) Stop) (a : Adapted) (k m m' : MyTree) �
 one_try_as r a k m m' same is ended = subst (λ (x : Adapted). IsOneTry x k m') (sym is)
     (subst (λ (x : MyTree). IsOneTry (answer_to r) x m') same (one_try r m m' ended))
 
-pub put_back_as : (r : Result (Unit {0}) Stop) (a : Adapted) (k m m' : MyTree)
+pub put_back_as : (r : Result (Unit {0}) Stop) (base : ℕ) (a : Adapted) (k m m' : MyTree)
     (kept kept0 kept' : KeptRows) → m ≡ k → kept0 ≡ kept → a ≡ answer_to r
-    → HasCleared r m m' kept0 kept' → HasSplitBack a k m' kept kept'
-put_back_as r a k m m' kept kept0 kept' same list is h = subst
+    → HasCleared split_forms base [] r m m' kept0 kept' → HasSplitBack a k m' kept kept'
+put_back_as r base a k m m' kept kept0 kept' same list is h = subst
     (λ (x : Adapted). HasSplitBack x k m' kept kept') (sym is)
     (subst (λ (x : MyTree × KeptRows). HasSplitBack (answer_to r) x.0 m' x.1 kept')
-    (λ i. (same i, list i)) (put_back r m m' kept0 kept' h))
+    (λ i. (same i, list i)) (put_back r base m m' kept0 kept' h))

@@ -7,7 +7,7 @@ use Rattle.ca_adapt.specs.declared.adapted.Why.TheVariants as why
 use Rattle.ca_base.specs.declared.stop.Stop.{Stop}
 use Rattle.ca_base.specs.declared.stop.Stop.TheVariants as stop
 use Rattle.ca_base.specs.Counting.{losses, HasMet, PutsBack}
-use Rattle.ca_base.specs.Splitting.{HasSplit}
+use Rattle.ca_base.specs.Splitting.{HasSplit, split_forms}
 use Rattle.ca_node.specs.Told.{MyTree, one_more_lost}
 use Rattle.ca_node.specs.TreeView.{Note}
 use Rattle.ca_rows.specs.declared.kept.KeptRows.{KeptRows}
@@ -66,9 +66,9 @@ HasSplitBack (adapted.NotSplit why.AtLevel) m m' kept kept' = kept' ≡ kept
 HasSplitBack (adapted.NotSplit why.SiblingRoute) m m' kept kept' = Unit {0}
 HasSplitBack (adapted.NotSplit why.TooMany) m m' kept kept' = Unit {0}
 HasSplitBack (adapted.NotSplit why.Taken) m m' kept kept' = Unit {0}
-HasSplitBack (adapted.NotSplit why.Lost) m m' kept kept' = PutsBack 1 m m' kept kept'
-HasSplitBack (adapted.NotSplit why.NoRow) m m' kept kept' = PutsBack 0 m m' kept kept'
-HasSplitBack (adapted.NotSplit why.Worn) m m' kept kept' = PutsBack 0 m m' kept kept'
+HasSplitBack (adapted.NotSplit why.Lost) m m' kept kept' = PutsBack split_forms 1 m m' kept kept'
+HasSplitBack (adapted.NotSplit why.NoRow) m m' kept kept' = PutsBack split_forms 0 m m' kept kept'
+HasSplitBack (adapted.NotSplit why.Worn) m m' kept kept' = PutsBack split_forms 0 m m' kept kept'
 HasSplitBack (adapted.NotJoined why) m m' kept kept' = Unit {0}
 
 -- No exchange of a link was lost: where an exchange was lost, it was that of the pool's head.

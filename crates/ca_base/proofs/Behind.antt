@@ -2,8 +2,7 @@
 use Rattle.std.proofs.Common.{◌≡◌, ◌≢◌, ℕ, zero, suc, ◌+◌, ◌-◌, ◌*◌, ◌/◌, ◌%◌, ◌^◌, ◌<◌, ◌≤◌, min, List, [], ◌∷◌, ◌++◌, length, map, take, drop, get_or, sym, refl, ap, ◌∙◌, subst, ⊎_elim, arith, length-drop}
 use Rattle.std.proofs.Math.Nat.{mul-le-mul_right, pow-suc, zero-div, mul_assoc, mul-add-div_right, div-div-eq-div-mul, div-eq_of_lt, pow-le-pow_right}
 use Rattle.std.proofs.lemmas.Bool.{cases_lt}
-use Rattle.std.proofs.Math.ListN.{drop_of_length-le}
-use Rattle.std.proofs.lemmas.List.{get_or-drop, take_rest, take-append-drop, drop-append-le, length-take-le}
+use Rattle.std.proofs.lemmas.List.{get_or-drop, take-append-drop, drop-append-le, length-take-le}
 use Rattle.std.proofs.lemmas.Nat.{shr_below}
 use Rattle.std.specs.Ordering.{nat_cmp, ordering_then}
 use Rattle.std.specs.declared.cmp.Ordering.{Ordering}

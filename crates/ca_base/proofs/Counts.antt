@@ -1,13 +1,17 @@
 -- What calls count, one after another.
-use Rattle.std.proofs.Common.{◌≡◌, ℕ, ◌+◌, ◌≤◌, List, [], ◌++◌, length, Result, Ok, Err, ap, sym, refl, ◌∙◌, arith, vec_len, append_assoc, length-append}
+use Rattle.std.proofs.Common.{◌≡◌, inr, ℕ, ◌+◌, ◌≤◌, List, [], ◌∷◌, ◌++◌, length, Result, Ok, Err, ap, sym, refl, ◌∙◌, subst, arith, vec_len}
 use Rattle.ca_model.specs.declared.outcome.Spent.{Spent}
 use Rattle.ca_node.specs.Told.{MyTree}
 use Rattle.ca_base.specs.declared.stop.Stop.{Stop}
 use Rattle.ca_base.specs.declared.stop.Stop.TheVariants as stop
-use Rattle.ca_base.specs.Counting.{losses, IsSpent, HasCleared, HasFound, HasMet, HasStoppedBy, PutsBack, TakesKept, lost_by}
+use Rattle.ca_base.specs.Counting.{losses, IsSpent, HasCleared, HasFound, HasMet, HasPutBack, HasStoppedBy, KeepsBack, KeepsMore, PutsBack, TakesKept, TakesTooFew, lost_by}
+use Rattle.ca_base.specs.Taking.{TakesForBase, TakesOldest}
+use Rattle.ca_node.specs.Layout.{base_form}
 use Rattle.ca_base.specs.Writing.{IsRewritten}
 use Rattle.ca_rows.specs.declared.kept.Kept.{Kept}
 use Rattle.ca_rows.specs.declared.kept.KeptRows.{KeptRows}
+use Rattle.ca_rows.specs.declared.view.Pin.{Pin}
+use Rattle.ca_rows.specs.Kept.{AreYoung}
 
 -- Two calls, one after the other.
 pub spent_both : (a b c : Spent) (k m n : MyTree) → IsSpent a b k m → IsSpent b c m n
@@ -29,72 +33,143 @@ pub met_both : (a b c d : ℕ) (k m n : MyTree) → HasMet a b k m → HasMet c 
 met_both a b c d k m n x y = let e = x.0 in let w = x.1 in let e' = y.0 in let w' = y.1 in
     (omega arith, omega arith)
 
--- The oldest rows were taken, and then the oldest ones of those that were left.
-pub takes_both : (these those : List Kept) (kept kept' kept'' : KeptRows)
-    → TakesKept these kept kept' → TakesKept those kept' kept'' → TakesKept (these ++ those) kept kept''
-takes_both these those kept kept' kept'' one two =
-    one ∙ (ap (λ ks. these ++ ks) two ∙ sym (append_assoc these those kept''.rows.items))
+-- Where all kept rows are young none is taken, for whatever form.
+pub takes_nothing : (told : ℕ) (likes : List ℕ) (ks : List Kept) → AreYoung told ks
+    → TakesKept told likes ks ks
+takes_nothing told [] ks young = refl
+takes_nothing told (like ∷ likes) ks young =
+    (ks, inr (young, refl), takes_nothing told likes ks young)
 
--- None was taken.
-pub takes_none : (kept kept' : KeptRows) → kept' ≡ kept → TakesKept [] kept kept'
-takes_none kept kept' same = ap (λ (k : KeptRows). k.rows.items) (sym same)
+-- Rows were taken for some forms, and then for others.
+pub takes_both : (told : ℕ) (these those : List ℕ) (ks next left : List Kept)
+    → TakesKept told these ks next → TakesKept told those next left
+    → TakesKept told (these ++ those) ks left
+takes_both told [] those ks next left one two =
+    subst (λ (l : List Kept). TakesKept told those l left) one two
+takes_both told (like ∷ likes) those ks next left one two =
+    (one.0, one.1, takes_both told likes those one.0 next left one.2 two)
 
--- Rows were put back twice.
-pub back_both : (a b : ℕ) (k m l : MyTree) (kept kept' kept'' : KeptRows) → losses k + a ≤ losses m
-    → losses m + b ≤ losses l
-    → PutsBack a k m kept kept' → PutsBack b m l kept' kept'' → PutsBack (a + b) k l kept kept''
-back_both a b k m l kept kept' kept'' more more' one two = let first = one.1 in let last = two.1 in
-    let long = length-append one.0 two.0 in (
-      one.0 ++ two.0,
+-- Rows are put back, and then others.
+pub keeps_on : (a : ℕ) (k m l : MyTree) (left : List Kept) (kept' kept'' : KeptRows)
+    → losses k + a ≤ losses m → losses m ≤ losses l
+    → KeepsBack a k m left kept' → PutsBack [] 0 m l kept' kept'' → KeepsBack a k l left kept''
+keeps_on a k m l left kept' kept'' more more' one two = let first = one.0 in let last = two.2.0 in
+    let long = kept'.rows.ok.0 in let same = ap length two.1 in (
       omega arith,
-      λ less. takes_both one.0 two.0 kept kept' kept'' (one.2 (omega arith)) (two.2 (omega arith)),
+      λ less. two.2.1 (omega arith) ∙ (two.1 ∙ one.1 (omega arith)),
     )
+
+pub back_both : (likes : List ℕ) (a : ℕ) (k m l : MyTree) (kept kept' kept'' : KeptRows)
+    → losses k + a ≤ losses m → losses m ≤ losses l
+    → PutsBack likes a k m kept kept' → PutsBack [] 0 m l kept' kept''
+    → PutsBack likes a k l kept kept''
+back_both likes a k m l kept kept' kept'' more more' one two =
+    (one.0, one.1, keeps_on a k m l one.0 kept' kept'' more more' one.2 two)
 
 -- Nothing was put back, and so many exchanges were lost by something else.
-pub none_back : (else : ℕ) (m m' : MyTree) (kept kept' : KeptRows) → losses m' ≡ losses m + else
-    → kept' ≡ kept → PutsBack else m m' kept kept'
-none_back else m m' kept kept' lost same =
+keeps_none : (else : ℕ) (m m' : MyTree) (kept kept' : KeptRows) → losses m' ≡ losses m + else
+    → kept' ≡ kept → KeepsBack else m m' kept.rows.items kept'
+keeps_none else m m' kept kept' lost same = let long = kept.rows.ok.0 in
     let as_many = ap (λ (k : KeptRows). vec_len k.rows) same in
-    ([], omega arith, λ _. takes_none kept kept' same)
+    (omega arith, λ _. ap (λ (k : KeptRows). k.rows.items) same)
 
--- Nothing was lost until these rows were to be put back.
-as_begun : (else : ℕ) (k m l : MyTree) (kept kept0 kept' : KeptRows) → losses m ≡ losses k
-    → ((these : List Kept) × TakesKept these kept kept0) → PutsBack else m l kept0 kept'
-    → PutsBack else k l kept kept'
-as_begun else k m l kept kept0 kept' same first h = let sum = h.1 in
-    let as_many = ap length first.1 ∙ length-append first.0 kept0.rows.items in
-    let long = length-append first.0 h.0 in (
-      first.0 ++ h.0,
-      omega arith,
-      λ less. takes_both first.0 h.0 kept kept0 kept' first.1 (h.2 (omega arith)),
+pub none_back : (else : ℕ) (m m' : MyTree) (kept kept' : KeptRows) → losses m' ≡ losses m + else
+    → kept' ≡ kept → PutsBack [] else m m' kept kept'
+none_back else m m' kept kept' lost same =
+    (kept.rows.items, refl, keeps_none else m m' kept kept' lost same)
+
+-- No row was taken, nor was one kept that may be.
+pub none_put : (why : Stop) (m m' : MyTree) (kept kept' : KeptRows)
+    → AreYoung m.0.pin.told kept.rows.items → losses m' ≡ losses m + lost_by why → kept' ≡ kept
+    → TakesTooFew [] why m m' kept kept'
+none_put why m m' kept kept' young lost same =
+    (kept.rows.items, refl, young, keeps_none (lost_by why) m m' kept kept' lost same)
+
+-- Another form was asked for first, and no row was old enough.
+pub young_put : {T : Type 0} (r : Result T Stop) (like : ℕ) (likes : List ℕ) (m m' : MyTree)
+    (kept kept' : KeptRows) → AreYoung m.0.pin.told kept.rows.items
+    → HasPutBack likes r m m' kept kept' → HasPutBack (like ∷ likes) r m m' kept kept'
+young_put (Ok x) like likes m m' kept kept' young h = (kept.rows.items, inr (young, refl), h)
+young_put (Err why) like likes m m' kept kept' young h =
+    (h.0, (kept.rows.items, inr (young, refl), h.1), h.2, h.3)
+
+-- Others would have been asked for then, and none is old enough.
+pub asked_more : (why : Stop) (these those : List ℕ) (m m' : MyTree)
+    (kept kept' : KeptRows) → TakesTooFew these why m m' kept kept'
+    → TakesTooFew (these ++ those) why m m' kept kept'
+asked_more why these those m m' kept kept' h = (
+  h.0,
+  takes_both m.0.pin.told these those kept.rows.items h.0 h.0 h.1
+      (takes_nothing m.0.pin.told those h.0 h.2),
+  h.2,
+  h.3,
+)
+
+lost_before : (why : Stop) (m m' : MyTree) → HasStoppedBy why m m' → losses m ≤ losses m'
+    → losses m + lost_by why ≤ losses m'
+lost_before (stop.Lost e) m m' found more = let lost = found.0 in omega arith
+lost_before stop.Empty m m' found more = omega arith
+lost_before stop.Worn m m' found more = omega arith
+
+-- Rows were taken; then a try to take more came to nothing, and those are put back.
+pub back_after : (why : Stop) (these those : List ℕ) (k m0 m l : MyTree)
+    (kept kept0 kept' kept'' : KeptRows) → losses m0 ≡ losses k → m0.0.pin ≡ k.0.pin
+    → TakesKept k.0.pin.told these kept.rows.items kept0.rows.items → HasStoppedBy why m0 m
+    → losses m0 ≤ losses m → TakesTooFew those why m0 m kept0 kept'
+    → losses m ≤ losses l → PutsBack [] 0 m l kept' kept''
+    → TakesTooFew (these ++ those) why k l kept kept''
+back_after why these those k m0 m l kept kept0 kept' kept'' same pin first found more one more'
+    two =
+    let on = keeps_on (lost_by why) m0 m l one.0 kept' kept'' (lost_before why m0 m found more) more'
+    one.3 two in let sum = on.0 in let told = ap (λ (e : Pin). e.told) pin in (
+      one.0,
+      takes_both k.0.pin.told these those kept.rows.items kept0.rows.items one.0 first
+          (subst (λ (t : ℕ). TakesKept t those kept0.rows.items one.0) told one.1),
+      subst (λ (t : ℕ). AreYoung t one.0) told one.2,
+      (omega arith, λ less. on.1 (omega arith)),
     )
 
--- No row was taken, and those that were taken before are put back.
-pub back_after : (why : Stop) (k m0 m l : MyTree) (kept kept0 kept' kept'' : KeptRows)
-    → losses m0 ≡ losses k
-    → ((these : List Kept) × TakesKept these kept kept0) → HasStoppedBy why m0 m
-    → losses m0 ≤ losses m → PutsBack (lost_by why) m0 m kept0 kept' → losses m ≤ losses l
-    → PutsBack 0 m l kept' kept'' → PutsBack (lost_by why) k l kept kept''
-back_after (stop.Lost e) k m0 m l kept kept0 kept' kept'' same first found more one more' two =
-    let lost = found.0 in
-    as_begun 1 k m0 l kept kept0 kept'' same first
-    (back_both 1 0 m0 m l kept0 kept' kept'' (omega arith) (omega arith) one two)
-back_after stop.Empty k m0 m l kept kept0 kept' kept'' same first found more one more' two =
-    as_begun 0 k m0 l kept kept0 kept'' same first
-    (back_both 0 0 m0 m l kept0 kept' kept'' (omega arith) (omega arith) one two)
-back_after stop.Worn k m0 m l kept kept0 kept' kept'' same first found more one more' two =
-    as_begun 0 k m0 l kept kept0 kept'' same first
-    (back_both 0 0 m0 m l kept0 kept' kept'' (omega arith) (omega arith) one two)
+-- One row more is kept.
+pub keeps_last : (form : ℕ) (rows : List ℕ) (row : ℕ) (ks ks' ks'' : List Kept)
+    → KeepsMore form rows ks ks' → KeepsMore form (row ∷ []) ks' ks''
+    → KeepsMore form (rows ++ row ∷ []) ks ks''
+keeps_last form [] row ks ks' ks'' one two =
+    subst (λ (l : List Kept). KeepsMore form (row ∷ []) l ks'') one two
+keeps_last form (x ∷ xs) row ks ks' ks'' one two =
+    (one.0, keeps_last form xs row (ks ++ record { row = x; at = one.0; form = form } ∷ []) ks' ks'' one.1 two)
 
 -- Nothing was put back until a base was to be exchanged.
-pub cleared_after : (r : Result (Unit {0}) Stop) (k m l : MyTree)
-    (kept kept0 kept1 kept' : KeptRows)
-    → losses m ≡ losses k → ((these : List Kept) × TakesKept these kept kept0) → kept1 ≡ kept0
-    → HasCleared r m l kept1 kept' → HasCleared r k l kept kept'
-cleared_after (Ok x) k m l kept kept0 kept1 kept' same first list h = tt
-cleared_after (Err why) k m l kept kept0 kept1 kept' same first list h =
-    as_begun (lost_by why) k m l kept kept1 kept' same
-    (first.0, first.1 ∙ ap (λ (x : KeptRows). first.0 ++ x.rows.items) (sym list)) h
+pub cleared_after : (r : Result (Unit {0}) Stop) (likes : List ℕ) (base : ℕ) (gone : List ℕ)
+    (k m l : MyTree) (kept kept0 kept1 kept' : KeptRows)
+    → losses m ≡ losses k → TakesKept k.0.pin.told likes kept.rows.items kept0.rows.items
+    → kept1 ≡ kept0
+    → HasCleared [] base gone r m l kept1 kept' → HasCleared likes base gone r k l kept kept'
+cleared_after (Ok x) likes base gone k m l kept kept0 kept1 kept' same first list h = (
+  h.0,
+  h.1,
+  subst (λ (left : List Kept). TakesKept k.0.pin.told likes kept.rows.items left)
+      (sym (h.2 ∙ ap (λ (x : KeptRows). x.rows.items) list)) first,
+  h.3,
+  h.4,
+)
+cleared_after (Err why) likes base gone k m l kept kept0 kept1 kept' same first list h = let sum = h.2.0 in (
+  h.0,
+  subst (λ (left : List Kept). TakesKept k.0.pin.told likes kept.rows.items left)
+      (sym (h.1 ∙ ap (λ (x : KeptRows). x.rows.items) list)) first,
+  (omega arith, λ less. h.2.1 (omega arith)),
+)
+
+-- The row for a base was taken first, whatever became of the exchange.
+pub for_base : (r : Result (Unit {0}) Stop) (row told : ℕ) (ks left : List Kept)
+    → TakesOldest (Ok row) told base_form ks left → TakesForBase r row told ks
+for_base (Ok x) row told ks left h = (left, h)
+for_base (Err why) row told ks left h = tt
+
+-- Taking came to nothing.
+pub cleared_none : (why : Stop) (likes : List ℕ) (m m' : MyTree) (kept kept' : KeptRows)
+    → TakesTooFew likes why m m' kept kept'
+    → PutsBack likes (lost_by why) m m' kept kept'
+cleared_none why likes m m' kept kept' h = (h.0, h.1, h.3)
 
 -- Rows were taken, and nothing was lost from then until a base was to be exchanged.
 pub counted_after : (a b c : Spent) (k m m' n : MyTree) → IsSpent a b k m → losses m' ≡ losses m

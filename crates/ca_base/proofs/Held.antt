@@ -1,5 +1,5 @@
 -- The rows that a pass holds, as it takes, writes, puts back and retires.
-use Rattle.std.proofs.Common.{◌≡◌, ◌≢◌, ℕ, true, false, ◌<◌, ◌≤◌, List, [], ◌∷◌, length, Vec, sym, refl, ap, ◌∙◌, subst, inl, inr, ⊎_elim, arith}
+use Rattle.std.proofs.Common.{◌≡◌, ◌≢◌, ℕ, true, false, ◌<◌, ◌≤◌, List, [], ◌∷◌, length, get_or, Vec, sym, refl, ap, ◌∙◌, subst, inl, inr, ⊎_elim, arith}
 use Rattle.std.specs.Global.{Global}
 use Rattle.std.specs.declared.option.Option.TheVariants as again
 use mathlib.Core.Logic.{dite}
@@ -22,11 +22,12 @@ use Rattle.ca_rows.specs.declared.kept.KeptRows.{KeptRows}
 use Rattle.ca_rows.specs.declared.taken.Taken.TheVariants.{Row}
 use Rattle.ca_rows.specs.Calls.{TakesRow, PutsRow}
 use Rattle.ca_rows.specs.Claims.{claim_of, claimed, dropped}
-use Rattle.ca_rows.specs.Kept.{kept_of, AreKept}
+use Rattle.ca_rows.specs.Kept.{AreKept, IsTakenOut, nobody}
 use Rattle.ca_rows.specs.Reclaiming.{Reuses}
 use Rattle.ca_rows.proofs.Claiming.{claimed_here, claimed_else, dropped_here, dropped_else}
 use Rattle.ca_rows.proofs.HeldCount.{dropped_no_more, taken_one_more, dropped_one_less, written_no_more, claimed_one_less}
-use Rattle.ca_rows.proofs.Keeping.{here_is, claimed_too, dropped_too, kept_as}
+use Rattle.ca_rows.proofs.Keeping.{claimed_too, dropped_too, kept_as}
+use Rattle.ca_rows.proofs.Listing.{place_claimed}
 use Rattle.ca_rows.specs.Layout.{row_words}
 
 not_kept : (claims : List Claimed) (row : ℕ) (its : List ℕ) (t : ℕ)
@@ -207,22 +208,24 @@ took_row rows kept kept' m m' row size told same held few h = let lo = told.0 in
     )
 
 -- By what taking a kept row again told.
-pub reused_row : (rows : ℕ) (kept kept' : KeptRows) (m m' : MyTree) (row : ℕ)
-    → Reuses (again.Some row) m m' kept kept'
+pub reused_row : (rows like : ℕ) (kept kept' : KeptRows) (m m' : MyTree) (row : ℕ)
+    → Reuses (again.Some row) like m m' kept kept'
     → AreKept rows m'.0.claims kept'.rows → (held : List ℕ)
     → length held < 8 → AreHeld rows kept.rows m.0 held → (¬ IsIn row held)
     × AreHeld rows kept'.rows m'.0 (row ∷ held)
-reused_row rows kept kept' m m' row told list held few h = let its : List ℕ = told.3.0 in
+reused_row rows like kept kept' m m' row told list held few h = let its : List ℕ = told.0.0 in
     let claims : List Claimed = claimed row (Holds its) m.0.claims in
-    let own = h.0.are_kept.are.are_claimed row told.0
-    (ap (λ (ks : List Kept). kept_of ks row) told.2
-    ∙ here_is (record { row = row; at = told.0 }) kept'.rows.items row refl) in
+    let out : IsTakenOut m.0.pin.told like row kept.rows.items kept'.rows.items = told.1 in
+    let at : ℕ = (get_or kept.rows.items out.0 nobody).at in
+    let own = subst (λ (r : ℕ). (0 < r) × (r ≤ rows) × (claim_of m.0.claims r ≡ some (Keeps at)))
+    out.2
+    (place_claimed rows m.0.claims kept.rows.items h.0.are_kept.are out.0 nobody out.1.inside) in
     let t = holds_too rows kept.rows kept'.rows m.0.claims held row its h.0
-    (λ x e. not_kept m.0.claims row x told.0 e own.2) own.0 own.1 told.3.1
-    (subst (λ (x : MyTree). AreKept rows x.0.claims kept'.rows) told.3.2 list) in
+    (λ x e. not_kept m.0.claims row x at e own.2) own.0 own.1 told.0.1
+    (subst (λ (x : MyTree). AreKept rows x.0.claims kept'.rows) told.0.2 list) in
     let less = dropped_no_more row m.0.claims in let now = h.1.now in let ever = h.1.ever in (
       t.0,
-      subst (λ (x : MyTree). AreHeld rows kept'.rows x.0 (row ∷ held)) (sym told.3.2)
+      subst (λ (x : MyTree). AreHeld rows kept'.rows x.0 (row ∷ held)) (sym told.0.2)
           (t.1, record { now = omega arith; ever = omega arith }),
     )
 

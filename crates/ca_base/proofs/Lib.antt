@@ -13,7 +13,6 @@ pub mod Items
 pub mod KeyOrder
 pub mod LastItems
 pub mod NewFronts
-pub mod Oldest
 pub mod ObjectBytes
 pub mod Readying
 pub mod Rebasing

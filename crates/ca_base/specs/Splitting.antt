@@ -1,5 +1,6 @@
 -- Splits of a base: what the words of a route spell, which rows are taken, and what a split comes to.
 use Rattle.std.specs.Prelude.{◌≡◌, ℕ, ◌*◌, ◌/◌, List, [], ◌∷◌, length, slice_index, slice_index_or, Result, Ok, Err}
+use Rattle.ca_node.specs.Layout.{base_form, object_form}
 use Rattle.ca_node.specs.Row.{IsRouteRow, count, items, key, level, route_key}
 use Rattle.ca_node.specs.Told.{MyTree, divided}
 use Rattle.ca_node.specs.TreeView.{Note, TreeView, Division}
@@ -19,6 +20,10 @@ pub record SpellsRoute (at_level : ℕ) (bytes : List ℕ) (left right attempt :
   pub left_is : slice_index its 1 ≡ left
   pub right_is : slice_index its 2 ≡ right
   pub join_is : slice_index its 3 ≡ attempt * 4
+
+-- for which forms rows are taken: for the halves, and then for the route, which leaves former bases to bases
+abbrev pub split_forms : List ℕ
+split_forms = base_form ∷ base_form ∷ object_form ∷ []
 
 -- Three rows are held, each once, or none.
 abbrev pub HasTakenThree : Result (ℕ × ℕ × ℕ) Stop → (List ℕ → Type 0) → Type 0

@@ -1,7 +1,8 @@
 -- Rows that a pass holds for a call.
-use Rattle.std.specs.Prelude.{◌≡◌, ◌≢◌, ◌⊎◌, ℕ, ◌+◌, ◌<◌, ◌≤◌, List, [], ◌∷◌, length, Vec, Result, Ok, Err}
+use Rattle.std.specs.Prelude.{◌≡◌, ◌≢◌, ◌⊎◌, ℕ, ◌<◌, ◌≤◌, List, [], ◌∷◌, length, Vec, Result, Ok, Err}
 use Rattle.std.specs.Global.{Global}
 use mathlib.Core.Option.{some}
+use Rattle.ca_node.specs.Layout.{base_form}
 use Rattle.ca_node.specs.Links.{IsIn}
 use Rattle.ca_node.specs.TreeView.{TreeView}
 use Rattle.ca_base.specs.declared.stop.Stop.{Stop}
@@ -14,7 +15,7 @@ use Rattle.ca_rows.specs.declared.view.Claimed.{Claimed}
 use Rattle.ca_rows.specs.declared.view.View.{View}
 use Rattle.ca_rows.specs.Calls.{IsNumbered}
 use Rattle.ca_rows.specs.Claims.{claim_of, held_count}
-use Rattle.ca_rows.specs.Kept.{AreKept}
+use Rattle.ca_rows.specs.Kept.{AreKept, AreYoung, IsTakenOut}
 use Rattle.ca_rows.specs.Layout.{row_words}
 use Rattle.ca_rows.specs.Passes.{IsReading}
 
@@ -44,11 +45,20 @@ abbrev pub HasTaken : Result ℕ Stop → List ℕ → (List ℕ → Type 0) →
 HasTaken (Ok row) held Now = (¬ IsIn row held) × Now (row ∷ held)
 HasTaken (Err why) held Now = Now held
 
--- Where the row that was kept for longest may be held again by the epoch that the pass was told as it pinned, it is the one that is taken, and the
--- others are kept still; else the same rows are kept.
-abbrev pub TakesOldest : Result ℕ Stop → ℕ → List Kept → List Kept → Type 0
-TakesOldest r told [] now = now ≡ []
-TakesOldest r told (first ∷ rest) now = (first.at + 2 ≤ told → (r ≡ Ok first.row) × (now ≡ rest)) × (told < first.at + 2 → now ≡ first ∷ rest)
+-- The row that is taken is the kept one that is to be taken again for this form, by the epoch that the pass was told as it pinned, and the others are kept
+-- still, in their order; or none was that old, and the same rows are kept.
+abbrev pub TakesOldest : Result ℕ Stop → ℕ → ℕ → List Kept → List Kept → Type 0
+TakesOldest r told like ks left = ((row : ℕ) × (r ≡ Ok row) × IsTakenOut told like row ks left) ⊎ (AreYoung told ks × (left ≡ ks))
+
+-- So are two rows, one for each of these forms.
+abbrev pub TakesTwo : Result (ℕ × ℕ) Stop → ℕ → ℕ × ℕ → List Kept → List Kept → Type 0
+TakesTwo (Ok two) told likes ks left = (next : List Kept) × TakesOldest (Ok two.0) told likes.0 ks next × TakesOldest (Ok two.1) told likes.1 next left
+TakesTwo (Err why) told likes ks left = Unit {0}
+
+-- Where a try came to something, the row that it took for a base was taken so, too.
+abbrev pub TakesForBase : Result (Unit {0}) Stop → ℕ → ℕ → List Kept → Type 0
+TakesForBase (Ok x) row told ks = (left : List Kept) × TakesOldest (Ok row) told base_form ks left
+TakesForBase (Err why) row told ks = Unit {0}
 
 -- Two rows are held, or none.
 abbrev pub HasTakenTwo : Result (ℕ × ℕ) Stop → (List ℕ → Type 0) → Type 0

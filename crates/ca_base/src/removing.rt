@@ -1,20 +1,22 @@
 //! An object is taken away from a base.
-ghost use Rattle.std.specs.Prelude.{◌≢◌, [], map, Err, Ok, Some};
+ghost use Rattle.std.specs.Prelude.{◌≢◌, [], ◌∷◌, map, Err, Ok, Some};
 ghost use Rattle.ca_model.specs.Places.{IsPlace};
 ghost use Rattle.ca_model.specs.Event.{Remove};
 ghost use Rattle.ca_model.specs.History.{Del};
 ghost use Rattle.ca_model.specs.StoreMap.{IsStoreMap};
 ghost use Rattle.ca_node.specs.Inventory.{IsListed};
+ghost use Rattle.ca_node.specs.Layout.{base_form};
 ghost use Rattle.ca_node.specs.Place.{HasKey};
 ghost use Rattle.ca_node.specs.Row.{pair};
 ghost use Rattle.ca_node.specs.States.{IsAlone};
 ghost use Rattle.ca_base.specs.Counting.{IsSpent, HasCleared, HasFound};
 ghost use Rattle.ca_base.specs.Targets.{IsTarget};
-ghost use Rattle.ca_base.specs.Putting.{object_at, HasRenewed, IsNewRow, HasTried};
+ghost use Rattle.ca_base.specs.Putting.{gone, last_items, object_at, HasRenewed, IsNewRow, HasTried};
 ghost use Rattle.ca_rows.specs.Told.{met_of};
 ghost use Rattle.ca_base.specs.declared.stop.Exchange.TheVariants.{Link as IsLink};
 ghost use Rattle.ca_base.specs.declared.stop.Stop.TheVariants.{Lost as IsLost};
-ghost use Rattle.ca_rows.specs.Passes.{sizes, known};
+ghost use Rattle.ca_base.specs.Taking.{TakesForBase};
+ghost use Rattle.ca_rows.specs.Passes.{sizes, known, view};
 ghost use Rattle.ca_node.specs.TreePasses.{tree_of};
 ghost use Rattle.ca_base.specs.Readiness.{IsReady, StaysReady, shown_last};
 
@@ -24,7 +26,7 @@ use crate::swapping::{Deed, Rows, swap_in};
 use crate::taking::take;
 use crate::target::{Removal, Target};
 use ca_model::Spent;
-use ca_node::{TreePass, TreeSpace};
+use ca_node::{BASE_FORM, TreePass, TreeSpace};
 use std::marker::Brand;
 use std::slice::from_ref;
 
@@ -51,9 +53,11 @@ pub fn remove_at(
     ensures placed { IsNewRow placed.new result (tree_of pass.new) }
     ensures counted { IsSpent spent.old spent.new (known pass.old) (known pass.new) }
     ensures found { HasFound result (known pass.old) (known pass.new) }
-    ensures back { HasCleared result (known pass.old) (known pass.new) pass.old.kept pass.new.kept }
+    ensures again { TakesForBase result placed.new (view pass.old).pin.told pass.old.kept.rows.items }
+    ensures back { HasCleared (base_form ∷ []) target.now.cursor.base (gone (Ok removal.now.at) (last_items (tree_of pass.old))) result
+        (known pass.old) (known pass.new) pass.old.kept pass.new.kept }
 {
-    let new = take(space, pass, spent)?;
+    let new = take(space, pass, BASE_FORM, spent)?;
     *placed = new;
     let old = write_base_without(space, pass, new, target, removal.at);
     let rows = Rows {

@@ -9,7 +9,7 @@ ghost use Rattle.ca_node.specs.States.{IsAlone};
 ghost use Rattle.ca_node.specs.Links.{AreApart};
 ghost use Rattle.ca_base.specs.Counting.{IsSpent, HasCleared, HasFound, HasPutBack};
 ghost use Rattle.ca_base.specs.Targets.{IsTarget};
-ghost use Rattle.ca_base.specs.Splitting.{HasTakenThree, HasSplit, IsHalving};
+ghost use Rattle.ca_base.specs.Splitting.{HasTakenThree, HasSplit, IsHalving, split_forms};
 ghost use Rattle.ca_base.specs.Taking.{AreHeld, MayTake};
 ghost use Rattle.ca_base.specs.declared.stop.Exchange.TheVariants.{Link as IsLink};
 ghost use Rattle.ca_base.specs.declared.stop.Stop.TheVariants.{Lost as IsLost};
@@ -25,7 +25,7 @@ use crate::stop::{Exchange, Stop};
 use crate::swapping::{give_back_all, retire_unlinked};
 use crate::taking::{take, take_two};
 use ca_model::{Code, Spent};
-use ca_node::{Cursor, Plan, TreePass, TreeSpace, divide_base};
+use ca_node::{BASE_FORM, Cursor, OBJECT_FORM, Plan, TreePass, TreeSpace, divide_base};
 use std::marker::Brand;
 
 // How many objects a base has that is split, and how many attempts to join its route is said to have had.
@@ -56,7 +56,7 @@ pub fn split_at(
     ensures won { IsAlone (sizes space.now) (tree_of pass.old) → IsListed (tree_of pass.old).inventory (shown_last pass.old) → result ≢ Err (IsLost IsLink) }
     ensures counted { IsSpent spent.old spent.new (known pass.old) (known pass.new) }
     ensures found { HasFound result (known pass.old) (known pass.new) }
-    ensures back { HasCleared result (known pass.old) (known pass.new) pass.old.kept pass.new.kept }
+    ensures back { HasCleared split_forms cursor.base [] result (known pass.old) (known pass.new) pass.old.kept pass.new.kept }
 {
     let (route, left, right) = take_three(space, pass, spent)?;
     let base = cursor.base;
@@ -83,7 +83,8 @@ pub fn split_at(
     divide_in::<Brand>(space, pass, cursor, fork, halving, spent)
 }
 
-// Takes three rows. Where it finds fewer, they are put back.
+// Takes three rows: one for a route, where it takes a former object, so that the former bases are left to bases, and two for bases. Where it finds fewer,
+// they are put back.
 fn take_three(
     space: &TreeSpace,
     pass: &mut TreePass,
@@ -96,13 +97,13 @@ fn take_three(
     ensures counted { IsSpent spent.old spent.new (known pass.old) (known pass.new) }
     ensures found { HasFound result (known pass.old) (known pass.new) }
     ensures head { result ≢ Err (IsLost IsLink) }
-    ensures back { HasPutBack result (known pass.old) (known pass.new) pass.old.kept pass.new.kept }
+    ensures back { HasPutBack split_forms result (known pass.old) (known pass.new) pass.old.kept pass.new.kept }
 {
-    let (first, second) = take_two(space, pass, spent)?;
-    match take(space, pass, spent) {
+    let (first, second) = take_two(space, pass, (BASE_FORM, BASE_FORM), spent)?;
+    match take(space, pass, OBJECT_FORM, spent) {
         Ok(third) => Ok((third, first, second)),
         Err(why) => {
-            give_back_all(space, pass, &[first, second], spent);
+            give_back_all(space, pass, &[first, second], BASE_FORM, spent);
             Err(why)
         }
     }
@@ -131,15 +132,15 @@ fn divide_in<K: Plan>(
     ensures won { IsAlone (sizes space.now) (tree_of pass.old) → IsListed (tree_of pass.old).inventory K.division.old → result ≢ Err (IsLost IsLink) }
     ensures counted { IsSpent spent.old spent.new (known pass.old) (known pass.new) }
     ensures found { HasFound result (known pass.old) (known pass.new) }
-    ensures back { HasCleared result (known pass.old) (known pass.new) pass.old.kept pass.new.kept }
+    ensures back { HasCleared [] cursor.base [] result (known pass.old) (known pass.new) pass.old.kept pass.new.kept }
 {
     let (link, base) = (cursor.link, cursor.base);
     if !divide_base::<K>(space, pass, link, base, fork.route) {
         lose(spent);
         let rows = [fork.route, fork.left, fork.right];
-        give_back_all(space, pass, &rows, spent);
+        give_back_all(space, pass, &rows, BASE_FORM, spent);
         return Err(Stop::Lost(Exchange::Link));
     }
-    retire_unlinked(space, pass, base);
+    retire_unlinked(space, pass, base, BASE_FORM);
     Ok(())
 }

@@ -4,7 +4,7 @@ ghost use Rattle.ca_node.specs.Inventory.{IsListed};
 ghost use Rattle.ca_node.specs.Links.{IsIn, AreApart};
 ghost use Rattle.ca_node.specs.Told.{IsBaseNote, IsUpdate};
 ghost use Rattle.ca_node.specs.States.{IsAlone};
-ghost use Rattle.ca_base.specs.Counting.{losses, IsSpent, HasCleared, HasFound, HasMet, PutsBack};
+ghost use Rattle.ca_base.specs.Counting.{losses, IsSpent, HasCleared, HasFound, HasMet, KeepsMore, PutsBack};
 ghost use Rattle.ca_base.specs.Finding.{IsAtCursor};
 ghost use Rattle.ca_base.specs.Putting.{HasRenewed, HasTried, IsNewRow, first_note};
 ghost use Rattle.ca_base.specs.declared.stop.Exchange.TheVariants.{Link as IsLink};
@@ -20,7 +20,7 @@ use crate::stop::{Exchange, Stop};
 use crate::taking::give_back;
 use crate::updating::Putting;
 use ca_model::Spent;
-use ca_node::{Cursor, Intent, TreePass, TreeSpace, replace_base};
+use ca_node::{BASE_FORM, Cursor, Intent, OBJECT_FORM, TreePass, TreeSpace, replace_base};
 
 /// What an update does. The code hands it on and never looks at it: a proof names the update by it.
 #[derive(Clone, Copy)]
@@ -68,22 +68,28 @@ pub(crate) fn swap_in<K: Intent>(
     ensures placed { IsNewRow rows.now.new result (tree_of pass.new) }
     ensures counted { IsSpent spent.old spent.new (known pass.old) (known pass.new) }
     ensures found { HasFound result (known pass.old) (known pass.new) }
-    ensures back { HasCleared result (known pass.old) (known pass.new) pass.old.kept pass.new.kept }
+    ensures back { HasCleared [] cursor.base rows.now.goes.now result (known pass.old) (known pass.new) pass.old.kept pass.new.kept }
 {
     let base = cursor.base;
     if !replace_base::<K>(space, pass, cursor.link, base, rows.new) {
         lose(spent);
-        give_back(space, pass, rows.new, spent);
-        give_back_all(space, pass, rows.comes, spent);
+        give_back(space, pass, rows.new, BASE_FORM, spent);
+        give_back_all(space, pass, rows.comes, OBJECT_FORM, spent);
         return Err(Stop::Lost(Exchange::Link));
     }
-    retire_unlinked(space, pass, base);
-    retire_all(space, pass, rows.goes);
+    retire_unlinked(space, pass, base, BASE_FORM);
+    retire_all(space, pass, rows.goes, OBJECT_FORM);
     Ok(())
 }
 
-// Puts rows back that the pass holds.
-pub(crate) fn give_back_all(space: &TreeSpace, pass: &mut TreePass, rows: &[u32], spent: &mut Spent)
+// Puts rows back that the pass holds. Those that are lost are kept, as rows of this form.
+pub(crate) fn give_back_all(
+    space: &TreeSpace,
+    pass: &mut TreePass,
+    rows: &[u32],
+    form: u32,
+    spent: &mut Spent,
+)
     requires own { IsOn space.now pass.old }
     requires apart { AreApart rows.now }
     requires held { AreHeld (sizes space.now).rows pass.old.kept.rows (view pass.old) rows.now }
@@ -91,35 +97,37 @@ pub(crate) fn give_back_all(space: &TreeSpace, pass: &mut TreePass, rows: &[u32]
     ensures none { AreHeld (sizes space.now).rows pass.new.kept.rows (view pass.new) [] }
     ensures counted { IsSpent spent.old spent.new (known pass.old) (known pass.new) }
     ensures met { HasMet 0 0 (known pass.old) (known pass.new) }
-    ensures back { PutsBack 0 (known pass.old) (known pass.new) pass.old.kept pass.new.kept }
+    ensures back { PutsBack [] 0 (known pass.old) (known pass.new) pass.old.kept pass.new.kept }
 {
     for at in 0..rows.len() {
-        give_back(space, pass, rows[at], spent);
+        give_back(space, pass, rows[at], form, spent);
     }
 }
 
-// Retires rows that the pass unlinked.
-fn retire_all(space: &TreeSpace, pass: &mut TreePass, rows: &[u32])
+// Retires rows of this form that the pass unlinked.
+fn retire_all(space: &TreeSpace, pass: &mut TreePass, rows: &[u32], form: u32)
     requires own { IsOn space.now pass.old }
     requires apart { AreApart rows.now }
     requires unlinked { AreUnlinked (sizes space.now).rows pass.old.kept.rows (view pass.old) rows.now }
     ensures frame { IsStillPass pass.old pass.new }
     ensures none { AreHeld (sizes space.now).rows pass.new.kept.rows (view pass.new) [] }
     ensures met { (losses (known pass.new) ≡ losses (known pass.old)) × HasMet 0 0 (known pass.old) (known pass.new) }
+    ensures kept { KeepsMore form rows.now pass.old.kept.rows.items pass.new.kept.rows.items }
 {
     for at in 0..rows.len() {
-        retire_unlinked(space, pass, rows[at]);
+        retire_unlinked(space, pass, rows[at], form);
     }
 }
 
-// Retires a row that the pass unlinked.
-pub(crate) fn retire_unlinked(space: &TreeSpace, pass: &mut TreePass, row: u32)
+// Retires a row of this form that the pass unlinked.
+pub(crate) fn retire_unlinked(space: &TreeSpace, pass: &mut TreePass, row: u32, form: u32)
     requires own { IsOn space.now pass.old }
     requires unlinked { (rest : List ℕ) × (¬ IsIn row rest) × AreUnlinked (sizes space.now).rows pass.old.kept.rows (view pass.old) (row ∷ rest) }
     ensures frame { IsStillPass pass.old pass.new }
     ensures retired { (rest : List ℕ) → ¬ IsIn row rest → AreUnlinked (sizes space.now).rows pass.old.kept.rows (view pass.old) (row ∷ rest)
         → AreUnlinked (sizes space.now).rows pass.new.kept.rows (view pass.new) rest }
     ensures met { (losses (known pass.new) ≡ losses (known pass.old)) × HasMet 0 0 (known pass.old) (known pass.new) }
+    ensures kept { KeepsMore form (row ∷ []) pass.old.kept.rows.items pass.new.kept.rows.items }
 {
-    space.retire(pass, row);
+    space.retire(pass, row, form);
 }

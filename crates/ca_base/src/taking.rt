@@ -1,13 +1,11 @@
 //! Rows are taken for a call, and put back.
-ghost use Rattle.std.specs.Prelude.{◌≡◌, ◌≢◌, Err, ◌+◌, ◌<◌, ℕ, List, [], ◌∷◌, length};
-ghost use mathlib.Core.Option.{some};
+ghost use Rattle.std.specs.Prelude.{◌≢◌, Err, ◌<◌, ℕ, List, [], ◌∷◌, length};
 ghost use Rattle.ca_node.specs.Links.{IsIn};
 ghost use Rattle.ca_base.specs.Counting.{IsSpent, HasFound, HasMet, HasPutBack, PutsBack};
 ghost use Rattle.ca_base.specs.declared.stop.Exchange.TheVariants.{Link as IsLink};
 ghost use Rattle.ca_base.specs.declared.stop.Stop.TheVariants.{Lost as IsLost};
-ghost use Rattle.ca_base.specs.Taking.{AreHeld, HasTaken, HasTakenTwo, MayTake, TakesOldest};
-ghost use Rattle.ca_rows.specs.declared.view.Claim.TheVariants.{Keeps as IsKept};
-ghost use Rattle.ca_rows.specs.Claims.{claim_of};
+ghost use Rattle.ca_base.specs.Taking.{AreHeld, HasTaken, HasTakenTwo, MayTake, TakesOldest, TakesTwo};
+ghost use Rattle.ca_rows.specs.Kept.{AreKept, AreYoung};
 ghost use Rattle.ca_rows.specs.Passes.{IsOn, IsStillPass, StillKeepsList, sizes, known, view};
 
 use crate::spending::lose;
@@ -16,8 +14,14 @@ use ca_model::Spent;
 use ca_node::{TreePass, TreeSpace};
 use ca_rows::Taken;
 
-/// Takes a row: the one that the pass keeps for longest, where nobody can have a note on it any more, else a free one.
-pub fn take(space: &TreeSpace, pass: &mut TreePass, spent: &mut Spent) -> Result<u32, Stop>
+/// Takes a row: of those that the pass keeps, and on which nobody can have a note any more, the oldest one of this form, or else the oldest one; where it
+/// keeps no such row, a free one.
+pub fn take(
+    space: &TreeSpace,
+    pass: &mut TreePass,
+    like: u32,
+    spent: &mut Spent,
+) -> Result<u32, Stop>
     requires may { MayTake space.now pass.old }
     ensures frame { IsStillPass pass.old pass.new }
     ensures taken { (held : List ℕ) → length held < 8 → AreHeld (sizes space.now).rows pass.old.kept.rows (view pass.old) held
@@ -25,10 +29,10 @@ pub fn take(space: &TreeSpace, pass: &mut TreePass, spent: &mut Spent) -> Result
     ensures counted { IsSpent spent.old spent.new (known pass.old) (known pass.new) }
     ensures found { HasFound result (known pass.old) (known pass.new) }
     ensures head { result ≢ Err (IsLost IsLink) }
-    ensures back { HasPutBack result (known pass.old) (known pass.new) pass.old.kept pass.new.kept }
-    ensures oldest { TakesOldest result (view pass.old).pin.told pass.old.kept.rows.items pass.new.kept.rows.items }
+    ensures back { HasPutBack (like ∷ []) result (known pass.old) (known pass.new) pass.old.kept pass.new.kept }
+    ensures oldest { TakesOldest result (view pass.old).pin.told like pass.old.kept.rows.items pass.new.kept.rows.items }
 {
-    match space.reuse_row(pass) {
+    match space.reuse_row(pass, like) {
         Some(row) => Ok(row),
         None => take_free(space, pass, spent),
     }
@@ -37,14 +41,15 @@ pub fn take(space: &TreeSpace, pass: &mut TreePass, spent: &mut Spent) -> Result
 // Takes a free row, where the pass keeps none that it may hold again.
 fn take_free(space: &TreeSpace, pass: &mut TreePass, spent: &mut Spent) -> Result<u32, Stop>
     requires own { IsOn space.now pass.old }
-    requires young { (row t : ℕ) → claim_of (view pass.old).claims row ≡ some (IsKept t) → (view pass.old).pin.told < t + 2 }
+    requires list { AreKept (sizes space.now).rows (view pass.old).claims pass.old.kept.rows }
+    requires young { AreYoung (view pass.old).pin.told pass.old.kept.rows.items }
     ensures frame { StillKeepsList pass.old pass.new }
     ensures taken { (held : List ℕ) → length held < 8 → AreHeld (sizes space.now).rows pass.old.kept.rows (view pass.old) held
         → HasTaken result held (AreHeld (sizes space.now).rows pass.new.kept.rows (view pass.new)) }
     ensures counted { IsSpent spent.old spent.new (known pass.old) (known pass.new) }
     ensures found { HasFound result (known pass.old) (known pass.new) }
     ensures head { result ≢ Err (IsLost IsLink) }
-    ensures back { HasPutBack result (known pass.old) (known pass.new) pass.old.kept pass.new.kept }
+    ensures back { HasPutBack [] result (known pass.old) (known pass.new) pass.old.kept pass.new.kept }
 {
     match space.take_row(pass) {
         Taken::Row(row) => Ok(row),
@@ -57,10 +62,11 @@ fn take_free(space: &TreeSpace, pass: &mut TreePass, spent: &mut Spent) -> Resul
     }
 }
 
-/// Takes two rows. Where it finds but one, that one is put back.
+/// Takes two rows, one for each of these forms. Where it finds but one, that one is put back.
 pub fn take_two(
     space: &TreeSpace,
     pass: &mut TreePass,
+    likes: (u32, u32),
     spent: &mut Spent,
 ) -> Result<(u32, u32), Stop>
     requires may { MayTake space.now pass.old }
@@ -70,20 +76,21 @@ pub fn take_two(
     ensures counted { IsSpent spent.old spent.new (known pass.old) (known pass.new) }
     ensures found { HasFound result (known pass.old) (known pass.new) }
     ensures head { result ≢ Err (IsLost IsLink) }
-    ensures back { HasPutBack result (known pass.old) (known pass.new) pass.old.kept pass.new.kept }
+    ensures back { HasPutBack (likes.0 ∷ likes.1 ∷ []) result (known pass.old) (known pass.new) pass.old.kept pass.new.kept }
+    ensures oldest { TakesTwo result (view pass.old).pin.told likes pass.old.kept.rows.items pass.new.kept.rows.items }
 {
-    let first = take(space, pass, spent)?;
-    match take(space, pass, spent) {
+    let first = take(space, pass, likes.0, spent)?;
+    match take(space, pass, likes.1, spent) {
         Ok(second) => Ok((first, second)),
         Err(why) => {
-            give_back(space, pass, first, spent);
+            give_back(space, pass, first, likes.0, spent);
             Err(why)
         }
     }
 }
 
-/// Puts a row back that the pass holds. Where that is lost to another pass the row is retired, and so it is kept.
-pub fn give_back(space: &TreeSpace, pass: &mut TreePass, row: u32, spent: &mut Spent)
+/// Puts a row back that the pass holds. Where that is lost to another pass the row is retired, and so it is kept, as one of this form.
+pub fn give_back(space: &TreeSpace, pass: &mut TreePass, row: u32, form: u32, spent: &mut Spent)
     requires own { IsOn space.now pass.old }
     requires held { (rest : List ℕ) × (¬ IsIn row rest) × AreHeld (sizes space.now).rows pass.old.kept.rows (view pass.old) (row ∷ rest) }
     ensures frame { IsStillPass pass.old pass.new }
@@ -91,10 +98,10 @@ pub fn give_back(space: &TreeSpace, pass: &mut TreePass, row: u32, spent: &mut S
         → AreHeld (sizes space.now).rows pass.new.kept.rows (view pass.new) rest }
     ensures counted { IsSpent spent.old spent.new (known pass.old) (known pass.new) }
     ensures met { HasMet 0 0 (known pass.old) (known pass.new) }
-    ensures back { PutsBack 0 (known pass.old) (known pass.new) pass.old.kept pass.new.kept }
+    ensures back { PutsBack [] 0 (known pass.old) (known pass.new) pass.old.kept pass.new.kept }
 {
     if !space.put_row(pass, row) {
         lose(spent);
-        space.retire(pass, row);
+        space.retire(pass, row, form);
     }
 }

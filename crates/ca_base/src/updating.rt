@@ -1,17 +1,19 @@
 //! An object is put into a base.
-ghost use Rattle.std.specs.Prelude.{◌≡◌, ◌≢◌, ℕ, List, [], map, Err};
+ghost use Rattle.std.specs.Prelude.{◌≡◌, ◌≢◌, ℕ, List, [], ◌∷◌, map, Err};
 ghost use Rattle.ca_model.specs.Places.{IsPlace};
 ghost use Rattle.ca_node.specs.Inventory.{IsListed};
+ghost use Rattle.ca_node.specs.Layout.{base_form, object_form};
 ghost use Rattle.ca_node.specs.Place.{HasKey};
 ghost use Rattle.ca_node.specs.Row.{pair};
 ghost use Rattle.ca_node.specs.States.{IsAlone};
 ghost use Rattle.ca_base.specs.Counting.{IsSpent, HasCleared, HasFound};
-ghost use Rattle.ca_base.specs.Putting.{gone as gone_at, IsItemAt, IsNewRow, IsRoom, IsFor, HasRenewed, HasTried};
+ghost use Rattle.ca_base.specs.Putting.{gone as gone_at, IsItemAt, IsNewRow, IsRoom, IsFor, HasRenewed, HasTried, last_items};
 ghost use Rattle.ca_base.specs.Targets.{IsKeyed, IsTarget, edit_of, event_of, key_in};
 ghost use Rattle.ca_rows.specs.Told.{met_of};
 ghost use Rattle.ca_base.specs.declared.stop.Exchange.TheVariants.{Link as IsLink};
 ghost use Rattle.ca_base.specs.declared.stop.Stop.TheVariants.{Lost as IsLost};
-ghost use Rattle.ca_rows.specs.Passes.{sizes, known};
+ghost use Rattle.ca_base.specs.Taking.{TakesForBase};
+ghost use Rattle.ca_rows.specs.Passes.{sizes, known, view};
 ghost use Rattle.ca_node.specs.TreePasses.{tree_of};
 ghost use Rattle.ca_base.specs.Readiness.{IsReady, StaysReady, shown_last};
 
@@ -22,7 +24,7 @@ use crate::taking::take_two;
 use crate::target::{Insertion, Target};
 use crate::writing::write_object;
 use ca_model::Spent;
-use ca_node::{TreePass, TreeSpace};
+use ca_node::{BASE_FORM, OBJECT_FORM, TreePass, TreeSpace};
 use std::marker::Brand;
 use std::slice::from_ref;
 
@@ -63,11 +65,12 @@ pub fn put_at(
     ensures placed { IsNewRow placed.new result (tree_of pass.new) }
     ensures counted { IsSpent spent.old spent.new (known pass.old) (known pass.new) }
     ensures found { HasFound result (known pass.old) (known pass.new) }
-    ensures back { HasCleared result (known pass.old) (known pass.new) pass.old.kept pass.new.kept }
+    ensures again { TakesForBase result placed.new (view pass.old).pin.told pass.old.kept.rows.items }
+    ensures back { HasCleared (base_form ∷ object_form ∷ []) target.now.cursor.base (gone_at insertion.now.place (last_items (tree_of pass.old))) result
+        (known pass.old) (known pass.new) pass.old.kept pass.new.kept }
 {
-    // An update retires the old base before the old object, and kept rows are given back from the last one on: so the row that is taken first
-    // was mostly a base before, and has most of a new one's words already.
-    let (new, row) = take_two(space, pass, spent)?;
+    // A row that was a base has most of a new one's words already.
+    let (new, row) = take_two(space, pass, (BASE_FORM, OBJECT_FORM), spent)?;
     let keyed = insertion.keyed;
     let place = insertion.place;
     write_object(space, pass, row, keyed.object, keyed.key_at, keyed.key_end);

@@ -20,7 +20,9 @@ pub use cursor::{Cursor, Spot, walk, walk_from};
 pub use exchange::{divide_base, replace_base};
 pub use handed::Front;
 pub use handing::{front, learn};
-pub use layout::{BASE, CODE, ITEMS, KEY, OBJECT, PREFIX, PREFIX_LENGTH, ROUTE};
+pub use layout::{
+    BASE, BASE_FORM, CODE, ITEMS, KEY, OBJECT, OBJECT_FORM, PREFIX, PREFIX_LENGTH, ROUTE,
+};
 pub use link::Link;
 pub use plays::{Intent, Plan};
 pub use rule::{TreePass, TreeRule, TreeSpace};

@@ -171,7 +171,7 @@ module _ (rows : ℕ) (claims : List Claimed) (ks : List Kept) (k : AreListed ro
 
   -- So a row that isn't in it finds room.
   pub has_room : (q : ℕ) → 0 < q → q ≤ rows → kept_of ks q ≡ none → length ks < rows
-  has_room q lo hi none_is = let one : Kept = record { row = q; at = 0 } in
+  has_room q lo hi none_is = let one : Kept = record { row = q; at = 0; form = 0 } in
       let all = as_many rows (ks ++ one ∷ []) (apart_more ks one k.apart none_is)
       (λ r t e. dite (ℕ_discrete q r)
       (λ f. subst (λ (x : ℕ). (0 < x) × (x ≤ rows)) f (lo, hi))
@@ -179,10 +179,10 @@ module _ (rows : ℕ) (claims : List Claimed) (ks : List Kept) (k : AreListed ro
       let more = length-append ks (one ∷ []) in omega arith
 
   -- The row is retired, and stands behind the others, which were retired no later.
-  pub retired_list : (q t : ℕ) → 0 < q → q ≤ rows → kept_of ks q ≡ none
+  pub retired_list : (q t f : ℕ) → 0 < q → q ≤ rows → kept_of ks q ≡ none
       → ((r u : ℕ) → claim_of claims r ≡ some (Keeps u) → u ≤ t)
-      → AreListed rows (claimed q (Keeps t) claims) (ks ++ record { row = q; at = t } ∷ [])
-  retired_list q t lo hi none_is last = let one : Kept = record { row = q; at = t } in record {
+      → AreListed rows (claimed q (Keeps t) claims) (ks ++ record { row = q; at = t; form = f } ∷ [])
+  retired_list q t f lo hi none_is last = let one : Kept = record { row = q; at = t; form = f } in record {
     apart = apart_more ks one k.apart none_is;
     rising = rises_more ks one k.apart k.rising (λ r u e. last r u (k.are_claimed r u e).2);
     are_listed = λ r u e. dite (ℕ_discrete q r)
@@ -259,13 +259,13 @@ module _ (rows : ℕ) (claims : List Claimed) (kept : Vec Kept Global)
 
 -- The row is retired, in a list with room for all rows.
 pub retired_too : (rows : ℕ) (claims : List Claimed) (kept kept' : Vec Kept Global)
-    → AreKept rows claims kept → (q t : ℕ) → 0 < q → q ≤ rows
+    → AreKept rows claims kept → (q t f : ℕ) → 0 < q → q ≤ rows
     → kept_of kept.items q ≡ none → ((r u : ℕ) → claim_of claims r ≡ some (Keeps u) → u ≤ t)
-    → kept'.items ≡ kept.items ++ record { row = q; at = t } ∷ [] → rows ≤ vec_capacity kept'
+    → kept'.items ≡ kept.items ++ record { row = q; at = t; form = f } ∷ [] → rows ≤ vec_capacity kept'
     → AreKept rows (claimed q (Keeps t) claims) kept'
-retired_too rows claims kept kept' k q t lo hi none_is last grown wide = record {
+retired_too rows claims kept kept' k q t f lo hi none_is last grown wide = record {
   are = subst (AreListed rows (claimed q (Keeps t) claims)) (sym grown)
-      (retired_list rows claims kept.items k.are q t lo hi none_is last);
+      (retired_list rows claims kept.items k.are q t f lo hi none_is last);
   room = wide;
 }
 

@@ -7,7 +7,7 @@ pub mod Forking
 mod GivingBack
 pub mod HeldCount
 pub mod Keeping
-mod Listing
+pub mod Listing
 pub mod Making
 pub mod NoneOld
 pub mod OwnWords

@@ -1,5 +1,5 @@
 -- The list of the rows that a pass keeps, by its places.
-use Rattle.std.proofs.Common.{◌≡◌, ◌≢◌, ℕ, zero, suc, ◌+◌, ◌<◌, ◌≤◌, List, [], ◌∷◌, ◌++◌, length, take, drop, get_or, sym, refl, ap, ◌∙◌, subst, arith}
+use Rattle.std.proofs.Common.{◌≡◌, ◌≢◌, ℕ, zero, suc, ◌+◌, ◌<◌, ◌≤◌, List, [], ◌∷◌, ◌++◌, length, take, drop, get_or, sym, refl, ap, ◌∙◌, subst, ⊎_elim, arith, le_refl}
 use mathlib.Core.Logic.{dite}
 use mathlib.Core.Option.{some, some-injective, some-ne-none}
 use native.Mathlib.Decide.{ℕ_discrete}
@@ -9,6 +9,7 @@ use Rattle.ca_rows.specs.declared.view.Claim.TheVariants.{Keeps}
 use Rattle.ca_rows.specs.declared.view.Claimed.{Claimed}
 use Rattle.ca_rows.specs.Claims.{claim_of, claimed}
 use Rattle.ca_rows.specs.Kept.{kept_of, AreApart, Rises, AreListed}
+use Rattle.ca_rows.proofs.Scanning.{less_or_not}
 use Rattle.ca_rows.proofs.Claiming.{claimed_here, claimed_else}
 use Rattle.ca_rows.proofs.Keeping.{here_is, else_is, without, without_this, without_other, without_none, without_here, without_else, apart_less, rises_less}
 
@@ -41,6 +42,49 @@ young_behind (x ∷ xs) zero epoch d up l young r t e = dite (ℕ_discrete x.row
     (λ n. let low = up.0 r t (sym (else_is x xs r n) ∙ e) in omega arith)
 young_behind (x ∷ xs) (suc i) epoch d up l young r t e =
     young_behind xs i epoch d up.1 (omega arith) young r t e
+
+-- In a list that rises no row was retired later than one behind it.
+pub rises_by : (ks : List Kept) (i j : ℕ) (d : Kept) → AreApart ks → Rises ks → i ≤ j
+    → j < length ks → (get_or ks i d).at ≤ (get_or ks j d).at
+rises_by [] i j d a up l inside = absurd (omega arith)
+rises_by (x ∷ xs) zero zero d a up l inside = le_refl x.at
+rises_by (x ∷ xs) zero (suc j) d a up l inside =
+    up.0 (get_or xs j d).row (get_or xs j d).at (kept_at xs j d a.1 (omega arith))
+rises_by (x ∷ xs) (suc i) zero d a up l inside = absurd (omega arith)
+rises_by (x ∷ xs) (suc i) (suc j) d a up l inside =
+    rises_by xs i j d a.1 up.1 (omega arith) (omega arith)
+
+-- The first row is young, or there is none: so all are.
+pub young_from : (ks : List Kept) (epoch : ℕ) (d : Kept) → AreApart ks → Rises ks
+    → (0 < length ks → epoch < (get_or ks 0 d).at + 2) → (i : ℕ) → i < length ks
+    → epoch < (get_or ks i d).at + 2
+young_from ks epoch d a up young i l = let first = young (omega arith) in
+    let rises = rises_by ks 0 i d a up (omega arith) l in omega arith
+
+-- A row of the list has a place there.
+pub place_of : (ks : List Kept) (r t : ℕ) (d : Kept) → kept_of ks r ≡ some t
+    → (i : ℕ) × (i < length ks) × ((get_or ks i d).at ≡ t)
+place_of [] r t d e = absurd (some-ne-none t (sym e))
+place_of (x ∷ xs) r t d e = dite (ℕ_discrete x.row r)
+    (λ f. (0, omega arith, some-injective x.at t (sym (here_is x xs r f) ∙ e)))
+    (λ n. let rest = place_of xs r t d (sym (else_is x xs r n) ∙ e) in let inside = rest.1 in (suc rest.0, omega arith, rest.2))
+
+-- Where all of a list are young, so is each row that is kept.
+pub young_claims : (rows : ℕ) (claims : List Claimed) (ks : List Kept) (epoch : ℕ) (d : Kept)
+    → AreListed rows claims ks
+    → ((i : ℕ) → i < length ks → epoch < (get_or ks i d).at + 2) → (r t : ℕ)
+    → claim_of claims r ≡ some (Keeps t) → epoch < t + 2
+young_claims rows claims ks epoch d k young r t e = let here = place_of ks r t d (k.are_listed r t e) in
+    let is = here.2 in let late = young here.0 here.1 in omega arith
+
+-- No row before a place has the form, and the one there is young, if one is there: so no old row has it.
+pub not_before : (ks : List Kept) (epoch like at : ℕ) (d : Kept) → AreApart ks → Rises ks
+    → ((i : ℕ) → i < at → (get_or ks i d).form ≢ like)
+    → (at < length ks → epoch < (get_or ks at d).at + 2)
+    → (i : ℕ) → i < length ks → (get_or ks i d).at + 2 ≤ epoch → (get_or ks i d).form ≢ like
+not_before ks epoch like at d a up others ends i l old = ⊎_elim (λ before. others i before)
+    (λ (behind : at ≤ i). let young = ends (omega arith) in
+    let rises = rises_by ks at i d a up behind l in absurd (omega arith)) (less_or_not i at)
 
 -- Nothing stands behind the end.
 pub none_behind : (ks : List Kept) (i r t : ℕ) → length ks ≤ i → kept_of (drop i ks) r ≡ some t → ⊥

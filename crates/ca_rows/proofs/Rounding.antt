@@ -20,7 +20,7 @@ nothing_in (x ∷ xs) e = absurd (omega arith)
 
 module _ {U : Type 0} where
   -- The seat saw more of the others, in an epoch that isn't lower.
-  pub saw_more : (m m' : Mine U) (scan upto lag looks lags : ℕ)
+  pub saw_more : (m m' : Mine U) (scan upto lag looks lags moved : ℕ)
       → m' ≡ with_pin m (record m.0.pin {
         scan =
             scan;
@@ -28,9 +28,10 @@ module _ {U : Type 0} where
         lag = lag;
         looks = looks;
         lags = lags;
+        moved = moved;
       })
       → m.0.pin.scan ≤ scan → m.0.pin.looks ≤ looks → m.0.pin.lags ≤ lags → Reclaims m m'
-  saw_more m m' scan upto lag looks lags e up more more_lags = subst
+  saw_more m m' scan upto lag looks lags moved e up more more_lags = subst
       (λ x. Reclaims m x) (sym e) record {
         same_sizes = refl;
         same_made = refl;
@@ -96,7 +97,7 @@ module _ {U : Type 0} where
 
     so_far : Reclaims m m2
     so_far = reclaims_trans m m1 m2
-        (saw_more m m1 e 0 0 (m.0.pin.looks + 1) m.0.pin.lags began later (omega arith)
+        (saw_more m m1 e 0 0 (m.0.pin.looks + 1) m.0.pin.lags m.0.pin.moved began later (omega arith)
         (le_refl m.0.pin.lags)) gave
 
     lost_so_far : m2.0.lost ≡ m.0.lost + losses
@@ -156,7 +157,7 @@ module _ {U : Type 0} where
         past = past;
         reclaims =
             reclaims_trans m m2 m3 so_far
-            (saw_more m2 m3 m2.0.pin.scan look.3.0 j m2.0.pin.looks (m2.0.pin.lags + 1) saw
+            (saw_more m2 m3 m2.0.pin.scan look.3.0 j m2.0.pin.looks (m2.0.pin.lags + 1) m2.0.pin.moved saw
             (le_refl m2.0.pin.scan) (le_refl m2.0.pin.looks) (omega arith));
         looked = ap (λ (x : Mine U). x.0.pin.looks) saw ∙ ap (λ (p : Pin). p.looks) pin_is;
         freed = count;
@@ -189,11 +190,11 @@ module _ {U : Type 0} where
       round_moves m3 m4 look move = let scan = ap (λ (p : Pin). p.scan) pin_is in
           let scan' = ap (λ (x : Mine U). x.0.pin.scan) look in
           let to_3 =
-          saw_more m2 m3 m2.0.pin.scan passes m2.0.pin.lag m2.0.pin.looks m2.0.pin.lags look
+          saw_more m2 m3 m2.0.pin.scan passes m2.0.pin.lag m2.0.pin.looks m2.0.pin.lags m2.0.pin.moved look
           (le_refl m2.0.pin.scan)
           (le_refl m2.0.pin.looks) (le_refl m2.0.pin.lags) in
           let to_4 =
-          saw_more m3 m4 (e + 1) 0 m3.0.pin.lag m3.0.pin.looks m3.0.pin.lags move (omega arith)
+          saw_more m3 m4 (e + 1) 0 m3.0.pin.lag m3.0.pin.looks m3.0.pin.lags (m3.0.pin.moved + 1) move (omega arith)
           (le_refl m3.0.pin.looks) (le_refl m3.0.pin.lags) in record {
             e = e;
             later = later;
@@ -232,7 +233,7 @@ module _ {U : Type 0} where
           }) m m4 ks ks'
       round_misses m3 m4 look move =
           let to_3 =
-          saw_more m2 m3 m2.0.pin.scan passes m2.0.pin.lag m2.0.pin.looks m2.0.pin.lags look
+          saw_more m2 m3 m2.0.pin.scan passes m2.0.pin.lag m2.0.pin.looks m2.0.pin.lags m2.0.pin.moved look
           (le_refl m2.0.pin.scan)
           (le_refl m2.0.pin.looks) (le_refl m2.0.pin.lags) in
           let count_2 = lost_so_far in let count_3 = ap (λ (x : Mine U). x.0.lost) look in

@@ -171,9 +171,9 @@ module _ {U : Type 0} (linked lent : List ℕ → ℕ → Type 0) (noted : List 
         words = set s.words 1 (epoch s.words + 1);
         homes = s.homes;
         views = set s.views id
-            (record d { pin = record d.pin { scan = epoch s.words + 1; upto = 0 } });
+            (record d { pin = record d.pin { scan = epoch s.words + 1; upto = 0; moved = d.pin.moved + 1 } });
       }
-      move_step = let e' : Pin = record d.pin { scan = epoch s.words + 1; upto = 0 } in
+      move_step = let e' : Pin = record d.pin { scan = epoch s.words + 1; upto = 0; moved = d.pin.moved + 1 } in
           let k = moved_pins.each id d.pin here in
           let agrees =
           own_agrees linked lent noted fact frames z (map upper_of s.views) s.words 1
@@ -292,7 +292,7 @@ module _ {U : Type 0} (linked lent : List ℕ → ℕ → Type 0) (noted : List 
       (λ n. either (eqb n e) (e + 1) n) (Moved (step slots 1 e (e + 1) none) me)
   moves slots id me e is all room s r _ at _ = let d = me.0 in let within = r.within in
       let k = mine s r id d at in
-      let w1 : View U = record d { pin = record d.pin { scan = e + 1; upto = 0 } } in
+      let w1 : View U = record d { pin = record d.pin { scan = e + 1; upto = 0; moved = d.pin.moved + 1 } } in
       let w0 : View U = record d { lost = d.lost + 1 } in
       dite (ℕ_discrete (epoch s.words) e)
       (λ (hit : epoch s.words ≡ e). (
@@ -304,7 +304,7 @@ module _ {U : Type 0} (linked lent : List ℕ → ℕ → Type 0) (noted : List 
             (subst (λ (x : ℕ). R record {
               words = set s.words 1 (x + 1);
               homes = s.homes;
-              views = set s.views id (record d { pin = record d.pin { scan = x + 1; upto = 0 } });
+              views = set s.views id (record d { pin = record d.pin { scan = x + 1; upto = 0; moved = d.pin.moved + 1 } });
             }) hit
             (move_step s r id d at (is ∙ sym hit) (omega arith) (omega arith))),
         (sym is, (λ _. refl), λ not. absurd (not hit)),

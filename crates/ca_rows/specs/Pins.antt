@@ -26,6 +26,7 @@ unpinned number = record {
   lag = 0;
   looks = 0;
   lags = 0;
+  moved = 0;
 }
 
 -- `made` passes were made, and the pins of all seats are these.

@@ -11,7 +11,7 @@ use Rattle.ca_rows.specs.declared.reclaimed.Round.{Round}
 use Rattle.ca_rows.specs.declared.view.Claim.TheVariants.{Keeps}
 use Rattle.ca_rows.specs.declared.view.Pin.{Pin}
 use Rattle.ca_rows.specs.Claims.{claim_of, held_count}
-use Rattle.ca_rows.specs.Kept.{kept_of}
+use Rattle.ca_rows.specs.Kept.{AreYoung, IsTakenOut, kept_of, nobody}
 use Rattle.ca_rows.specs.Told.{Mine, HoldsAgain, with_pin}
 
 module _ {U : Type 0} where
@@ -43,12 +43,11 @@ module _ {U : Type 0} where
     pub kept : (r t : ℕ) → claim_of m.0.claims r ≡ some (Keeps t) → (claim_of m'.0.claims r ≡ none) × (t + 2 ≤ m'.0.pin.scan)
         ⊎ ((t' : ℕ) × (t ≤ t') × (claim_of m'.0.claims r ≡ some (Keeps t')) × (m'.0.lost ≡ m.0.lost → t' ≡ t))
 
--- The row that the pass kept first of all is held again, since it was kept for two epochs before the one that the pass announced; or no row was, and nothing
--- changed.
-abbrev pub Reuses : {U : Type 0} → Answer ℕ → Mine U → Mine U → KeptRows → KeptRows → Type 0
-Reuses None m m' kept kept' = (m' ≡ m) × (kept' ≡ kept) × ((r t : ℕ) → kept_of kept.rows.items r ≡ some t → m.0.pin.told < t + 2)
-Reuses (Some row) m m' kept kept' = (at : ℕ) × (at + 2 ≤ m.0.pin.told) × (kept.rows.items ≡ record { row = row; at = at } ∷ kept'.rows.items)
-    × HoldsAgain row m m'
+-- The row that is chosen by the epoch which the pass announced is held again, and the others are kept still, in their order; or none was that old, and
+-- nothing changed.
+abbrev pub Reuses : {U : Type 0} → Answer ℕ → ℕ → Mine U → Mine U → KeptRows → KeptRows → Type 0
+Reuses None like m m' kept kept' = (m' ≡ m) × (kept' ≡ kept) × AreYoung m.0.pin.told kept.rows.items
+Reuses (Some row) like m m' kept kept' = HoldsAgain row m m' × IsTakenOut m.0.pin.told like row kept.rows.items kept'.rows.items
 
 -- The row at this place of the list was given back, and the list stays; or the exchange lost, those behind it were taken out up to the end, and it is kept
 -- since another epoch, which isn't below that of the look, behind the others.
@@ -90,16 +89,16 @@ IsLook passes (Some j) m m' = (0 < j) × (j ≤ passes) × (j ≢ m.0.pin.number
 
 -- The epoch moved by one, or the exchange lost.
 abbrev pub Moves : {U : Type 0} → Bool → ℕ → Mine U → Mine U → Type 0
-Moves true e m m' = m' ≡ with_pin m (record m.0.pin { scan = e + 1; upto = 0 })
+Moves true e m m' = m' ≡ with_pin m (record m.0.pin { scan = e + 1; upto = 0; moved = m.0.pin.moved + 1 })
 Moves false e m m' = m' ≡ (record m.0 { lost = m.0.lost + 1 }, m.1)
 
 -- A look at the others began, and so many exchanges were lost: the row that was kept first is two epochs older than the epoch; or that is at its last value; or
--- a pass lags; or the epoch moved by one; or the exchange that was to move it lost.
+-- a pass lags; or the pass moved the epoch by one, having looked at all others; or the exchange that was to move it lost.
 module _ {U : Type 0} where
   pub record EndsLook (losses : ℕ) (m m' : Mine U) (ks : List Kept) : Type 0 where
     pub looked : m'.0.pin.looks ≡ m.0.pin.looks + 1
-    pub ends : ((slice_index_or ks 0 (record { row = 0; at = 0 })).at + 2 ≤ m'.0.pin.scan) ⊎ (m'.0.pin.scan ≡ 4611686018427387904)
-        ⊎ (m'.0.pin.lags ≡ m.0.pin.lags + 1) ⊎ (m.0.pin.scan < m'.0.pin.scan) ⊎ (losses ≡ 1)
+    pub ends : ((slice_index_or ks 0 nobody).at + 2 ≤ m'.0.pin.scan) ⊎ (m'.0.pin.scan ≡ 4611686018427387904)
+        ⊎ (m'.0.pin.lags ≡ m.0.pin.lags + 1) ⊎ (m'.0.pin.moved ≡ m.0.pin.moved + 1) ⊎ (losses ≡ 1)
 
 -- One round, by its answer and by the lists of kept rows before and after.
 pub record Rounds {U : Type 0} (passes number : ℕ) (answer : Round) (m m' : Mine U) (ks ks' : List Kept) : Type 0 where

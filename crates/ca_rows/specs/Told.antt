@@ -139,9 +139,9 @@ module _ {U : Type 0} where
       × (0 < n → n ≤ m.0.pin.scan → (m.0.pin.pinned ≡ false → m.0.pin.upto + 1 ≢ m.0.pin.number)
       × (m' ≡ with_pin m (record m.0.pin { lag = m.0.pin.upto + 1; lags = m.0.pin.lags + 1 })))
 
-  -- The epoch moved by one, or the exchange lost. It expected the epoch that the last look at the others began with.
+  -- The epoch moved by one, which is counted, or the exchange lost. It expected the epoch that the last look at the others began with.
   abbrev pub Moved : Step (Unit {0}) → Mine U → ℕ → Mine U → Type 0
-  Moved st m n m' = (st.first ≡ m.0.pin.scan) × (n ≡ st.first → m' ≡ with_pin m (record m.0.pin { scan = st.second; upto = 0 }))
+  Moved st m n m' = (st.first ≡ m.0.pin.scan) × (n ≡ st.first → m' ≡ with_pin m (record m.0.pin { scan = st.second; upto = 0; moved = m.0.pin.moved + 1 }))
       × (n ≢ st.first → m' ≡ (record m.0 { lost = m.0.lost + 1 }, m.1))
 
   -- The pass's own announcement was loaded: while it is pinned, that is one more than the epoch which it told.

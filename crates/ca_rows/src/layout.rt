@@ -3,7 +3,8 @@
 /// How many words a row has. So many stand before the first row, too.
 pub const ROW_WORDS: usize = 136;
 
-/// How many words a pass has for itself behind the rows: they fill a line of a processor's cache, so no two passes' words lie on one.
+/// How many words a pass has for itself behind the rows: as many as a line of a processor's cache has. It uses the first two of them alone. Since what is
+/// allocated begins at a multiple of 16 bytes, those of two passes lie on two lines, though the eight of one pass may lie on two lines as well.
 pub const PASS_WORDS: usize = 8;
 
 /// How many words all passes have, of which there are 64 at most.

@@ -6,7 +6,7 @@ ghost use mathlib.Core.Option.{some};
 ghost use Rattle.ca_rows.specs.declared.view.Claim.TheVariants.{Holds as IsHeld, Keeps as IsKept};
 ghost use Rattle.ca_rows.specs.Calls.{IsNumbered};
 ghost use Rattle.ca_rows.specs.Claims.{claim_of, claimed};
-ghost use Rattle.ca_rows.specs.Kept.{AreKept, AreKeptBut, HasAged, kept_of};
+ghost use Rattle.ca_rows.specs.Kept.{AreKept, AreKeptBut, HasAged, kept_of, nobody};
 ghost use Rattle.ca_rows.specs.Reclaiming.{EndsLook, Reclaims, GivesBack, GivesOld, IsLag, lag_count, IsLook, MakesRounds, Moves, Rounds};
 ghost use Rattle.ca_rows.specs.Told.{HoldsAgain};
 ghost use Rattle.ca_rows.specs.Passes.{IsOn, IsSamePass, KeepsList, MayReclaim, sizes, known, view};
@@ -34,19 +34,20 @@ impl<R: RowRule> Space<R> {
         requires own { IsOn self.now pass.old }
         requires list { AreKeptBut (sizes self.now).rows (at + 1) end (view pass.old).claims pass.old.kept.rows }
         requires place { (at < end) × (end ≤ vec_len pass.old.kept.rows) }
-        requires old { (slice_index_or pass.old.kept.rows.items at (record { row = 0; at = 0 })).at + 2 ≤ (view pass.old).pin.scan }
+        requires old { (slice_index_or pass.old.kept.rows.items at nobody).at + 2 ≤ (view pass.old).pin.scan }
         ensures frame { IsSamePass pass.old pass.new }
         ensures list { result ≡ true → AreKeptBut (sizes self.now).rows at end (view pass.new).claims pass.new.kept.rows }
         ensures again { result ≡ false → AreKept (sizes self.now).rows (view pass.new).claims pass.new.kept.rows }
         ensures given { GivesBack result at end (known pass.old) (known pass.new) pass.old.kept.rows.items pass.new.kept.rows.items }
     {
         let row = pass.kept.row(at);
+        let form = pass.kept.form(at);
         self.regain_as::<Brand>(pass, row);
         if self.put_row(pass, row) {
             return true;
         }
         pass.kept.cut(at, end);
-        self.retire(pass, row);
+        self.retire(pass, row, form);
         false
     }
 

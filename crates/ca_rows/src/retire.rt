@@ -22,18 +22,19 @@ impl<R: RowRule> Space<R> {
         self.table.shared.load::<Retire<K>>(&mut pass.seat, 1)
     }
 
-    /// Keeps a row that the pass holds, that it unlinked, or that it lent to an operation which is finished, with the epoch that is loaded.
-    pub fn retire(&self, pass: &mut Pass<R>, row: u32)
+    /// Keeps a row that the pass holds, that it unlinked, or that it lent to an operation which is finished, with the epoch that is loaded. The form says
+    /// what the row was, by a number of the caller's own: `reuse_row` may ask for such a row.
+    pub fn retire(&self, pass: &mut Pass<R>, row: u32, form: u32)
         requires own { IsOn self.now pass.old }
         requires list { AreKept (sizes self.now).rows (view pass.old).claims pass.old.kept.rows }
         requires mine { MayRetire R.lent R.fact (sizes self.now) pass.old.seat.id (view pass.old) row }
         ensures frame { IsSamePass pass.old pass.new }
         ensures list { AreKept (sizes self.now).rows (view pass.new).claims pass.new.kept.rows }
-        ensures retired { (epoch : ℕ) × (pass.new.kept.rows.items ≡ pass.old.kept.rows.items ++ record { row = row; at = epoch } ∷ [])
+        ensures retired { (epoch : ℕ) × (pass.new.kept.rows.items ≡ pass.old.kept.rows.items ++ record { row = row; at = epoch; form = form } ∷ [])
             × (known pass.new ≡ (record (view pass.old) { claims = claimed row (IsKept epoch) (view pass.old).claims }, pass.old.seat.me.1))
             × ((view pass.old).pin.scan ≤ epoch) }
     {
         let at = self.retire_as::<Brand>(pass, row);
-        pass.kept.push(row, at);
+        pass.kept.push(row, at, form);
     }
 }

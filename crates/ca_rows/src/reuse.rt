@@ -36,26 +36,27 @@ impl<R: RowRule> Space<R> {
         self.table.shared.load::<Regain<K>>(&mut pass.seat, 1);
     }
 
-    /// The row that the pass keeps for longest, where it was retired two epochs before the one that the pass announced, or earlier: the pass holds it
-    /// then, and keeps it no more. It loads the pass's own announcement, and takes no step that others may wait for.
-    pub fn reuse_row(&self, pass: &mut Pass<R>) -> Option<u32>
+    /// The oldest row of this form, of those that the pass keeps and retired two epochs before the one that it announced, or earlier; the oldest of them
+    /// all, where none has the form. The pass holds it then, and keeps it no more. It loads the pass's own announcement, and takes no step that others
+    /// may wait for.
+    pub fn reuse_row(&self, pass: &mut Pass<R>, like: u32) -> Option<u32>
         requires reading { IsReading self.now pass.old }
         requires number { IsNumbered pass.old.number (view pass.old).pin }
         requires list { AreKept (sizes self.now).rows (view pass.old).claims pass.old.kept.rows }
         ensures frame { IsStillPass pass.old pass.new }
         ensures list { AreKept (sizes self.now).rows (view pass.new).claims pass.new.kept.rows }
-        ensures reused { Reuses result (known pass.old) (known pass.new) pass.old.kept pass.new.kept }
+        ensures reused { Reuses result like (known pass.old) (known pass.new) pass.old.kept pass.new.kept }
     {
         if pass.kept.len() == 0 {
             return None;
         }
         let told = self.told(pass);
-        if !pass.kept.is_old(0, told) {
+        let Some(at) = pass.kept.oldest(told, like) else {
             return None;
-        }
-        let row = pass.kept.row(0);
+        };
+        let row = pass.kept.row(at);
         self.reuse_as::<Brand>(pass, row);
-        pass.kept.cut(0, 1);
+        pass.kept.cut(at, at + 1);
         Some(row)
     }
 }

@@ -63,6 +63,8 @@ pub struct Pin {
     /// How many looks at the others it began, and how many of them found a pass that lags.
     pub looks: u64,
     pub lags: u64,
+    /// How often it moved the epoch, which it does only behind a look at all others.
+    pub moved: u64,
 }
 
 pub struct View<U> {

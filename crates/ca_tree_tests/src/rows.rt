@@ -4,7 +4,7 @@ ghost use Rattle.ca_rows.specs.Calls.{IsOf, TakesRow};
 ghost use Rattle.ca_tree_tests.specs.Ready.{IsAt};
 
 use crate::trees::ZERO;
-use ca_node::{TreePass, TreeSpace};
+use ca_node::{BASE_FORM, OBJECT_FORM, TreePass, TreeSpace};
 use ca_rows::{Starts, Taken};
 use std::alloc::Global;
 use std::thread::{Threads, join};
@@ -59,7 +59,7 @@ fn come_to(space: &TreeSpace, pass: &mut TreePass, step: Step) -> Came
 {
     match step {
         Step::Take => Came::Took(take(space, pass)),
-        Step::Retire => Came::Keeps(take_and_retire(space, pass)),
+        Step::Retire => Came::Keeps(take_and_retire(space, pass, OBJECT_FORM)),
         Step::Reclaim => reclaim(space, pass),
         Step::TakeAll => Came::Were(take_all(space, pass)),
     }
@@ -74,12 +74,12 @@ fn take(space: &TreeSpace, pass: &mut TreePass) -> Taken
 }
 
 // How many rows the pass keeps then.
-fn take_and_retire(space: &TreeSpace, pass: &mut TreePass) -> u32
+fn take_and_retire(space: &TreeSpace, pass: &mut TreePass, form: u32) -> u32
     requires { IsAt false space.now.table.shared.table_id space.now.table.shared.key pass.old.number pass.old.kept pass.old.seat }
     ensures { IsAt false space.now.table.shared.table_id space.now.table.shared.key pass.new.number pass.new.kept pass.new.seat }
 {
     if let Taken::Row(row) = take(space, pass) {
-        space.retire(pass, row);
+        space.retire(pass, row, form);
     }
     pass.kept()
 }
@@ -237,6 +237,62 @@ const YOUNG: Scripts<'static> = Scripts {
 fn a_pass_that_stays_pinned_lags(rt: HostRuntime) {
     for scripts in [LAGS, YOUNG] {
         assert_eq!(rt; beside(rt.alloc(), &scripts), Some([None; 4]));
+    }
+}
+
+// A step of the epoch, and how many exchanges it lost.
+fn advance(space: &TreeSpace, pass: &mut TreePass) -> u32
+    requires { IsAt false space.now.table.shared.table_id space.now.table.shared.key pass.old.number pass.old.kept pass.old.seat }
+    ensures { IsAt false space.now.table.shared.table_id space.now.table.shared.key pass.new.number pass.new.kept pass.new.seat }
+{
+    space.advance(pass)
+}
+
+fn reuse(space: &TreeSpace, pass: &mut TreePass, like: u32) -> Option<u32>
+    requires { IsAt true space.now.table.shared.table_id space.now.table.shared.key pass.old.number pass.old.kept pass.old.seat }
+    ensures { IsAt true space.now.table.shared.table_id space.now.table.shared.key pass.new.number pass.new.kept pass.new.seat }
+{
+    space.reuse_row(pass, like)
+}
+
+// Which rows a pass takes again for these forms, once it kept an object, a base and an object, and the epoch moved by two.
+fn taken_again(space: &TreeSpace, pass: &mut TreePass, likes: [u32; 4]) -> [Option<u32>; 4]
+    requires { IsAt false space.now.table.shared.table_id space.now.table.shared.key pass.old.number pass.old.kept pass.old.seat }
+{
+    take_and_retire(space, pass, OBJECT_FORM);
+    take_and_retire(space, pass, BASE_FORM);
+    take_and_retire(space, pass, OBJECT_FORM);
+    advance(space, pass);
+    advance(space, pass);
+    pin(space, pass);
+    [
+        reuse(space, pass, likes[0]),
+        reuse(space, pass, likes[1]),
+        reuse(space, pass, likes[2]),
+        reuse(space, pass, likes[3]),
+    ]
+}
+
+#[test]
+fn kept_rows_are_taken_again_by_what_they_were(rt: HostRuntime) {
+    let (base, object) = (BASE_FORM, OBJECT_FORM);
+    for (likes, rows) in [
+        (
+            [base, base, object, base],
+            [Some(3), Some(2), Some(4), None],
+        ),
+        (
+            [object, object, object, base],
+            [Some(2), Some(4), Some(3), None],
+        ),
+    ] {
+        let Ok(mut space) = TreeSpace::new(rt.alloc(), 384, 1, 1, 120, 0, ZERO) else {
+            panic!(rt; "no memory")
+        };
+        let Ok(mut pass) = space.enroll(rt.alloc()) else {
+            panic!(rt; "no pass")
+        };
+        assert_eq!(rt; taken_again(&space, &mut pass, likes), rows);
     }
 }
 

@@ -34,7 +34,7 @@ returns-clause-once c =
 
 pub returns-clause-back : goal.returns-clause-back
 returns-clause-back c =
-    put_back_as c.split_at.result c.answer.result c.args.pass.now.seat.me
+    put_back_as c.split_at.result c.args.cursor.base c.answer.result c.args.pass.now.seat.me
     c.count-many.new.pass.seat.me c.split_at.new.pass.seat.me
     c.args.pass.now.kept c.count-many.new.pass.kept c.split_at.new.pass.kept
     c.count-many.ensures.frame.still c.count-many.ensures.frame.kept

@@ -1,4 +1,4 @@
-use Rattle.std.proofs.Common.{◌≡◌, [], ◌∷◌, length, Ok, sym, refl, ap, ◌∙◌, subst, arith, rules}
+use Rattle.std.proofs.Common.{◌≡◌, ℕ, List, [], ◌∷◌, length, Ok, sym, refl, ap, ◌∙◌, subst, arith, rules}
 use Rattle.ca_node.proofs.Members.{in_first}
 use Rattle.ca_node.specs.Told.{IsBaseNote}
 use Rattle.ca_node.specs.TreeView.{TreeView}
@@ -6,9 +6,11 @@ use Rattle.ca_base.specs.Finding.{IsAtCursor}
 use Rattle.ca_base.specs.Prefixes.{SpellsLeft}
 use Rattle.ca_base.specs.Putting.{gone, IsShownLast, first_note, last_items, last_words}
 use Rattle.ca_rows.specs.Told.{met_of}
-use Rattle.ca_base.specs.Counting.{losses}
+use Rattle.ca_node.specs.Layout.{base_form}
+use Rattle.ca_base.specs.Counting.{HasCleared, losses}
 use Rattle.ca_base.proofs.Alone.{won_then}
-use Rattle.ca_base.proofs.Counts.{cleared_after, counted_after}
+use Rattle.std.proofs.lemmas.Result.{err_from_is_err_and}
+use Rattle.ca_base.proofs.Counts.{cleared_after, cleared_none, counted_after, ended_after, for_base, met_both, written_met}
 use Rattle.ca_base.proofs.Readying.{place_in, many_are, few_are, spells_there}
 use Rattle.ca_base.proofs.TakingOut.{ready_without, removed, renewed_without}
 use Rattle.ca_base.proofs.Unlinking.{written_row}
@@ -173,16 +175,41 @@ swap_in-requires-clause-own c = (
       ∙ (c.take.ensures.frame.same.2 ∙ c.requires.ready.own.1),
 )
 
+pub returns-clause-again : goal.returns-clause-again
+returns-clause-again c = for_base c.swap_in.result c.in_ok-new.new c.args.pass.now.seat.me.0.pin.told
+    c.args.pass.now.kept.rows.items c.take.new.pass.kept.rows.items c.in_ok-new.ensures.oldest
+
 pub returns-clause-back : goal.returns-clause-back
 returns-clause-back c =
-    cleared_after c.swap_in.result c.args.pass.now.seat.me
+    let goes = c.from_ref.ensures.value ∙ (ap (λ x. x ∷ []) c.write_base_without-old.ensures.gone
+    ∙ ap (λ (u : TreeView). gone (Ok c.args.removal.now.at) (last_items u)) c.take.ensures.frame.same.4) in
+    cleared_after c.swap_in.result (base_form ∷ []) c.args.target.now.cursor.base
+    (gone (Ok c.args.removal.now.at) (last_items c.args.pass.now.seat.me.0.upper)) c.args.pass.now.seat.me
     c.write_base_without-old.new.pass.seat.me c.swap_in.new.pass.seat.me c.args.pass.now.kept
     c.take.new.pass.kept c.write_base_without-old.new.pass.kept c.swap_in.new.pass.kept
     (ap losses c.write_base_without-old.ensures.written.2.only ∙ c.in_ok-new.ensures.found.1)
-    c.in_ok-new.ensures.back c.write_base_without-old.ensures.frame.kept c.swap_in.ensures.back
+    c.in_ok-new.ensures.back c.write_base_without-old.ensures.frame.kept
+    (subst (λ (rows : List ℕ). HasCleared [] c.args.target.now.cursor.base rows c.swap_in.result
+    c.write_base_without-old.new.pass.seat.me c.swap_in.new.pass.seat.me c.write_base_without-old.new.pass.kept c.swap_in.new.pass.kept)
+    goes c.swap_in.ensures.back)
 
 pub returns-clause-counted : goal.returns-clause-counted
 returns-clause-counted c = counted_after c.args.spent.now c.take.new.spent c.swap_in.new.spent
     c.args.pass.now.seat.me c.take.new.pass.seat.me c.write_base_without-old.new.pass.seat.me
     c.swap_in.new.pass.seat.me c.in_ok-new.ensures.counted
     (ap losses c.write_base_without-old.ensures.written.2.only) c.swap_in.ensures.counted
+
+pub returns-in_err-new-clause-back : goal.returns-in_err-new-clause-back
+returns-in_err-new-clause-back c =
+    let p = err_from_is_err_and c.from_residual.result c.from_residual.ensures.1 in
+    rw (p.1, p.2) (cleared_none c.in_err-new.field-0.0 (base_form ∷ []) c.args.pass.now.seat.me
+    c.take.new.pass.seat.me c.args.pass.now.kept c.take.new.pass.kept c.in_err-new.ensures.back)
+
+pub returns-clause-found : goal.returns-clause-found
+returns-clause-found c = let v = c.write_base_without-old.ensures.written in
+    let k = c.args.pass.now.seat.me in let m = c.take.new.pass.seat.me in
+    let l = c.write_base_without-old.new.pass.seat.me in
+    ended_after c.swap_in.result k l c.swap_in.new.pass.seat.me
+    (met_both 0 0 0 0 k m l c.in_ok-new.ensures.found.0 (written_met c.in_ok-new.new v.0 m l v.2))
+    (ap losses v.2.only ∙ c.in_ok-new.ensures.found.1)
+    c.swap_in.ensures.found

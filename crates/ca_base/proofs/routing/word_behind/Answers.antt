@@ -1,4 +1,4 @@
-use Rattle.std.proofs.Common.{min, ℕ, List, length, drop, sym, ap, ◌∙◌, arith}
+use Rattle.std.proofs.Common.{drop, ap, ◌∙◌, arith}
 use Rattle.ca_node.specs.Row.{front_of, key}
 use Rattle.ca_base.proofs.SplitKeys.{front_taken}
 use Rattle.ca_base.proofs.routing.word_behind.Goals as goal

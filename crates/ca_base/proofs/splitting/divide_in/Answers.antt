@@ -1,9 +1,12 @@
-use Rattle.std.proofs.Common.{[], ◌∷◌, get_or, sym, refl, ap, ◌∙◌, true, false, rules}
+use Rattle.std.proofs.Common.{[], ◌∷◌, arith, get_or, sym, refl, ap, ◌∙◌, true, false, rules}
 use Rattle.ca_node.specs.Laws.{in_nothing}
 use Rattle.ca_node.specs.Row.{key}
 use Rattle.ca_node.specs.Told.{MyTree}
 use Rattle.ca_node.specs.TreeView.{Note}
+use Rattle.ca_base.specs.Counting.{losses}
 use Rattle.ca_base.proofs.Alone.{not_missed}
+use Rattle.ca_base.proofs.Counts.{back_both, none_back}
+use Rattle.ca_rows.specs.declared.kept.KeptRows.{KeptRows}
 use Rattle.ca_base.proofs.Divisions.{divided_rows}
 use Rattle.ca_base.proofs.Unlinking.{held_still, none_left}
 use Rattle.ca_base.proofs.Tallies.{tallied_division}
@@ -69,6 +72,25 @@ pub returns-then-not-divide_base-clause-won : goal.returns-then-not-divide_base-
 returns-then-not-divide_base-clause-won g c alone listed _ =
     not_missed c.args.space.now.table.shared.key c.args.pass.now.seat.me g.K.Plan.division.old
     c.requires.own.1 c.args.space.now.few.0 (c.if-not-divide_base.ensures.won refl) alone listed
+
+pub returns-clause-back : goal.returns-clause-back
+returns-clause-back g c = (
+  c.divide_base.new.pass.kept.rows.items,
+  c.retire_unlinked.new.pass.kept.rows.items,
+  ap (λ (k : KeptRows). k.rows.items) c.divide_base.ensures.frame.kept,
+  c.retire_unlinked.ensures.kept,
+  refl,
+)
+
+pub returns-then-not-divide_base-clause-back : goal.returns-then-not-divide_base-clause-back
+returns-then-not-divide_base-clause-back g c = let m = c.args.pass.now.seat.me in
+    let n = c.divide_base.new.pass.seat.me in
+    let lost = ap losses c.if-not-divide_base.ensures.done in
+    back_both [] 1 m n c.give_back_all.new.pass.seat.me c.args.pass.now.kept
+    c.divide_base.new.pass.kept c.give_back_all.new.pass.kept
+    (omega arith) (let more = c.give_back_all.ensures.counted.more in omega arith)
+    (none_back 1 m n c.args.pass.now.kept c.divide_base.new.pass.kept (omega arith)
+    c.divide_base.ensures.frame.kept) c.give_back_all.ensures.back
 
 pub returns-clause-split : goal.returns-clause-split
 returns-clause-split g c = (

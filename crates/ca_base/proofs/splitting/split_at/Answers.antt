@@ -3,13 +3,14 @@ use Rattle.ca_node.specs.Told.{MyTree}
 use Rattle.ca_node.specs.TreeView.{TreeView}
 use Rattle.ca_base.specs.Finding.{IsObjectShown, IsReadable}
 use Rattle.ca_base.specs.Putting.{first_note}
-use Rattle.ca_base.specs.Splitting.{SpellsRoute}
+use Rattle.ca_base.specs.Splitting.{SpellsRoute, split_forms}
 use Rattle.ca_base.specs.Taking.{AreHeld}
 use Rattle.ca_base.specs.Prefixes.{SpellsHalf}
 use Rattle.ca_base.specs.Writing.{IsRewritten}
 use Rattle.ca_base.specs.Counting.{losses, HasMet}
 use Rattle.ca_base.proofs.Alone.{won_then}
-use Rattle.ca_base.proofs.Counts.{cleared_after, counted_after, ended_after, met_both, written_met}
+use Rattle.std.proofs.lemmas.Result.{err_from_is_err_and}
+use Rattle.ca_base.proofs.Counts.{cleared_after, cleared_none, counted_after, ended_after, met_both, written_met}
 use Rattle.ca_base.proofs.Divisions.{three_apart, last_readable, divides_of}
 use Rattle.ca_base.proofs.SplitKeys.{short_key}
 use Rattle.ca_base.proofs.Unlinking.{written_row}
@@ -58,20 +59,6 @@ write_half-requires-2-clause-row c = let t = c.in_ok-route.ensures.taken in
         ),
       );
     }
-
-pub item-first-requires-clause-readable : goal.item-first-requires-clause-readable
-item-first-requires-clause-readable c = let r = c.requires in let u = c.args.pass.now.seat.me.0.upper in
-    let upper = c.write_half-2.ensures.frame.same.4
-    ∙ (c.write_half.ensures.frame.same.4 ∙ c.take_three.ensures.frame.same.4) in
-    let many = r.target.many_are in let some = r.two in (
-      first_note u.notes,
-      subst (λ (v : TreeView).
-      IsReadable c.args.space.now.table.shared.key v c.args.cursor.base (first_note u.notes))
-          (sym upper)
-          (last_readable c.args.space.now.table.shared.key u c.args.cursor.base r.target.shown
-          r.target.leaf r.ordered),
-      omega arith,
-    )
 
 pub copy_key-requires : goal.copy_key-requires
 copy_key-requires c = let r = c.requires in let u = c.args.pass.now.seat.me.0.upper in
@@ -311,7 +298,7 @@ divide_in-requires-clause-own c = (
 pub returns-clause-back : goal.returns-clause-back
 returns-clause-back c =
     let still = c.copy_key.ensures.frame.still ∙ c.item-first.ensures.frame.still in
-    cleared_after c.divide_in.result c.args.pass.now.seat.me
+    cleared_after c.divide_in.result split_forms c.args.cursor.base [] c.args.pass.now.seat.me
     c.write_route.new.pass.seat.me c.divide_in.new.pass.seat.me c.args.pass.now.kept
     c.take_three.new.pass.kept c.write_route.new.pass.kept c.divide_in.new.pass.kept
     (ap losses c.write_route.ensures.written.2.only ∙ (ap losses still
@@ -350,3 +337,24 @@ returns-clause-found c = let still = c.copy_key.ensures.frame.still ∙ c.item-f
     (ap losses three.2.only ∙ (ap losses still
     ∙ (ap losses two.2.only ∙ (ap losses one.2.only ∙ c.in_ok-route.ensures.found.1))))
     c.divide_in.ensures.found
+
+pub returns-in_err-route-clause-back : goal.returns-in_err-route-clause-back
+returns-in_err-route-clause-back c =
+    let p = err_from_is_err_and c.from_residual.result c.from_residual.ensures.1 in
+    rw (p.1, p.2) (cleared_none c.in_err-route.field-0.0 split_forms c.args.pass.now.seat.me
+    c.take_three.new.pass.seat.me c.args.pass.now.kept c.take_three.new.pass.kept c.in_err-route.ensures.back)
+
+pub item-first-requires-clause-readable : goal.item-first-requires-clause-readable
+item-first-requires-clause-readable c = let r = c.requires in
+    let u = c.args.pass.now.seat.me.0.upper in
+    let upper = c.write_half-2.ensures.frame.same.4
+    ∙ (c.write_half.ensures.frame.same.4 ∙ c.take_three.ensures.frame.same.4) in
+    let many = r.target.many_are in let some = r.two in (
+      first_note u.notes,
+      subst (λ (v : TreeView).
+          IsReadable c.args.space.now.table.shared.key v c.args.cursor.base (first_note u.notes))
+          (sym upper)
+          (last_readable c.args.space.now.table.shared.key u c.args.cursor.base r.target.shown
+          r.target.leaf r.ordered),
+      omega arith,
+    )

@@ -1,6 +1,10 @@
-use Rattle.std.proofs.Common.{ℕ, [], ◌∷◌, ◌++◌, arith}
+use Rattle.std.proofs.Common.{ℕ, [], ◌∷◌, ap, subst, arith}
+use Rattle.ca_node.specs.Layout.{base_form, object_form}
+use Rattle.ca_rows.specs.declared.view.Pin.{Pin}
+use Rattle.ca_base.specs.Counting.{TakesKept}
 use Rattle.ca_base.proofs.Rest.{two_apart}
-use Rattle.ca_base.proofs.Counts.{back_after, takes_both}
+use Rattle.ca_base.proofs.Counts.{asked_more, back_after, takes_both}
+use Rattle.std.proofs.lemmas.Result.{err_from_is_err_and}
 use Rattle.ca_base.proofs.splitting.take_three.Goals as goal
 
 pub returns-in-Ok-clause-taken : goal.returns-in-Ok-clause-taken
@@ -17,18 +21,24 @@ pub give_back_all-requires-clause-apart : goal.give_back_all-requires-clause-apa
 give_back_all-requires-clause-apart c =
     two_apart c.in_ok-first.first c.in_ok-first.second c.in_ok-first.ensures.taken.0
 
+pub returns-in_err-first-clause-back : goal.returns-in_err-first-clause-back
+returns-in_err-first-clause-back c =
+    let p = err_from_is_err_and c.from_residual.result c.from_residual.ensures.1 in
+    rw (p.1, p.2) (asked_more c.in_err-first.field-0.0 (base_form ∷ base_form ∷ []) (object_form ∷ [])
+    c.args.pass.now.seat.me c.take_two.new.pass.seat.me c.args.pass.now.kept c.take_two.new.pass.kept
+    c.in_err-first.ensures.back)
+
 pub returns-in-Err-clause-back : goal.returns-in-Err-clause-back
 returns-in-Err-clause-back c = let one = c.in_ok-first.ensures in let two = c.in-Err.ensures in
-    back_after c.in-Err.why c.args.pass.now.seat.me c.take_two.new.pass.seat.me
+    back_after c.in-Err.why (base_form ∷ base_form ∷ []) (object_form ∷ []) c.args.pass.now.seat.me c.take_two.new.pass.seat.me
     c.take.new.pass.seat.me c.give_back_all.new.pass.seat.me
     c.args.pass.now.kept c.take_two.new.pass.kept c.take.new.pass.kept c.give_back_all.new.pass.kept
-    one.found.1 one.back two.found two.counted.more two.back
+    one.found.1 c.take_two.ensures.frame.same.3 one.back two.found two.counted.more two.back
     c.give_back_all.ensures.counted.more c.give_back_all.ensures.back
 
 pub returns-in-Ok-clause-back : goal.returns-in-Ok-clause-back
 returns-in-Ok-clause-back c = let one = c.in_ok-first.ensures.back in
-    let two = c.in-Ok.ensures.back in (
-      one.0 ++ two.0,
-      takes_both one.0 two.0 c.args.pass.now.kept c.take_two.new.pass.kept c.take.new.pass.kept one.1
-          two.1,
-    )
+    let two = c.in-Ok.ensures.back in let told = ap (λ (e : Pin). e.told) c.take_two.ensures.frame.same.3 in
+    takes_both c.args.pass.now.seat.me.0.pin.told (base_form ∷ base_form ∷ []) (object_form ∷ [])
+    c.args.pass.now.kept.rows.items c.take_two.new.pass.kept.rows.items c.take.new.pass.kept.rows.items one
+    (subst (λ (t : ℕ). TakesKept t (object_form ∷ []) c.take_two.new.pass.kept.rows.items c.take.new.pass.kept.rows.items) told two)

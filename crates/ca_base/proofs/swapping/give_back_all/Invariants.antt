@@ -1,4 +1,4 @@
-use Rattle.std.proofs.Common.{◌≡◌, drop}
+use Rattle.std.proofs.Common.{◌≡◌, [], drop}
 use Rattle.ca_base.specs.Counting.{IsSpent, HasMet, PutsBack}
 use Rattle.ca_base.specs.Taking.{AreHeld}
 use Rattle.ca_rows.specs.Calls.{IsOf, IsStill}
@@ -13,5 +13,5 @@ invariant-loop-at l = record {
   held : AreHeld l.space.table.shared.key.rows l.pass.kept.rows l.pass.seat.me.0 (drop l.at l.rows);
   counted : IsSpent l.fn.spent l.spent l.fn.pass.seat.me l.pass.seat.me;
   met : HasMet 0 0 l.fn.pass.seat.me l.pass.seat.me;
-  back : PutsBack 0 l.fn.pass.seat.me l.pass.seat.me l.fn.pass.kept l.pass.kept;
+  back : PutsBack [] 0 l.fn.pass.seat.me l.pass.seat.me l.fn.pass.kept l.pass.kept;
 }

@@ -1,6 +1,8 @@
-use Rattle.std.proofs.Common.{◌+◌, drop, ◌∙◌, arith}
+use Rattle.std.proofs.Common.{ℕ, List, ◌+◌, drop, take, get_or, sym, subst, ◌∙◌, arith}
+use Rattle.std.proofs.lemmas.List.{take_more}
+use Rattle.ca_base.specs.Counting.{KeepsMore}
 use Rattle.ca_base.specs.Taking.{AreUnlinked}
-use Rattle.ca_base.proofs.Counts.{met_both}
+use Rattle.ca_base.proofs.Counts.{keeps_last, met_both}
 use Rattle.ca_base.proofs.Rest.{from_place}
 use Rattle.ca_base.proofs.swapping.retire_all.Goals as goal
 
@@ -27,4 +29,10 @@ loop-at-preserved c = let i = c.loop-at.invariant in let s = c.retire_unlinked.e
         met_both 0 0 0 0 c.args.pass.now.seat.me c.loop-at.pass.seat.me
             c.retire_unlinked.new.pass.seat.me i.met.1 m.1,
       );
+      kept = subst (λ (rows : List ℕ). KeepsMore c.args.form rows c.args.pass.now.kept.rows.items
+          c.retire_unlinked.new.pass.kept.rows.items)
+          (sym (take_more c.args.rows.now c.loop-at.at 0 (omega arith)))
+          (keeps_last c.args.form (take c.loop-at.at c.args.rows.now) (get_or c.args.rows.now c.loop-at.at 0)
+          c.args.pass.now.kept.rows.items c.loop-at.pass.kept.rows.items c.retire_unlinked.new.pass.kept.rows.items
+          i.kept c.retire_unlinked.ensures.kept);
     }

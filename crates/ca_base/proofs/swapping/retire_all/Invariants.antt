@@ -1,5 +1,5 @@
-use Rattle.std.proofs.Common.{◌≡◌, drop}
-use Rattle.ca_base.specs.Counting.{losses, HasMet}
+use Rattle.std.proofs.Common.{◌≡◌, drop, take}
+use Rattle.ca_base.specs.Counting.{losses, HasMet, KeepsMore}
 use Rattle.ca_base.specs.Taking.{AreUnlinked}
 use Rattle.ca_rows.specs.Calls.{IsOf, IsStill}
 use Rattle.ca_base.proofs.swapping.retire_all.Given as goal
@@ -14,4 +14,5 @@ invariant-loop-at l = record {
       (drop l.at l.rows);
   met : (losses l.pass.seat.me ≡ losses l.fn.pass.seat.me)
       × HasMet 0 0 l.fn.pass.seat.me l.pass.seat.me;
+  kept : KeepsMore l.form (take l.at l.rows) l.fn.pass.kept.rows.items l.pass.kept.rows.items;
 }

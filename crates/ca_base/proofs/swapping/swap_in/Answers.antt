@@ -1,10 +1,11 @@
-use Rattle.std.proofs.Common.{◌≤◌, length, ℕ, List, ◌∷◌, sym, refl, ap, subst, ◌∙◌, true, false, get_or, arith, rules}
+use Rattle.std.proofs.Common.{[], ◌≤◌, length, ℕ, List, ◌∷◌, sym, refl, ap, subst, ◌∙◌, true, false, get_or, arith, rules}
 use Rattle.ca_base.specs.Counting.{losses}
 use Rattle.ca_base.proofs.Alone.{not_missed}
 use Rattle.ca_base.proofs.Counts.{back_both, met_both, none_back, none_spent}
 use Rattle.ca_base.specs.Taking.{HasHeld}
 use Rattle.ca_base.proofs.Renewing.{met_still, renewed, placed}
 use Rattle.ca_base.specs.Putting.{IsRenewed}
+use Rattle.ca_rows.specs.declared.kept.KeptRows.{KeptRows}
 use Rattle.ca_rows.specs.declared.view.Met.{Met}
 use Rattle.ca_rows.specs.Told.{met_of}
 use Rattle.ca_base.proofs.Unlinking.{held_still, swapped, is_done}
@@ -139,15 +140,24 @@ returns-then-not-replace_base-clause-won g c alone listed _ =
     not_missed c.args.space.now.table.shared.key c.args.pass.now.seat.me g.K.Intent.update.old
     c.requires.own.1 c.args.space.now.few.0 (c.if-not-replace_base.ensures.won refl) alone listed
 
+pub returns-clause-back : goal.returns-clause-back
+returns-clause-back g c = (
+  c.replace_base.new.pass.kept.rows.items,
+  c.retire_unlinked.new.pass.kept.rows.items,
+  ap (λ (k : KeptRows). k.rows.items) c.replace_base.ensures.frame.kept,
+  c.retire_unlinked.ensures.kept,
+  c.retire_all.ensures.kept,
+)
+
 pub returns-then-not-replace_base-clause-back : goal.returns-then-not-replace_base-clause-back
 returns-then-not-replace_base-clause-back g c = let m = c.args.pass.now.seat.me in
     let n = c.replace_base.new.pass.seat.me in
     let lost = ap losses c.if-not-replace_base.ensures.done in
-    back_both 1 0 m c.give_back.new.pass.seat.me c.give_back_all.new.pass.seat.me
+    back_both [] 1 m c.give_back.new.pass.seat.me c.give_back_all.new.pass.seat.me
     c.args.pass.now.kept c.give_back.new.pass.kept c.give_back_all.new.pass.kept
     (let more = c.give_back.ensures.counted.more in omega arith)
     (let more = c.give_back_all.ensures.counted.more in omega arith)
-    (back_both 1 0 m n c.give_back.new.pass.seat.me c.args.pass.now.kept
+    (back_both [] 1 m n c.give_back.new.pass.seat.me c.args.pass.now.kept
     c.replace_base.new.pass.kept c.give_back.new.pass.kept
     (omega arith) (let more = c.give_back.ensures.counted.more in omega arith)
     (none_back 1 m n c.args.pass.now.kept c.replace_base.new.pass.kept (omega arith)

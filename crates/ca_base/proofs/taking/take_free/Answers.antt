@@ -1,7 +1,11 @@
-use Rattle.std.proofs.Common.{ap, arith}
+use Rattle.std.proofs.Common.{ℕ, ap, arith}
+use Rattle.ca_base.specs.declared.stop.Exchange.TheVariants as exchange
+use Rattle.ca_base.specs.declared.stop.Stop.TheVariants as stop
+use Rattle.ca_rows.specs.Kept.{nobody}
+use Rattle.ca_rows.proofs.Listing.{young_claims}
 use Rattle.ca_node.specs.Told.{MyTree}
 use Rattle.ca_base.specs.Counting.{losses}
-use Rattle.ca_base.proofs.Counts.{none_back, none_spent}
+use Rattle.ca_base.proofs.Counts.{none_put, none_spent}
 use Rattle.ca_base.proofs.Held.{took_row}
 use Rattle.ca_rows.specs.declared.sizes.Sizes.{Sizes}
 use Rattle.ca_rows.proofs.NoneOld.{none_is_old}
@@ -32,25 +36,27 @@ returns-in-Worn-clause-counted c =
 
 pub returns-in-Empty-clause-back : goal.returns-in-Empty-clause-back
 returns-in-Empty-clause-back c =
-    none_back 0 c.args.pass.now.seat.me c.take_row.new.pass.seat.me c.args.pass.now.kept
-    c.take_row.new.pass.kept
+    none_put stop.Empty c.args.pass.now.seat.me c.take_row.new.pass.seat.me c.args.pass.now.kept
+    c.take_row.new.pass.kept c.requires.young
     (let same = ap losses c.in-Empty.ensures.row.1 in omega arith) c.take_row.ensures.frame.kept
 
 pub returns-in-Lost-clause-back : goal.returns-in-Lost-clause-back
 returns-in-Lost-clause-back c =
-    none_back 1 c.args.pass.now.seat.me c.take_row.new.pass.seat.me c.args.pass.now.kept
-    c.take_row.new.pass.kept
+    none_put (stop.Lost exchange.Head) c.args.pass.now.seat.me c.take_row.new.pass.seat.me c.args.pass.now.kept
+    c.take_row.new.pass.kept c.requires.young
     (let same = ap losses c.in-Lost.ensures.row in omega arith) c.take_row.ensures.frame.kept
 
 pub returns-in-Worn-clause-back : goal.returns-in-Worn-clause-back
 returns-in-Worn-clause-back c =
-    none_back 0 c.args.pass.now.seat.me c.take_row.new.pass.seat.me c.args.pass.now.kept
-    c.take_row.new.pass.kept
+    none_put stop.Worn c.args.pass.now.seat.me c.take_row.new.pass.seat.me c.args.pass.now.kept
+    c.take_row.new.pass.kept c.requires.young
     (let same = ap losses c.in-Worn.ensures.row.2 in omega arith) c.take_row.ensures.frame.kept
 
 pub returns-in-Empty-clause-found : goal.returns-in-Empty-clause-found
 returns-in-Empty-clause-found c = let told = c.in-Empty.ensures.row.1 in
-    let one = none_is_old c.args.pass.now.seat.me.0.claims c.args.pass.now.seat.me.0.pin.told
-    c.requires.young in
+    let epoch : ℕ = c.args.pass.now.seat.me.0.pin.told in
+    let one = none_is_old c.args.pass.now.seat.me.0.claims epoch
+    (young_claims c.args.space.now.table.shared.key.rows c.args.pass.now.seat.me.0.claims c.args.pass.now.kept.rows.items
+    epoch nobody c.requires.list.are c.requires.young) in
     let empty = ap (λ (m : MyTree). m.0.empty) told in
     let worn = ap (λ (m : MyTree). m.0.worn) told in (omega arith, omega arith)

@@ -8,9 +8,11 @@ use Rattle.ca_base.specs.Finding.{IsAtCursor}
 use Rattle.ca_base.specs.Prefixes.{SpellsPut}
 use Rattle.ca_base.specs.Putting.{gone, IsRoom, IsShownLast, first_note, last_items, last_words}
 use Rattle.ca_rows.specs.Told.{met_of}
-use Rattle.ca_base.specs.Counting.{losses}
+use Rattle.ca_node.specs.Layout.{base_form, object_form}
+use Rattle.ca_base.specs.Counting.{HasCleared, losses}
 use Rattle.ca_base.proofs.Alone.{won_then}
-use Rattle.ca_base.proofs.Counts.{cleared_after, counted_after, ended_after, met_both, written_met}
+use Rattle.std.proofs.lemmas.Result.{err_from_is_err_and}
+use Rattle.ca_base.proofs.Counts.{cleared_after, cleared_none, counted_after, ended_after, for_base, met_both, written_met}
 use Rattle.ca_base.proofs.Readying.{finds_place, place_in, many_are, few_are, spells_there, ready, tried, renewed_so}
 use Rattle.ca_base.proofs.Rest.{two_apart, gone_apart, gone_few}
 use Rattle.ca_base.proofs.Unlinking.{written_row}
@@ -250,16 +252,27 @@ write_base_with-old-requires-clause-inside c = let few = c.args.space.now.few.1 
     (in_rest c.in_ok-new.row c.in_ok-new.new (c.in_ok-new.row ∷ []) (in_first c.in_ok-new.row [])) in
     let inside = each.1 in omega arith
 
+pub returns-clause-again : goal.returns-clause-again
+returns-clause-again c = let two = c.in_ok-new.ensures.oldest in
+    for_base c.swap_in.result c.in_ok-new.new c.args.pass.now.seat.me.0.pin.told
+    c.args.pass.now.kept.rows.items two.0 two.1
+
 pub returns-clause-back : goal.returns-clause-back
 returns-clause-back c =
-    cleared_after c.swap_in.result c.args.pass.now.seat.me
+    let goes = c.gone.ensures _ c.write_base_with-old.ensures.gone
+    ∙ ap (λ (u : TreeView). gone c.args.insertion.now.place (last_items u))
+    (c.write_object.ensures.frame.same.4 ∙ c.take_two.ensures.frame.same.4) in
+    cleared_after c.swap_in.result (base_form ∷ object_form ∷ []) c.args.target.now.cursor.base
+    (gone c.args.insertion.now.place (last_items c.args.pass.now.seat.me.0.upper)) c.args.pass.now.seat.me
     c.write_base_with-old.new.pass.seat.me c.swap_in.new.pass.seat.me c.args.pass.now.kept
     c.take_two.new.pass.kept c.write_base_with-old.new.pass.kept c.swap_in.new.pass.kept
     (ap losses c.write_base_with-old.ensures.written.2.only
     ∙ (ap losses c.write_object.ensures.written.2.only ∙ c.in_ok-new.ensures.found.1))
     c.in_ok-new.ensures.back
     (c.write_base_with-old.ensures.frame.kept ∙ c.write_object.ensures.frame.kept)
-    c.swap_in.ensures.back
+    (subst (λ (rows : List ℕ). HasCleared [] c.args.target.now.cursor.base rows c.swap_in.result
+    c.write_base_with-old.new.pass.seat.me c.swap_in.new.pass.seat.me c.write_base_with-old.new.pass.kept c.swap_in.new.pass.kept)
+    goes c.swap_in.ensures.back)
 
 pub returns-clause-counted : goal.returns-clause-counted
 returns-clause-counted c = counted_after c.args.spent.now c.take_two.new.spent c.swap_in.new.spent
@@ -280,3 +293,9 @@ returns-clause-found c = let w = c.write_object.ensures.written in
     (written_met c.in_ok-new.new v.0 n l v.2))
     (ap losses v.2.only ∙ (ap losses w.2.only ∙ c.in_ok-new.ensures.found.1))
     c.swap_in.ensures.found
+
+pub returns-in_err-new-clause-back : goal.returns-in_err-new-clause-back
+returns-in_err-new-clause-back c =
+    let p = err_from_is_err_and c.from_residual.result c.from_residual.ensures.1 in
+    rw (p.1, p.2) (cleared_none c.in_err-new.field-0.0 (base_form ∷ object_form ∷ []) c.args.pass.now.seat.me
+    c.take_two.new.pass.seat.me c.args.pass.now.kept c.take_two.new.pass.kept c.in_err-new.ensures.back)

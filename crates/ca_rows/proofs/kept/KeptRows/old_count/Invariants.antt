@@ -1,9 +1,6 @@
 use Rattle.std.proofs.Common.{ℕ, ◌+◌, ◌-◌, ◌<◌, ◌≤◌, get_or, vec_len}
-use Rattle.ca_rows.specs.declared.kept.Kept.{Kept}
+use Rattle.ca_rows.specs.Kept.{nobody}
 use Rattle.ca_rows.proofs.kept.KeptRows.old_count.Given as goal
-
-abbrev nobody : Kept
-nobody = record { row = 0; at = 0 }
 
 abbrev pub invariant-loop-count : goal.invariant-loop-count
 invariant-loop-count l = record {

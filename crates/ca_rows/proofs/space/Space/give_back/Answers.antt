@@ -4,15 +4,12 @@ use Rattle.ca_rows.specs.declared.kept.KeptRows.{KeptRows}
 use Rattle.ca_rows.specs.declared.view.Claim.TheVariants.{Holds}
 use Rattle.ca_rows.specs.declared.view.Claimed.{Claimed}
 use Rattle.ca_rows.specs.Claims.{claim_of}
-use Rattle.ca_rows.specs.Kept.{AreListed}
+use Rattle.ca_rows.specs.Kept.{AreListed, nobody}
 use Rattle.ca_rows.specs.Told.{Mine}
 use Rattle.ca_rows.proofs.Claiming.{claimed_here}
 use Rattle.ca_rows.proofs.GivingBack.{put_back, kept_again, list_given, list_lost}
 use Rattle.ca_rows.proofs.Listing.{last_claimed}
 use Rattle.ca_rows.proofs.space.Space.give_back.Goals as goal
-
-abbrev nobody : Kept
-nobody = record { row = 0; at = 0 }
 
 -- the list, as lemmas have it
 listed : (rows at : ℕ) (claims : List Claimed) (ks ys : List Kept)
@@ -131,7 +128,7 @@ returns-clause-given g c = let p = c.args.pass.now in
     (get_or ks c.args.at nobody).at was c.requires.old c.regain_as.new.pass.seat.me
     c.put_row.new.pass.seat.me held.0 held.2
     lost.0 again.0 lost.2 again.2 again.3 in
-    let one : Kept = record { row = c.row-row.result; at = again.0 } in
+    let one : Kept = record { row = c.row-row.result; at = again.0; form = c.form-form.result } in
     let later = again.3 in
     let scan : c.put_row.new.pass.seat.me.0.pin.scan ≡ p.seat.me.0.pin.scan =
     ap (λ (m : Mine g.row.R-Upper.Denot). m.0.pin.scan) lost.2

@@ -2,15 +2,12 @@ use Rattle.std.proofs.Common.{◌≡◌, ℕ, ◌+◌, ◌-◌, ◌<◌, ◌≤�
 use Rattle.std.proofs.lemmas.List.{take-append-drop}
 use Rattle.ca_rows.specs.declared.kept.Kept.{Kept}
 use Rattle.ca_rows.specs.declared.view.Pin.{Pin}
-use Rattle.ca_rows.specs.Kept.{AreKeptBut, AreListed, kept_of}
+use Rattle.ca_rows.specs.Kept.{AreKeptBut, AreListed, kept_of, nobody}
 use Rattle.ca_rows.proofs.GivingBack.{reclaims_refl, reclaims_trans}
 use Rattle.ca_rows.proofs.Keeping.{was_or_last}
 use Rattle.ca_rows.proofs.Listing.{young_behind, none_behind, part_before, part_behind, part_length}
 use Rattle.ca_rows.proofs.Scanning.{less_or_not}
 use Rattle.ca_rows.proofs.space.Space.give_old.Goals as goal
-
-abbrev nobody : Kept
-nobody = record { row = 0; at = 0 }
 
 pub loop-at-init : goal.loop-at-init
 loop-at-init g c = let p = c.args.pass.now in let ks = p.kept.rows in let long = ks.ok.0 in

@@ -1,12 +1,8 @@
 use Rattle.std.proofs.Common.{◌≡◌, ℕ, ◌+◌, ◌<◌, ◌≤◌, drop, get_or, vec_len}
 use mathlib.Core.Option.{some}
-use Rattle.ca_rows.specs.declared.kept.Kept.{Kept}
-use Rattle.ca_rows.specs.Kept.{AreKeptBut, kept_of}
+use Rattle.ca_rows.specs.Kept.{AreKeptBut, kept_of, nobody}
 use Rattle.ca_rows.specs.Reclaiming.{Reclaims}
 use Rattle.ca_rows.proofs.space.Space.give_old.Given as goal
-
-abbrev nobody : Kept
-nobody = record { row = 0; at = 0 }
 
 abbrev pub invariant-loop-at : goal.invariant-loop-at
 invariant-loop-at g l = record {

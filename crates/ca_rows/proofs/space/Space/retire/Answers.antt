@@ -44,12 +44,13 @@ returns-clause-list g c = let p = c.args.pass.now in let told = c.retire_as-at.e
     p.seat.me.0 p.kept.rows c.args.row c.requires.list
     c.requires.mine told.0 (omega arith) in
     let grown : c.push.new.self.rows.items
-    ≡ p.kept.rows.items ++ record { row = c.args.row; at = c.retire_as-at.result } ∷ [] =
+    ≡ p.kept.rows.items ++ record { row = c.args.row; at = c.retire_as-at.result; form = c.args.form } ∷ [] =
     c.push.ensures.rows ∙ ap
     (λ (k : KeptRows). k.rows.items ++ record {
       row =
           c.args.row;
       at = c.retire_as-at.result;
+      form = c.args.form;
     } ∷ []) frame.kept in
     let same = ap (λ (k : KeptRows). vec_capacity k.rows) frame.kept in
     let more = c.push.ensures.room in let wide = c.requires.list.room in
@@ -57,5 +58,5 @@ returns-clause-list g c = let p = c.args.pass.now in let told = c.retire_as-at.e
     AreKept rows xs c.push.new.self.rows)
     (sym (ap (λ (m : Mine g.row.R-Upper.Denot). m.0.claims) told.5))
     (retired_too rows p.seat.me.0.claims p.kept.rows c.push.new.self.rows c.requires.list c.args.row
-    c.retire_as-at.result told.0 (omega arith) found.1
+    c.retire_as-at.result c.args.form told.0 (omega arith) found.1
     told.4 grown (omega arith))
