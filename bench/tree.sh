@@ -1,6 +1,6 @@
 #!/usr/bin/env bash
-# Times calls of clients on 1, 2 and 4 threads in one run, on 10,000 objects, and of one client on 100 to 40,000 objects: the proved tree, which grows to
-# many leaves, a BTreeMap of the same byte codes behind a RwLock, and a real ets ordered_set without and with write_concurrency. Then it fills trees
+# Times calls of clients on 1, 2 and 4 threads in one run, on 10,000 objects, and of one client on 100 to 1,000,000 objects: the proved tree, which grows to
+# many leaves of 60 objects, or of 32, a BTreeMap of the same byte codes behind a RwLock, and a real ets ordered_set without and with write_concurrency. Then it fills trees
 # until a put is refused. Prints how busy the machine was, and the tables of bench/tables.sh. All figures stay in bench/tree.csv and bench/rows.csv,
 # or in the two files that are named.
 #   bench/tree.sh [FILE [FILE]]
