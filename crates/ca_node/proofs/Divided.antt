@@ -18,7 +18,7 @@ use Rattle.ca_node.specs.Stays.{word_at}
 use Rattle.ca_node.proofs.Parts.{part_cut, part_rises, two_sides, left_is_in, right_is_in}
 use Rattle.ca_node.proofs.Named.{key_in}
 use Rattle.ca_node.specs.Reached.{same_place, base_at}
-use Rattle.ca_node.proofs.Rebased.{out_no_route, IsNewBase, relinked_wide, relinked_here, relinked_keeps, relinked_row, relinked_quiet, relinked_idle, link_still, lead_still, row_still, base_comes}
+use Rattle.ca_node.proofs.Rebased.{out_no_route, IsNewBase, relinked_wide, relinked_here, relinked_keeps, relinked_row, relinked_idle, link_still, lead_still, row_still, base_comes}
 use Rattle.ca_rows.specs.Layout.{row_words}
 use Rattle.ca_node.specs.Layout.{root_word}
 
@@ -382,7 +382,6 @@ module _ (z : Sizes) (words : List ℕ) (role : ℕ → Role) (m : StoreMap)
     top = lead_now root_word 0 all_keys shape.top;
     each_row = so;
     apart = alone;
-    quiet = relinked_quiet z words role m shape old place is route;
     idle = λ c q key e. ⊎_elim
         (λ (same : c ≡ route). subst
         (λ y. IsIdle (row_at words' y)) (sym same) (subst IsIdle (sym route_words) r.idle))

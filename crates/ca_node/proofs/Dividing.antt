@@ -18,18 +18,24 @@ use Rattle.ca_rows.specs.declared.view.Claim.TheVariants.{Holds}
 use Rattle.ca_rows.specs.declared.view.View.{View}
 use Rattle.ca_rows.specs.Claims.{claim_of}
 use Rattle.ca_rows.specs.Rule.{upper_of}
-use Rattle.ca_rows.specs.Words.{IsWide}
+use Rattle.ca_rows.specs.Words.{IsWide, result_of}
+use Rattle.ca_runs.specs.Runs.{AreRuns}
+use Rattle.ca_runs.proofs.Keeping.{runs_still}
 use Rattle.ca_rows.proofs.Relinking.{Change, Stays, Comes, Goes, IsChange, relinks}
 use Rattle.ca_rows.proofs.Rules.{all_seats}
 use Rattle.ca_node.specs.Inventory.{IsInventory}
-use Rattle.ca_node.specs.Laws.{tree_lends, in_nothing, numbered, relisted}
-use Rattle.ca_node.specs.Links.{IsIn, IsLinked, IsLent, IsNoted, by_note, by_item, by_way, by_link, by_link_item}
+use Rattle.ca_node.specs.Laws.{noted_alike, tree_lends, in_nothing, numbered, relisted}
+use Rattle.ca_node.specs.Links.{IsIn, IsActive, IsBoundOf, IsLinked, by_range, IsLent, IsNoted, by_note}
 use Rattle.ca_node.specs.Place.{Place, left_place, right_place}
-use Rattle.ca_node.specs.Reached.{same_place, base_at, link_range, reached, placed_linked, item_linked, item_out, nothing_lent}
-use Rattle.ca_node.specs.Row.{row_at, IsBaseRow, IsRouteRow, items, count, level, IsUnmarked, IsIdle, key, route_key, IsHeaded}
+use Rattle.ca_node.specs.Ranging.{IsRanging}
+use Rattle.ca_node.specs.RangesStay.{active_back, active_on, begun_on}
+use Rattle.ca_node.specs.Reached.{same_place, base_at, link_range, reached, placed_linked, item_linked, item_out, lent_end, end_lent, unlent}
+use Rattle.ca_node.specs.Row.{row_at, form, IsBaseRow, IsRouteRow, items, count, level, mark, mark_owner, mark_number, mark_bound, IsMarkedBy, IsUnmarked, IsIdle, key, route_key, IsHeaded}
+use Rattle.ca_node.specs.Scenes.{span_of, mark_of, scene_of}
 use Rattle.ca_node.specs.Shape.{Role, Out, Base, Route, place_of, IsBaseAt, IsShape}
 use Rattle.ca_rows.specs.Told.{relinked}
-use Rattle.ca_node.specs.Told.{MyTree, IsHalf, IsDivision, given, taken_out, divided_inventory, divided, one_more_lost, IsDivided, IsMissed, Divides, HasDivided, MaySwap}
+use Rattle.ca_node.specs.May.{MaySwap}
+use Rattle.ca_node.specs.Told.{MyTree, IsHalf, IsDivision, given, taken_out, divided_inventory, divided, one_more_lost, IsDivided, IsMissed, Divides, HasDivided}
 use Rattle.ca_node.specs.Tree.{IsTrue, IsTrueWay, Knows, IsTree}
 use Rattle.ca_node.specs.TreeView.{Note, Way, TreeView, Division}
 use Rattle.ca_node.proofs.Divided.{IsNewRoute, AreDivided, with_route, with_route_route, with_route_left, with_route_right, with_route_old, with_route_else, shape_divided}
@@ -37,8 +43,8 @@ use Rattle.ca_node.proofs.Holding.{held_row, unclaimed_row}
 use Rattle.ca_node.proofs.Listing.{in_either, in_front, in_back, Relists, listed_again, known_by_one}
 use Rattle.ca_node.proofs.Looking.{R, loses, hangs_still, of_map, knows_upper, in_more}
 use Rattle.ca_node.proofs.Members.{in_notes, has, given_here, given_else, taken_here, taken_else}
-use Rattle.ca_node.proofs.Rebased.{IsNewBase, relinked_wide, relinked_else, relinked_told, relinked_keeps, relinked_row, base_no_route, out_no_route}
-use Rattle.ca_node.proofs.Remembering.{remembered_leads, unlinked_out, note_stays, way_stays, notes_stay}
+use Rattle.ca_node.proofs.Rebased.{IsNewBase, relinked_wide, relinked_else, relinked_ranges, relinked_told, relinked_keeps, relinked_row, base_no_route, out_no_route}
+use Rattle.ca_node.proofs.Remembering.{remembered_leads, unlinked_out, note_stays, way_stays, ranges_stay, notes_stay}
 use Rattle.ca_rows.specs.Layout.{row_words}
 use Rattle.ca_node.specs.Layout.{root_word}
 
@@ -59,15 +65,6 @@ drop_at : {A : Type 0} (n : ℕ) (xs : List A) → n < length xs → (x : A) × 
 drop_at n [] l = absurd (omega arith)
 drop_at zero (x ∷ xs) l = (x, xs, refl, refl)
 drop_at (suc n) (x ∷ xs) l = let r = drop_at n xs (omega arith) in (r.0, r.1, r.2, r.3)
-
--- What a split counts and lists gives no note.
-divided_notes : (words : List ℕ) (x : Division) (u : TreeView) (row : ℕ)
-    → IsNoted words (divided x u) row → IsNoted words u row
-divided_notes words x u _ (by_note note row i e) = absurd (in_nothing note [] refl i)
-divided_notes words x u _ (by_item note row i b k) = absurd (in_nothing note [] refl i)
-divided_notes words x u _ (by_way way row i e) = by_way way row i e
-divided_notes words x u _ (by_link way row i e) = by_link way row i e
-divided_notes words x u _ (by_link_item way base row i e f k) = by_link_item way base row i e f k
 
 module _ (z : Sizes) (s : State (Unit {0}) (View TreeView)) (r : R z s) (id : ℕ) (me : MyTree)
     (at : get_elem? s.views id ≡ some me.0) (x : Division)
@@ -151,6 +148,8 @@ module _ (z : Sizes) (s : State (Unit {0}) (View TreeView)) (r : R z s) (id : �
         level_is = ap level w.2 ∙ (h.level_is ∙ sym below);
         few = subst (λ y. count y ≤ z.leaf) (sym w.2) h.few;
         marked = inl (subst IsUnmarked (sym w.2) h.unmarked);
+        bounded = λ border b. let none : mark (row_at s.words row) ≡ 0 = ap mark w.2 ∙ h.unmarked in
+            let one = b.0 in absurd (omega arith);
         are_objects =
             λ c i. old_at.are_objects c
             (old_item c (within c (subst (IsIn c) items_are i)));
@@ -391,15 +390,91 @@ module _ (z : Sizes) (s : State (Unit {0}) (View TreeView)) (r : R z s) (id : �
       (role_else base (no_coming base p (ap place_of e)) ne ∙ e) row
       (subst (λ its. IsIn row (items its)) (sym (base_stays base p e)) i))
 
+  -- The range that marked the old base is over: so far none is active.
+  old_over : (pass number : ℕ) → IsMarkedBy (row_at s.words x.old.row) pass number
+      → ¬ IsActive s.words pass number
+  old_over pass number _ = r.above.quiet pass number
+
+  -- What is marked in the new tree was a base of the old one: no range has a base that comes.
+  was_marked : (c : ℕ) (p : Place) → role' c ≡ Base p → mark (row_at words' c) ≡ 1
+      → (r.above.role c ≡ Base p) × (c ≢ x.old.row)
+  was_marked c p e m = ⊎_elim
+      (λ (i : Coming c). ⊎_elim
+      (λ (same : x.route ≡ c). let y : Route place (route_key x.route_its) ≡ Base p =
+      sym role_route ∙ (ap role' same ∙ e) in absurd cc)
+      (λ j. ⊎_elim
+      (λ (same : x.left ≡ c). absurd (half_unmarked x.left x.left_its left_base.some_row
+      left_base.in_range left_base.is_out (held x.left x.left_its u.held_left).2 u.is_left.unmarked
+      same))
+      (λ k. ⊎_elim
+      (λ (same : x.right ≡ c). absurd (half_unmarked x.right x.right_its right_base.some_row
+      right_base.in_range right_base.is_out (held x.right x.right_its u.held_right).2
+      u.is_right.unmarked same))
+      (λ l. absurd (some-ne-none c (sym l.1))) (in_more x.right c [] k))
+      (in_more x.left c (x.right ∷ []) j)) (in_more x.route c (x.left ∷ x.right ∷ []) i))
+      (λ (n : ¬ Coming c). dite (ℕ_discrete c x.old.row)
+      (λ (o : c ≡ x.old.row). let y : Out ≡ Base p = sym role_old ∙ (ap role' (sym o) ∙ e) in
+      absurd cc)
+      (λ (ne : c ≢ x.old.row). (sym (role_else c n ne) ∙ e, ne)))
+      (has (x.route ∷ x.left ∷ x.right ∷ []) c)
+    where
+      half_unmarked : (part : ℕ) (its : List ℕ) → 0 < part → part ≤ z.rows → role part ≡ Out
+          → row_at s.words part ≡ its → IsUnmarked its → part ≡ c → ⊥
+      half_unmarked part its lo hi out spells unmarked same =
+          let zero_mark : mark (row_at words' c) ≡ 0 = ap (λ k. mark (row_at words' k)) (sym same)
+          ∙ (ap mark (out_stays part lo hi out ∙ spells) ∙ unmarked) in omega arith
+
+  same_ranges : (pass : ℕ) → 0 < pass → pass ≤ 64 → result_of words' pass ≡ result_of s.words pass
+  same_ranges = relinked_ranges z s.words role last shape x.old.row place is_old x.route
+
+  -- A base stays that an active range marked.
+  marked_stay : (c : ℕ) (p : Place) (pass number : ℕ) → r.above.role c ≡ Base p
+      → IsMarkedBy (row_at s.words c) pass number → IsActive s.words pass number
+      → role' c ≡ Base p
+  marked_stay c p pass number e m now = role_else c (no_coming c p (ap place_of e))
+      (λ o. old_over pass number (subst (λ k. IsMarkedBy (row_at s.words k) pass number) o m) now)
+      ∙ e
+
+  -- What is lent is the same.
+  lent_on : (row : ℕ) → IsLent s.words row → IsLent words' row
+  lent_on row l = let t = lent_end z s.words role last shape row l in
+      let same = base_stays t.0 t.1 t.2 in
+      end_lent z words' role' last shape' row (
+        t.0,
+        t.1,
+        marked_stay t.0 t.1 (mark_owner (row_at s.words t.0)) (mark_number (row_at s.words t.0)) t.2
+            (t.3.0, refl, refl) t.3.1,
+        subst (λ its. (mark its ≡ 1) × IsActive words' (mark_owner its) (mark_number its)
+            × (mark_bound its ≡ row)) (sym same)
+            (t.3.0, active_on z.rows s.words words' role role' same_ranges _ _ t.3.1, t.3.2),
+      )
+
+  lent_back : (row : ℕ) → IsLent words' row → IsLent s.words row
+  lent_back row l = let t = lent_end z words' role' last shape' row l in
+      let b = was_marked t.0 t.1 t.2 t.3.0 in
+      let c = subst (λ its. (mark its ≡ 1) × IsActive words' (mark_owner its) (mark_number its)
+      × (mark_bound its ≡ row)) (base_stays t.0 t.1 b.0) t.3 in
+      end_lent z s.words role last shape row (
+        t.0,
+        t.1,
+        b.0,
+        (c.0, active_back z.rows s.words words' role role' same_ranges _ _ c.1, c.2),
+      )
+
   stays_back : (row : ℕ) → ¬ Coming row → IsLinked words' row → IsLinked s.words row
   stays_back row n l = ⊎_elim
       (λ (t : (p : Place) × (place_of (role' row) ≡ some p)). dite (ℕ_discrete row x.old.row)
       (λ (e : row ≡ x.old.row). subst (IsLinked s.words) (sym e) old_linked)
       (λ (ne : row ≢ x.old.row). placed_linked z s.words role last shape row t.0
       (ap place_of (sym (role_else row n ne)) ∙ t.1)))
+      (λ y. ⊎_elim
       (λ (t : (base : ℕ) × (p : Place) × (role' base ≡ Base p)
       × IsIn row (items (row_at words' base))). let w = was_item row t.0 t.1 t.2 t.3 in
       item_linked z s.words role last shape w.0 w.1 w.2 row w.3)
+      (λ (t : (base : ℕ) × (p : Place) × (role' base ≡ Base p) × IsBoundOf words' base row).
+      let k = lent_back row (end_lent z words' role' last shape' row t) in
+      by_range k.0 row k.1 k.2 k.3)
+      y)
       (reached z words' role' last shape' row l)
 
   stays_on : (row : ℕ) → row ≢ x.old.row → IsLinked s.words row → IsLinked words' row
@@ -407,20 +482,34 @@ module _ (z : Sizes) (s : State (Unit {0}) (View TreeView)) (r : R z s) (id : �
       (λ (t : (p : Place) × (place_of (role row) ≡ some p)).
       placed_linked z words' role' last shape' row t.0
       (ap place_of (role_else row (no_coming row t.0 t.1) ne) ∙ t.1))
+      (λ y. ⊎_elim
       (λ (t : (base : ℕ) × (p : Place) × (role base ≡ Base p)
       × IsIn row (items (row_at s.words base))). item_now row t.0 t.1 t.2 t.3)
+      (λ (t : (base : ℕ) × (p : Place) × (role base ≡ Base p) × IsBoundOf s.words base row).
+      let k = lent_on row (end_lent z s.words role last shape row t) in
+      by_range k.0 row k.1 k.2 k.3)
+      y)
       (reached z s.words role last shape row l)
+
+  -- The old base isn't lent.
+  old_unlent : ¬ IsLent s.words x.old.row
+  old_unlent = unlent z s.words role last shape x.old.row
+      (λ (f : form (row_at s.words x.old.row) ≡ 4). let b = old_at.is_base in omega arith)
 
   -- The old base is nothing the new tree has.
   old_unlinked : ¬ IsLinked words' x.old.row
   old_unlinked l = ⊎_elim
       (λ (t : (p : Place) × (place_of (role' x.old.row) ≡ some p)). some-ne-none t.0 (sym t.1
       ∙ ap place_of role_old))
+      (λ k. ⊎_elim
       (λ (t : (base : ℕ) × (p : Place) × (role' base ≡ Base p)
       × IsIn x.old.row (items (row_at words' base))).
       let w = was_item x.old.row t.0 t.1 t.2 t.3 in
       let y : Base place ≡ Out = sym is_old
       ∙ item_out z s.words role last shape w.0 w.1 w.2 x.old.row w.3 in cc)
+      (λ (t : (base : ℕ) × (p : Place) × (role' base ≡ Base p) × IsBoundOf words' base x.old.row).
+      old_unlent (lent_back x.old.row (end_lent z words' role' last shape' x.old.row t)))
+      k)
       (reached z words' role' last shape' x.old.row l)
 
   abbrev ins : List ℕ
@@ -439,6 +528,10 @@ module _ (z : Sizes) (s : State (Unit {0}) (View TreeView)) (r : R z s) (id : �
       (λ l. absurd (some-ne-none row (sym l.1)))
       (in_more x.right row [] k)) (in_more x.left row (x.right ∷ []) j))
       (in_more x.route row (x.left ∷ x.right ∷ []) i)
+
+  -- What comes isn't lent before.
+  in_unlinked : (row : ℕ) → IsIn row ins → ¬ IsLent s.words row
+  in_unlinked row i l = let h = held_in row i in (held row h.0 h.1).3 (by_range l.0 row l.1 l.2 l.3)
 
   is_out : (row : ℕ) → IsIn row outs → row ≡ x.old.row
   is_out row o = ⊎_elim (λ (e : x.old.row ≡ row). sym e)
@@ -469,21 +562,21 @@ module _ (z : Sizes) (s : State (Unit {0}) (View TreeView)) (r : R z s) (id : �
   unfolding kind_by
   changed row (inl i) b = (
     come_linked row i,
-    nothing_lent z words' role' last shape' row,
+    (λ l. in_unlinked row i (lent_back row l)),
     held_in row i,
     taken_else outs (given ins d.claims) row (apart row i) ∙ given_here ins d.claims row i,
   )
   changed row (inr n) (inl o) = (
     subst (IsLinked s.words) (sym (is_out row o)) old_linked,
-    nothing_lent z s.words role last shape row,
+    (λ l. old_unlent (subst (IsLent s.words) (is_out row o) l)),
     (λ l. old_unlinked (subst (IsLinked words') (is_out row o) l)),
     taken_here outs (given ins d.claims) row o,
   )
   changed row (inr n) (inr m) = (
     stays_back row n,
     stays_on row (λ e. m (0, ap some (sym e))),
-    (λ b. absurd (nothing_lent z words' role' last shape' row b)),
-    (λ b. absurd (nothing_lent z s.words role last shape row b)),
+    lent_back row,
+    lent_on row,
     taken_else outs (given ins d.claims) row m ∙ given_else ins d.claims row n,
   )
 
@@ -513,14 +606,15 @@ module _ (z : Sizes) (s : State (Unit {0}) (View TreeView)) (r : R z s) (id : �
       → IsIn note y.upper.notes → IsTrue z.rows words' role' note
   note_keeps j y here note i =
       note_stays z s.words role last shape x.old.row place is_old x.route role' last shape' Coming
-      routes_stay bases_stay outs_stay
-      y.upper (unnoted j y here) note i ((knows_upper z s r j y here).notes note i)
+      routes_stay bases_stay outs_stay marked_stay
+      y.upper (unnoted j y here) note (by_note note note.row i refl)
+      ((knows_upper z s r j y here).notes note i)
 
   way_keeps : (j : ℕ) (y : View TreeView) → get_elem? s.views j ≡ some y → (way : Way)
       → IsIn way y.upper.ways → IsTrueWay words' role' way
   way_keeps j y here way i =
       way_stays z s.words role last shape x.old.row place is_old x.route role' last shape' Coming
-      routes_stay bases_stay outs_stay
+      routes_stay bases_stay outs_stay marked_stay
       y.upper (unnoted j y here) way i ((knows_upper z s r j y here).ways way i)
 
   notes_keep : (j : ℕ) (y : View TreeView) → get_elem? s.views j ≡ some y → (c : ℕ)
@@ -529,8 +623,44 @@ module _ (z : Sizes) (s : State (Unit {0}) (View TreeView)) (r : R z s) (id : �
   notes_keep j y here c n = ⊎_elim (λ o. inl o)
       (λ l. inr (l.0, (r.seat j y here).noted_pinned l.1.0 l.1.1))
       (notes_stay z s.words role last shape x.old.row place is_old x.route role' last shape' Coming
-      routes_stay bases_stay outs_stay
-      y.upper (unnoted j y here) (knows_upper z s r j y here).ways c n)
+      routes_stay bases_stay outs_stay marked_stay
+      y.upper (unnoted j y here) (r.above.ranged.ends y.upper.number) f.history
+      (f.ranged.each j y.upper (at_map upper_of s.views j y here))
+      (knows_upper z s r j y here).ways c n)
+
+  -- A seat knows of ranges what it knew.
+  ranging_still : (j : ℕ) (y : View TreeView) → get_elem? s.views j ≡ some y
+      → IsRanging z.rows words' role' (r.above.ranged.ends y.upper.number) y.upper.since
+      r.above.history y.upper.number y.upper.ranges
+  ranging_still j y here =
+      ranges_stay z s.words role last shape x.old.row place is_old x.route role' last shape' Coming
+      routes_stay bases_stay outs_stay marked_stay
+      y.upper (unnoted j y here) (r.above.ranged.ends y.upper.number) f.history
+      (f.ranged.each j y.upper (at_map upper_of s.views j y here)) f.history (λ at l. (l, refl))
+      (λ number now none c base m. let b = was_marked c base.0 base.1 m.0 in
+      none c (base.0, b.0) (subst (λ its. IsMarkedBy its y.upper.number number)
+      (base_stays c base.0 b.0) m))
+
+  -- Runs stay as they are.
+  runs_now : AreRuns (scene_of words' role') r.above.ranged.ends
+  runs_now = runs_still (scene_of s.words role) (scene_of words' role') f.ranged.ends f.ranged.runs record {
+    alike = record {
+      active = active_on z.rows s.words words' role role' same_ranges;
+      was_active = active_back z.rows s.words words' role role' same_ranges;
+      begun = begun_on z.rows s.words words' role role' same_ranges;
+    };
+    stay = λ pass number row now base m. let e = marked_stay row base.0 pass number base.1 m now in (
+      (base.0, e),
+      ap span_of e ∙ sym (ap span_of base.1),
+      ap mark_of (base_stays row base.0 base.1),
+    );
+    begun = λ pass number row base m. let b = was_marked row base.0 base.1 m.0 in
+        begun_on z.rows s.words words' role role' same_ranges pass number
+        (f.ranged.runs.begun pass number row (base.0, b.0)
+        (subst (λ its. IsMarkedBy its pass number) (base_stays row base.0 b.0) m));
+    were = λ pass number row base m now. let b = was_marked row base.0 base.1 m.0 in
+        ((base.0, b.0), subst (λ its. IsMarkedBy its pass number) (base_stays row base.0 b.0) m);
+  }
 
   mine : get_elem? (map upper_of s.views) id ≡ some d.upper
   mine = at_map upper_of s.views id d at
@@ -690,6 +820,20 @@ module _ (z : Sizes) (s : State (Unit {0}) (View TreeView)) (r : R z s) (id : �
     levels = control 133 (omega arith) (λ e. omega arith) ∙ f.levels;
     role = role';
     shape = shape';
+    ranged = record {
+      ends = f.ranged.ends;
+      runs = runs_now;
+      made_before = λ pass number now. f.ranged.made_before pass number
+          (active_back z.rows s.words words' role role' same_ranges pass number now);
+      each =
+          all_seats (λ j v. IsRanging z.rows words' role' (f.ranged.ends v.number) v.since f.history
+          v.number v.ranges) (map upper_of s.views) id u' (ranging_still id d at)
+          (λ j v n here. let y = of_map upper_of s.views j v here in
+          subst (λ (w : TreeView). IsRanging z.rows words' role' (f.ranged.ends w.number) w.since
+          f.history w.number w.ranges) y.2 (ranging_still j y.0 y.1));
+    };
+    quiet = λ pass number now. f.quiet pass number
+        (active_back z.rows s.words words' role role' same_ranges pass number now);
     each_seat =
         all_seats (Knows z.rows r.made words' role' (set (map upper_of s.views) id u') f.history)
         (map upper_of s.views) id u' own_knows
@@ -748,7 +892,8 @@ module _ (z : Sizes) (s : State (Unit {0}) (View TreeView)) (r : R z s) (id : �
               ap (λ (w : View TreeView). w.pin.pinned) (sym t.1)
                   ∙ l.1,
             ))
-            (notes_keep id d at c (divided_notes words' x d.upper c (subst
+            (notes_keep id d at c (noted_alike words' d.upper u'
+            (λ y m. absurd (in_nothing y [] refl m)) (λ y m. m) (λ y m. m) (λ y m. m) c (subst
             (λ (w : View TreeView). IsNoted words' w.upper c) (sym t.1) n))))
             (λ (t : (j ≢ id) × (get_elem? s.views j ≡ some y)). ⊎_elim (λ w. inl (y, t.1, w))
             (λ l. inr l) (notes_keep j y t.1 c n))
@@ -757,7 +902,10 @@ module _ (z : Sizes) (s : State (Unit {0}) (View TreeView)) (r : R z s) (id : �
       }
 
   divided_now : IsDivided x me (d', me.1)
-  divided_now = record { now = refl; unclaimed = unclaimed_row z s r id d at x.old.row old_linked }
+  divided_now = record {
+    now = refl;
+    unclaimed = unclaimed_row z s r id d at x.old.row old_linked old_unlent;
+  }
 
 module _ (z : Sizes) where
   -- The exchange of a link that carries out a split.
@@ -777,7 +925,7 @@ module _ (z : Sizes) where
         subst (λ (y : ℕ). R z (stepped s x.old.place.link y id me.1 d' keeps))
             (sym (ap (λ b. either b x.route n) (eq-eqb n x.old.row hit)))
             (division_step z s r id me at x u hit),
-        ((λ _. refl), (λ miss. absurd (miss hit)), inr (x, (u.shown, refl, refl), won), won),
+        ((λ _. refl), (λ miss. absurd (miss hit)), inr (inl (x, (u.shown, refl, refl), won)), won),
       ))
       (λ miss. let lost : View TreeView = record d { upper = one_more_lost d.upper } in
       let missed : Divides x (step slots x.old.place.link x.old.row x.route none) me n (
@@ -793,7 +941,7 @@ module _ (z : Sizes) where
         subst (λ (y : ℕ). R z (stepped s x.old.place.link y id me.1 lost keeps))
             (sym (ap (λ b. either b x.route n) (ne_eqb n x.old.row miss)))
             (loses z s r x.old.place.link id d at),
-        ((λ hit. absurd (miss hit)), (λ _. refl), inr (x, (u.shown, refl, refl), missed), missed),
+        ((λ hit. absurd (miss hit)), (λ _. refl), inr (inl (x, (u.shown, refl, refl), missed)), missed),
       ))
 
   -- The same, where the old row, the route and the link have other names.

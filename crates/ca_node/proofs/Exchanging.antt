@@ -1,6 +1,6 @@
 -- One exchange of a link, by which a base takes the place of another one, whether it carries out an
 -- edit or none.
-use Rattle.std.proofs.Common.{◌≡◌, ◌≢◌, ◌⊎◌, ℕ, ◌+◌, ◌*◌, ◌<◌, ◌≤◌, true, List, [], ◌∷◌, length, map, get_or, set, sym, refl, ap, ◌∙◌, subst, inl, inr, ⊎_elim, arith}
+use Rattle.std.proofs.Common.{◌≡◌, ◌≢◌, ◌⊎◌, ℕ, ◌+◌, ◌*◌, ◌/◌, ◌<◌, ◌≤◌, true, List, [], ◌∷◌, ◌++◌, length, map, get_or, set, sym, refl, ap, ◌∙◌, subst, inl, inr, ⊎_elim, arith}
 use Rattle.std.proofs.lemmas.List.{map-set}
 use mathlib.Core.Logic.{dite}
 use mathlib.Core.Option.{some, some-injective, some-ne-none}
@@ -8,40 +8,47 @@ use native.Mathlib.Decide.{ℕ_discrete}
 use lib.ListN.{get_elem?}
 use Rattle.atomic_table.specs.Table.{State}
 use Rattle.atomic_table.proofs.Lists.{at_set, at_map}
-use Rattle.ca_model.specs.History.{History, after, AreEdits, AreByPasses}
+use Rattle.ca_model.specs.History.{History, after, state, AreEdits, AreByPasses}
 use Rattle.ca_model.specs.StoreMap.{StoreMap, IsStoreMap}
 use Rattle.ca_model.proofs.Edits.{map_after}
 use Rattle.ca_rows.specs.declared.sizes.Sizes.{Sizes}
 use Rattle.ca_rows.specs.declared.view.Claim.{Claim}
 use Rattle.ca_rows.specs.declared.view.Claim.TheVariants.{Holds}
 use Rattle.ca_rows.specs.declared.view.View.{View}
+use Rattle.ca_rows.specs.declared.view.Claimed.{Claimed}
 use Rattle.ca_rows.specs.Claims.{claim_of}
 use Rattle.ca_rows.specs.Rule.{upper_of}
-use Rattle.ca_rows.specs.Words.{IsWide}
-use Rattle.ca_rows.proofs.Relinking.{Change, Stays, Comes, Goes, IsChange, relinks}
+use Rattle.ca_rows.specs.Words.{IsWide, result_of}
+use Rattle.ca_runs.specs.Runs.{AreRuns}
+use Rattle.ca_runs.specs.Scenes.{Replaces}
+use Rattle.ca_rows.proofs.Relinking.{Change, Stays, Comes, Serves, Goes, IsChange, relinks}
 use Rattle.ca_rows.proofs.Rules.{all_seats}
+use Rattle.ca_node.specs.Copies.{IsSettled}
 use Rattle.ca_node.specs.Inventory.{AreOnce, row_itself, IsInventory}
 use Rattle.ca_node.specs.Laws.{tree_lends, in_nothing}
-use Rattle.ca_node.specs.Links.{IsIn, IsLinked, IsLent, IsNoted, by_note, by_item, by_way, by_link, by_link_item}
-use Rattle.ca_node.specs.Marks.{IsMarkIn}
+use Rattle.ca_node.specs.Links.{IsIn, IsActive, HasBegun, IsBoundOf, IsLinked, by_range, IsLent, IsOfOwnRun, IsNoted, by_note, by_item, by_way, by_link, by_link_item, by_border, by_run, by_run_item}
+use Rattle.ca_node.specs.Marks.{IsOfRange, IsOfJoin, IsMarkIn, IsBorder}
 use Rattle.ca_node.specs.Place.{part, Place}
-use Rattle.ca_node.specs.Reached.{same_place, base_at, link_range, reached, placed_linked, item_linked, item_out, linked_range, nothing_lent}
-use Rattle.ca_node.specs.Row.{row_at, form, IsObjectRow, IsBaseRow, items, count, level, pair, objects_in, IsHeaded}
+use Rattle.ca_node.specs.Ranging.{IsRanging}
+use Rattle.ca_node.specs.RangesStay.{active_back, active_on, begun_on}
+use Rattle.ca_node.specs.Reached.{same_place, base_at, link_range, reached, placed_linked, item_linked, item_out, linked_range, lent_end, end_lent, unlent}
+use Rattle.ca_node.specs.Row.{row_at, form, IsObjectRow, IsBaseRow, items, count, level, mark as mark_kind, mark_owner, mark_number, mark_bound, IsMarkedBy, IsUnmarked, pair, objects_in, IsHeaded}
+use Rattle.ca_node.specs.Scenes.{IsBase, span_of, mark_of, scene_of}
 use Rattle.ca_node.specs.Shape.{Role, Out, Base, Route, place_of, IsBaseAt, IsShape}
 use Rattle.ca_node.specs.Stays.{map_same}
 use Rattle.ca_rows.specs.Told.{relinked}
-use Rattle.ca_node.specs.Told.{MyTree, Update, IsObjectOf, IsNotFrom, IsLastThere, given, taken_out, updated_inventory}
+use Rattle.ca_node.specs.Told.{MyTree, Update, IsObjectOf, IsNotFrom, IsLastThere, given, lent_out, taken_out, exchanged_inventory}
 use Rattle.ca_node.specs.Tree.{IsTrue, IsTrueWay, Knows, IsTree}
-use Rattle.ca_node.specs.TreeView.{Note, Way, TreeView}
+use Rattle.ca_node.specs.TreeView.{Note, Way, Over, Border, TreeView}
 use Rattle.ca_node.proofs.Holding.{held_row}
-use Rattle.ca_node.proofs.Listing.{Relists, listed_again, known_by_one}
+use Rattle.ca_node.proofs.Listing.{in_either, in_front, in_back, Relists, listed_again, known_by_one}
 use Rattle.ca_node.proofs.Looking.{R, knows_upper, in_turn, in_more}
-use Rattle.ca_node.proofs.Members.{in_notes, in_rest, has, given_here, given_else, taken_here, taken_else, other_has, map_is_list}
+use Rattle.ca_node.proofs.Members.{in_notes, in_rest, has, given_here, given_else, lent_here, lent_else, taken_here, taken_else, other_has, map_is_list}
 use Rattle.ca_node.proofs.Named.{named_once}
-use Rattle.ca_node.proofs.Rebased.{IsNewBase, relinked_wide, relinked_else, relinked_told, relinked_row, relinked_object, base_no_route, out_no_route, relinked_keeps, with_base, with_base_new, with_base_old, with_base_else, shape_rebased}
-use Rattle.ca_node.proofs.Remembering.{remembered_leads, unlinked_out, note_stays, way_stays, notes_stay}
+use Rattle.ca_node.proofs.Rebased.{IsNewBase, relinked_wide, relinked_else, relinked_ranges, relinked_told, relinked_row, relinked_object, base_no_route, out_no_route, relinked_keeps, with_base, with_base_new, with_base_old, with_base_else, shape_rebased}
+use Rattle.ca_node.proofs.Remembering.{remembered_leads, unlinked_out, note_stays, way_stays, ranges_stay, notes_stay}
 use Rattle.ca_rows.specs.Layout.{row_words}
-use Rattle.ca_node.specs.Layout.{root_word}
+use Rattle.ca_node.specs.Layout.{root_word, sequence_unit}
 
 -- The seat may put the new row in the place of the old base, as far as the rows and the items go:
 -- it is pinned, its last load of that link showed that
@@ -67,10 +74,30 @@ pub record IsExchange (z : Sizes) (m : MyTree) (new : ℕ) (x : Update) : Type 0
       × IsNotFrom x i row
   pub stay : (row : ℕ) → IsIn row (items x.old.its) → IsIn row (items x.its) ⊎ IsIn row x.goes
 
--- The link names the old base.
+-- What the seat knows of ranges is so.
+pub own_ranging : (z : Sizes) (s : State (Unit {0}) (View TreeView)) (r : R z s) (id : ℕ)
+    (d : View TreeView) → get_elem? s.views id ≡ some d
+    → IsRanging z.rows s.words r.above.role (r.above.ranged.ends d.upper.number) d.upper.since
+    r.above.history d.upper.number d.upper.ranges
+own_ranging z s r id d at = r.above.ranged.each id d.upper (at_map upper_of s.views id d at)
+
+-- A range is over that marked a base which no range has.
+pub settled_over : (z : Sizes) (s : State (Unit {0}) (View TreeView)) (r : R z s) (id : ℕ)
+    (d : View TreeView) → get_elem? s.views id ≡ some d → (its : List ℕ) → IsSettled d.upper its
+    → (pass number : ℕ) → IsMarkedBy its pass number → ¬ IsActive s.words pass number
+settled_over z s r id d at its settled pass number m now = ⊎_elim
+    (λ (n : mark_kind its ≢ 1). n m.0)
+    (λ (t : (y : Over) × IsIn y d.upper.ranges.over × (mark_owner its ≡ y.pass)
+    × (mark_number its < y.below)). let less = t.3 in let same = m.2 in
+    ((own_ranging z s r id d at).over t.0 t.1 number (omega arith)).1 (subst
+    (λ (p : ℕ). IsActive s.words p number) (sym m.1 ∙ t.2) now))
+    settled
+
+-- The link names the old base, and the range is over that marked it.
 module _ (z : Sizes) (s : State (Unit {0}) (View TreeView)) (r : R z s) (id : ℕ) (me : MyTree)
     (at : get_elem? s.views id ≡ some me.0) (new : ℕ) (x : Update)
-    (u : IsExchange z me new x) (hit : get_or s.words x.old.place.link 0 ≡ x.old.row) where
+    (u : IsExchange z me new x) (hit : get_or s.words x.old.place.link 0 ≡ x.old.row)
+    (over : (pass number : ℕ) → IsMarkedBy x.old.its pass number → ¬ IsActive s.words pass number) where
   abbrev d : View TreeView
   d = me.0
 
@@ -176,13 +203,39 @@ module _ (z : Sizes) (s : State (Unit {0}) (View TreeView)) (r : R z s) (id : �
   objects_now = map_is_list (λ row. row_at s.words row) (items x.its) x.objects u.as_many
       (λ k row its a b. (item_is k row its a b).2)
 
-  -- The history is this one then, the mark on the new base is one, and each base has what the last
-  -- state of that history has of the keys that are led
-  -- there.
+  -- So it is by the words.
+  old_over : (pass number : ℕ) → IsMarkedBy (row_at s.words x.old.row) pass number
+      → ¬ IsActive s.words pass number
+  old_over pass number m =
+      over pass number (subst (λ its. IsMarkedBy its pass number) old_true.spells m)
+
+  -- The objects that come are none of the bases.
+  comes_object : (row : ℕ) → IsIn row x.comes → form (row_at s.words row) ≡ 1
+  comes_object row i = let w = words_of row (u.come row i).0 in ap form w.3 ∙ w.4.0
+
+  -- The new base is none of the objects that come, and no row comes twice.
+  pub ins_once : AreOnce row_itself (new ∷ x.comes)
+  ins_once = (
+    (λ (t : (y : ℕ) × IsIn y x.comes × (y ≡ new)).
+        let o = comes_object new (subst (λ c. IsIn c x.comes) t.2 t.1) in
+        let b : form (row_at s.words new) ≡ 2 = ap form new_row.2 ∙ u.is_base in absurd (omega arith)),
+    u.come_once,
+  )
+
+  -- The history is this one then, the mark on the new base is one, each base has what the last
+  -- state of that history has of the keys that are led there, and these rows are lent to the
+  -- operation that marks the new base.
   module _ (next : History) (mark : IsMarkIn s.words x.old.place x.its)
+      (bounded : (border : ℕ) → IsBoundOf s.words new border
+      → IsBorder z.rows s.words (mark_owner (row_at s.words new)) border)
       (has_then : map pair x.objects ≡ part x.old.place.span (after next []))
       (others_have : (c : ℕ) (p : Place) → r.above.role c ≡ Base p → c ≢ x.old.row
       → part p.span (after next []) ≡ part p.span (after r.above.history []))
+      (served : List ℕ)
+      (serve : (row : ℕ) → IsIn row served → ((its : List ℕ) × (claim_of me.0.claims row ≡ some (Holds its)))
+      × IsBoundOf s.words new row)
+      (served_once : AreOnce row_itself (served ++ new ∷ x.comes))
+      (new_end : (border : ℕ) → IsBoundOf s.words new border → IsLent s.words border ⊎ IsIn border served)
     where
       abbrev last' : StoreMap
       last' = after next []
@@ -200,6 +253,7 @@ module _ (z : Sizes) (s : State (Unit {0}) (View TreeView)) (r : R z s) (id : �
         level_is = subst (λ its. level its ≡ x.old.place.level) (sym new_row.2) u.level_is;
         few = subst (λ its. count its ≤ z.leaf) (sym new_row.2) u.few;
         marked = subst (IsMarkIn s.words x.old.place) (sym new_row.2) mark;
+        bounded = bounded;
         are_objects = λ row i.
             let w = words_of row (subst (λ its. IsIn row (items its)) new_row.2 i) in
             (w.1, w.2, subst IsObjectRow (sym w.3) w.4);
@@ -240,7 +294,7 @@ module _ (z : Sizes) (s : State (Unit {0}) (View TreeView)) (r : R z s) (id : �
           relinked_row z s.words role last shape x.old.row place is_old new c b.some_row b.in_range
           (base_no_route role c p e)
 
-      new_its : row_at words' new ≡ x.its
+      pub new_its : row_at words' new ≡ x.its
       new_its = relinked_row z s.words role last shape x.old.row place is_old new new new_row.0
           new_row.1 (out_no_route role new new_out) ∙ new_row.2
 
@@ -259,20 +313,76 @@ module _ (z : Sizes) (s : State (Unit {0}) (View TreeView)) (r : R z s) (id : �
       new_linked : IsLinked words' new
       new_linked = placed_linked z words' role' last' shape' new place (ap place_of is_new)
 
+      abbrev comings : List ℕ
+      comings = new ∷ x.comes
+
       abbrev ins : List ℕ
-      ins = new ∷ x.comes
+      ins = served ++ new ∷ x.comes
 
       abbrev outs : List ℕ
       outs = x.old.row ∷ x.goes
 
+      same_ranges : (pass : ℕ) → 0 < pass → pass ≤ 64
+          → result_of (set s.words x.old.place.link new) pass ≡ result_of s.words pass
+      same_ranges = relinked_ranges z s.words role last shape x.old.row place is_old new
+
+      -- What a base that stays says of the range that marked it.
+      bound_on : (base border : ℕ) → row_at words' base ≡ row_at s.words base
+          → IsBoundOf s.words base border → IsBoundOf words' base border
+      bound_on base border e b = subst (λ its. (mark_kind its ≡ 1)
+          × IsActive words' (mark_owner its) (mark_number its) × (mark_bound its ≡ border)) (sym e)
+          (b.0, active_on z.rows s.words words' role role' same_ranges _ _ b.1, b.2)
+
+      bound_back : (base border : ℕ) → row_at words' base ≡ row_at s.words base
+          → IsBoundOf words' base border → IsBoundOf s.words base border
+      bound_back base border e b = let c = subst (λ its. (mark_kind its ≡ 1)
+          × IsActive words' (mark_owner its) (mark_number its) × (mark_bound its ≡ border)) e b in
+          (c.0, active_back z.rows s.words words' role role' same_ranges _ _ c.1, c.2)
+
+      new_words : row_at words' new ≡ row_at s.words new
+      new_words = new_its ∙ sym new_row.2
+
+      -- What is lent is lent still: the old base's range is over.
+      lent_on : (row : ℕ) → IsLent s.words row → IsLent words' row
+      lent_on row l = let t = lent_end z s.words role last shape row l in
+          let ne : t.0 ≢ new = λ e.
+          (let y : Base t.1 ≡ Out = sym t.2 ∙ (ap role e ∙ new_out) in cc) in
+          let other : t.0 ≢ x.old.row = λ e. old_over (mark_owner (row_at s.words t.0))
+          (mark_number (row_at s.words t.0))
+          (subst (λ c. IsMarkedBy (row_at s.words c) (mark_owner (row_at s.words t.0))
+          (mark_number (row_at s.words t.0))) e (t.3.0, refl, refl)) t.3.1 in
+          end_lent z words' role' last' shape' row
+          (t.0, t.1, role_else t.0 ne other ∙ t.2, bound_on t.0 row (base_stays t.0 t.1 t.2) t.3)
+
+      -- What is lent then was, or is lent by the exchange.
+      lent_back : (row : ℕ) → IsLent words' row → IsLent s.words row ⊎ IsIn row served
+      lent_back row l = let t = lent_end z words' role' last' shape' row l in dite (ℕ_discrete t.0 new)
+          (λ (e : t.0 ≡ new). new_end row (bound_back new row new_words
+          (subst (λ c. IsBoundOf words' c row) e t.3)))
+          (λ (ne : t.0 ≢ new). let b = was_base t.0 t.1 t.2 ne in
+          inl (end_lent z s.words role last shape row
+          (t.0, t.1, b.0, bound_back t.0 row (base_stays t.0 t.1 b.0) t.3)))
+
+      pub served_lent : (row : ℕ) → IsIn row served → IsLent words' row
+      served_lent row i = end_lent z words' role' last' shape' row
+          (new, place, is_new, bound_on new row new_words (serve row i).1)
+
       held_in : (row : ℕ) → IsIn row ins → (its : List ℕ)
           × (claim_of d.claims row ≡ some (Holds its))
-      held_in row i = ⊎_elim (λ (e : new ≡ row). (x.its, ap (claim_of d.claims) (sym e) ∙ u.held))
-          (λ j. (u.come row j).1) (in_more new row x.comes i)
+      held_in row i = ⊎_elim (λ j. (serve row j).0)
+          (λ k. ⊎_elim (λ (e : new ≡ row). (x.its, ap (claim_of d.claims) (sym e) ∙ u.held))
+          (λ j. (u.come row j).1) (in_more new row x.comes k))
+          (in_either served comings row i)
 
       in_linked : (row : ℕ) → IsIn row ins → IsLinked words' row
-      in_linked row i = ⊎_elim (λ (e : new ≡ row). subst (IsLinked words') e new_linked)
-          (λ j. item_now row (u.come row j).0) (in_more new row x.comes i)
+      in_linked row i = ⊎_elim
+          (λ j. lent_linked (served_lent row j))
+          (λ k. ⊎_elim (λ (e : new ≡ row). subst (IsLinked words') e new_linked)
+          (λ j. item_now row (u.come row j).0) (in_more new row x.comes k))
+          (in_either served comings row i)
+        where
+          lent_linked : IsLent words' row → IsLinked words' row
+          lent_linked y = by_range y.0 row y.1 y.2 y.3
 
       pub out_linked : (row : ℕ) → IsIn row outs → IsLinked s.words row
       out_linked row i = ⊎_elim (λ (e : x.old.row ≡ row). subst (IsLinked s.words) e old_linked)
@@ -311,18 +421,32 @@ module _ (z : Sizes) (s : State (Unit {0}) (View TreeView)) (r : R z s) (id : �
       old_apart g =
           old_no_item x.old.row refl (old_at.are_objects x.old.row (was_named x.old.row g)).2.0
 
+      -- What goes out isn't lent.
+      pub out_unlent : (row : ℕ) → IsIn row outs → ¬ IsLent s.words row
+      out_unlent row o = unlent z s.words role last shape row (λ (f : form (row_at s.words row) ≡ 4). ⊎_elim
+          (λ (e : x.old.row ≡ row).
+          let b : form (row_at s.words row) ≡ 2 = ap (λ c. form (row_at s.words c)) (sym e)
+          ∙ old_at.is_base in omega arith)
+          (λ g. let k = (old_at.are_objects row (was_named row g)).2.0 in omega arith)
+          (in_more x.old.row row x.goes o))
+
       -- What goes out is nothing the new tree has.
       out_unlinked : (row : ℕ) → IsIn row outs → ¬ IsIn row ins → ¬ IsLinked words' row
       out_unlinked row o n l = ⊎_elim
           (λ (t : (p : Place) × (place_of (role' row) ≡ some p)).
           some-ne-none t.0 (sym t.1 ∙ ap place_of out_role))
+          (λ y. ⊎_elim
           (λ (t : (base : ℕ) × (p : Place) × (role' base ≡ Base p)
           × IsIn row (items (row_at words' base))). no_object t.0 t.1 t.2 t.3)
+          (λ (t : (base : ℕ) × (p : Place) × (role' base ≡ Base p) × IsBoundOf words' base row).
+          ⊎_elim (λ lent. out_unlent row o lent) (λ i. n (in_front served comings row i))
+          (lent_back row (end_lent z words' role' last' shape' row t)))
+          y)
           (reached z words' role' last' shape' row l)
         where
           out_role : role' row ≡ Out
           out_role = ⊎_elim (λ (e : x.old.row ≡ row). ap role' (sym e) ∙ old_gone)
-              (λ g. role_else row (λ e. n (0, ap some (sym e)))
+              (λ g. role_else row (λ e. n (in_back served comings row (0, ap some (sym e))))
               (λ e. old_apart (subst (λ c. IsIn c x.goes) e g))
               ∙ item_out z s.words role last shape x.old.row place is_old row (was_named row g))
               (in_more x.old.row row x.goes o)
@@ -350,16 +474,23 @@ module _ (z : Sizes) (s : State (Unit {0}) (View TreeView)) (r : R z s) (id : �
           (λ (t : (p : Place) × (place_of (role' row) ≡ some p)). dite (ℕ_discrete row x.old.row)
           (λ (e : row ≡ x.old.row). subst (IsLinked s.words) (sym e) old_linked)
           (λ (ne : row ≢ x.old.row). placed_linked z s.words role last shape row t.0
-          (ap place_of (sym (role_else row (λ e. n (0, ap some (sym e))) ne)) ∙ t.1)))
+          (ap place_of (sym (role_else row
+          (λ e. n (in_back served comings row (0, ap some (sym e)))) ne)) ∙ t.1)))
+          (λ y. ⊎_elim
           (λ (t : (base : ℕ) × (p : Place) × (role' base ≡ Base p)
           × IsIn row (items (row_at words' base))). dite (ℕ_discrete t.0 new)
           (λ (same : t.0 ≡ new). ⊎_elim (λ j. old_item row j)
-          (λ j. absurd (n (in_rest row new x.comes j)))
+          (λ j. absurd (n (in_back served comings row (in_rest row new x.comes j))))
           (was_item row (subst (λ its. IsIn row (items its)) (ap (row_at words') same
           ∙ new_its) t.3)))
           (λ (other : t.0 ≢ new). let b = was_base t.0 t.1 t.2 other in
           item_linked z s.words role last shape t.0 t.1 b.0 row
           (subst (λ its. IsIn row (items its)) (base_stays t.0 t.1 b.0) t.3)))
+          (λ (t : (base : ℕ) × (p : Place) × (role' base ≡ Base p) × IsBoundOf words' base row).
+          ⊎_elim (λ (lent : IsLent s.words row). by_range lent.0 row lent.1 lent.2 lent.3)
+          (λ i. absurd (n (in_front served comings row i)))
+          (lent_back row (end_lent z words' role' last' shape' row t)))
+          y)
           (reached z words' role' last' shape' row l)
 
       stays_on : (row : ℕ) → ¬ IsIn row outs → IsLinked s.words row → IsLinked words' row
@@ -369,6 +500,7 @@ module _ (z : Sizes) (s : State (Unit {0}) (View TreeView)) (r : R z s) (id : �
           some-ne-none t.0 (sym t.1 ∙ ap place_of (ap role e ∙ new_out)) in
           placed_linked z words' role' last' shape' row t.0
           (ap place_of (role_else row ne (λ e. m (0, ap some (sym e)))) ∙ t.1))
+          (λ y. ⊎_elim
           (λ (t : (base : ℕ) × (p : Place) × (role base ≡ Base p)
           × IsIn row (items (row_at s.words base))). dite (ℕ_discrete t.0 x.old.row)
           (λ (same : t.0 ≡ x.old.row). ⊎_elim (λ j. item_now row j)
@@ -380,6 +512,10 @@ module _ (z : Sizes) (s : State (Unit {0}) (View TreeView)) (r : R z s) (id : �
           (let y : Base t.1 ≡ Out = sym t.2 ∙ (ap role e ∙ new_out) in cc) in
           item_linked z words' role' last' shape' t.0 t.1 (role_else t.0 ne other ∙ t.2) row
           (subst (λ its. IsIn row (items its)) (sym (base_stays t.0 t.1 t.2)) t.3)))
+          (λ (t : (base : ℕ) × (p : Place) × (role base ≡ Base p) × IsBoundOf s.words base row).
+          let lent = lent_on row (end_lent z s.words role last shape row t) in
+          by_range lent.0 row lent.1 lent.2 lent.3)
+          y)
           (reached z s.words role last shape row l)
 
       abbrev pub new_note : Note
@@ -406,6 +542,15 @@ module _ (z : Sizes) (s : State (Unit {0}) (View TreeView)) (r : R z s) (id : �
       outs_stay c e ne = role_else c ne
           (λ o. (let y : Base place ≡ Out = sym is_old ∙ (ap role (sym o) ∙ e) in cc)) ∙ e
 
+      -- A base stays that an active range marked.
+      marked_stay : (c : ℕ) (p : Place) (pass number : ℕ) → r.above.role c ≡ Base p
+          → IsMarkedBy (row_at s.words c) pass number → IsActive s.words pass number
+          → role' c ≡ Base p
+      marked_stay c p pass number e m now = role_else c
+          (λ n. (let y : Base p ≡ Out = sym e ∙ (ap role n ∙ new_out) in cc))
+          (λ o. old_over pass number (subst (λ k. IsMarkedBy (row_at s.words k) pass number) o m) now)
+          ∙ e
+
       unnoted : (j : ℕ) (y : View TreeView) → get_elem? s.views j ≡ some y → (c : ℕ) → c ≡ new
           → ¬ IsNoted s.words y.upper c
       unnoted j y here c e n = new_row.4 j y here (subst (IsNoted s.words y.upper) e n)
@@ -414,14 +559,15 @@ module _ (z : Sizes) (s : State (Unit {0}) (View TreeView)) (r : R z s) (id : �
           → IsIn note y.upper.notes → IsTrue z.rows words' role' note
       note_keeps j y here note i =
           note_stays z s.words role last shape x.old.row place is_old new role' last' shape' Coming
-          routes_stay bases_stay outs_stay
-          y.upper (unnoted j y here) note i ((knows_upper z s r j y here).notes note i)
+          routes_stay bases_stay outs_stay marked_stay
+          y.upper (unnoted j y here) note (by_note note note.row i refl)
+          ((knows_upper z s r j y here).notes note i)
 
       pub way_keeps : (j : ℕ) (y : View TreeView) → get_elem? s.views j ≡ some y → (way : Way)
           → IsIn way y.upper.ways → IsTrueWay words' role' way
       way_keeps j y here way i =
           way_stays z s.words role last shape x.old.row place is_old new role' last' shape' Coming
-          routes_stay bases_stay outs_stay
+          routes_stay bases_stay outs_stay marked_stay
           y.upper (unnoted j y here) way i ((knows_upper z s r j y here).ways way i)
 
       notes_keep : (j : ℕ) (y : View TreeView) → get_elem? s.views j ≡ some y → (c : ℕ)
@@ -430,13 +576,77 @@ module _ (z : Sizes) (s : State (Unit {0}) (View TreeView)) (r : R z s) (id : �
       notes_keep j y here c n = ⊎_elim (λ o. inl o)
           (λ l. inr (l.0, (r.seat j y here).noted_pinned l.1.0 l.1.1))
           (notes_stay z s.words role last shape x.old.row place is_old new role' last' shape' Coming
-          routes_stay bases_stay outs_stay
-          y.upper (unnoted j y here) (knows_upper z s r j y here).ways c n)
+          routes_stay bases_stay outs_stay marked_stay
+          y.upper (unnoted j y here) (r.above.ranged.ends y.upper.number) f.history
+          (f.ranged.each j y.upper (at_map upper_of s.views j y here))
+          (knows_upper z s r j y here).ways c n)
+
+      -- What a seat knows of ranges is so still, where no base is marked for its own range that has
+      -- none yet.
+      pub ranging_keeps : (j : ℕ) (y : View TreeView) → get_elem? s.views j ≡ some y
+          → ((i : ℕ) → i ≤ length r.above.history
+          → (i ≤ length next) × (state next i ≡ state r.above.history i))
+          → ((number : ℕ) → IsActive s.words y.upper.number number
+          → ((c : ℕ) → IsBase r.above.role c → ¬ IsMarkedBy (row_at s.words c) y.upper.number number)
+          → ¬ IsMarkedBy x.its y.upper.number number)
+          → IsRanging z.rows words' role' (r.above.ranged.ends y.upper.number) y.upper.since next
+          y.upper.number y.upper.ranges
+      ranging_keeps j y here longer unmarked =
+          ranges_stay z s.words role last shape x.old.row place is_old new role' last' shape' Coming
+          routes_stay bases_stay outs_stay marked_stay
+          y.upper (unnoted j y here) (r.above.ranged.ends y.upper.number) f.history
+          (f.ranged.each j y.upper (at_map upper_of s.views j y here)) next longer
+          (λ number now none c base m. dite (ℕ_discrete c new)
+          (λ (e : c ≡ new). unmarked number now none (subst
+          (λ its. IsMarkedBy its y.upper.number number) (ap (row_at words') e ∙ new_its) m))
+          (λ (ne : c ≢ new). let b = was_base c base.0 base.1 ne in
+          none c (base.0, b.0) (subst (λ its. IsMarkedBy its y.upper.number number)
+          (base_stays c base.0 b.0) m)))
+
+      -- What ranges see: the new base takes the place of the old one.
+      pub replaced : Replaces (scene_of s.words r.above.role) (scene_of words' role') x.old.row new
+      replaced = record {
+        alike = record {
+          active = active_on z.rows s.words words' role role' same_ranges;
+          was_active = active_back z.rows s.words words' role role' same_ranges;
+          begun = begun_on z.rows s.words words' role role' same_ranges;
+        };
+        was = (place, is_old);
+        is = (place, is_new);
+        is_new = λ base. (let y : Base base.0 ≡ Out = sym base.1 ∙ new_out in cc);
+        some_row = new_row.0;
+        others = λ row base ne. (base.0, bases_on row base.0 base.1 ne);
+        from_where = λ row base. dite (ℕ_discrete row new) (λ e. inl e)
+            (λ ne. let b = was_base row base.0 base.1 ne in inr ((base.0, b.0), b.1));
+        same_keys = ap span_of is_new ∙ sym (ap span_of is_old);
+        keys = λ row base ne. ap span_of (bases_on row base.0 base.1 ne) ∙ sym (ap span_of base.1);
+        marks = λ row base. ap mark_of (base_stays row base.0 base.1);
+        free = λ pass number now m. old_over pass number m now;
+      }
+        where
+          bases_on : (row : ℕ) (p : Place) → r.above.role row ≡ Base p → row ≢ x.old.row
+              → role' row ≡ Base p
+          bases_on row p e ne = role_else row
+              (λ n. (let y : Base p ≡ Out = sym e ∙ (ap role n ∙ new_out) in cc)) ne ∙ e
 
       object_keeps : (row : ℕ) → IsIn row (items x.its) → row_at words' row ≡ row_at s.words row
       object_keeps row i = let w = words_of row i in
           relinked_object z s.words role last shape x.old.row place is_old new row w.1 w.2
           (ap form w.3 ∙ w.4.0)
+
+      -- A range that marked the new base was begun.
+      new_begun : (pass number : ℕ) → IsMarkedBy x.its pass number → HasBegun s.words pass number
+      new_begun pass number m = ⊎_elim
+          (λ (none : IsUnmarked x.its). let one = m.0 in absurd (omega arith))
+          (λ some_mark. ⊎_elim
+          (λ (k : IsOfRange x.its × (mark_number x.its
+          ≤ result_of s.words (mark_owner x.its) / sequence_unit)).
+          subst (λ (y : ℕ × ℕ). HasBegun s.words y.0 y.1) (λ i. (m.1 i, m.2 i)) (k.0.1, k.0.2, k.1))
+          (λ (k : IsOfJoin place x.its × (4 * mark_number x.its
+          ≤ get_or s.words (row_words * mark_owner x.its + 3) 0)).
+          let one = m.0 in let two = k.0.0 in absurd (omega arith))
+          some_mark)
+          mark
 
       pub new_true : IsTrue z.rows words' role' new_note
       new_true = record {
@@ -448,6 +658,10 @@ module _ (z : Sizes) (s : State (Unit {0}) (View TreeView)) (r : R z s) (id : �
         objects_are = λ _. map_same (λ row. row_at words' row)
             (λ row. row_at s.words row) (items x.its) object_keeps ∙ objects_now;
         stands = inl is_new;
+        marks = λ pass number k. (
+          begun_on z.rows s.words words' role role' same_ranges pass number (new_begun pass number k),
+          λ _. is_new,
+        );
       }
 
       -- No other control word changes.
@@ -456,11 +670,6 @@ module _ (z : Sizes) (s : State (Unit {0}) (View TreeView)) (r : R z s) (id : �
           (λ e. ⊎_elim (λ (t : x.old.place.link ≡ root_word). ne (omega arith))
           (λ t. let lo = t.0 in omega arith)
           (link_range z s.words role last shape x.old.place.link old_at.is_link))
-
-      -- The new base is none of the objects that come.
-      new_apart : ¬ IsIn new x.comes
-      new_apart i = let w = words_of new (u.come new i).0 in let b = u.is_base in
-          let o : form x.its ≡ 1 = ap form (sym new_row.2 ∙ w.3) ∙ w.4.0 in omega arith
 
       -- the base that comes
       abbrev coming : ℕ × Place
@@ -473,11 +682,7 @@ module _ (z : Sizes) (s : State (Unit {0}) (View TreeView)) (r : R z s) (id : �
         goes = out_unlinked;
         back = stays_back;
         on = stays_on;
-        ins_once = (
-          (λ (t : (y : ℕ) × IsIn y x.comes
-              × (y ≡ new)). new_apart (subst (λ c. IsIn c x.comes) t.2 t.1)),
-          u.come_once,
-        );
+        ins_once = served_once;
         base_comes = λ row p i. let e = one row p i in
             ap (λ (b : ℕ × Place). role' b.0) (sym e)
             ∙ (is_new ∙ ap (λ (b : ℕ × Place). Base b.1) e);
@@ -501,40 +706,63 @@ module _ (z : Sizes) (s : State (Unit {0}) (View TreeView)) (r : R z s) (id : �
           one row p i = ⊎_elim (λ e. e)
               (λ j. absurd (in_nothing (row, p) [] refl j)) (in_more coming (row, p) [] i)
 
-      listed_now : IsInventory words' role' (updated_inventory new x r.above.inventory)
+      listed_now : IsInventory words' role' (exchanged_inventory served new x r.above.inventory)
       listed_now =
           listed_again s.words words' role role' ins outs (coming ∷ []) x.old.row f.inventory
           relists f.listed
 
       -- A seat's own new note is on rows that are linked.
-      own_notes : (v : TreeView) → v.notes ≡ new_note ∷ d.upper.notes → v.ways ≡ d.upper.ways
+      pub own_notes : (v : TreeView) → v.notes ≡ new_note ∷ d.upper.notes → v.ways ≡ d.upper.ways
+          → ((border : Border) → IsIn border v.ranges.borders → IsIn border d.upper.ranges.borders
+          ⊎ IsLinked words' border.row)
+          → ((c : ℕ) → IsOfOwnRun words' v c → IsOfOwnRun words' d.upper c)
           → (row : ℕ) → IsNoted words' v row
           → IsNoted words' d.upper row ⊎ IsLinked words' row
-      own_notes v same ways _ (by_note n row i e) = ⊎_elim
+      own_notes v same ways borders run _ (by_note n row i e) = ⊎_elim
           (λ (new_one : new_note ≡ n).
           inr (subst (IsLinked words') (ap (λ (y : Note). y.row) new_one ∙ e) new_linked))
           (λ (o : IsIn n d.upper.notes). inl (by_note n row o e))
           (in_more new_note n d.upper.notes (subst (IsIn n) same i))
-      own_notes v same ways _ (by_item n row i b k) = ⊎_elim
+      own_notes v same ways borders run _ (by_item n row i b k) = ⊎_elim
           (λ (new_one : new_note ≡ n).
           inr (item_now row (subst (λ (y : Note). IsIn row (items y.its)) (sym new_one) k)))
           (λ (o : IsIn n d.upper.notes). inl (by_item n row o b k))
           (in_more new_note n d.upper.notes (subst (IsIn n) same i))
-      own_notes v same ways _ (by_way way row i e) =
+      own_notes v same ways borders run _ (by_way way row i e) =
           inl (by_way way row (subst (IsIn way) ways i) e)
-      own_notes v same ways _ (by_link way row i e) =
+      own_notes v same ways borders run _ (by_link way row i e) =
           inl (by_link way row (subst (IsIn way) ways i) e)
-      own_notes v same ways _ (by_link_item way base row i e g k) =
+      own_notes v same ways borders run _ (by_link_item way base row i e g k) =
           inl (by_link_item way base row (subst (IsIn way) ways i) e g k)
+      own_notes v same ways borders run _ (by_border border row i e) = ⊎_elim
+          (λ o. inl (by_border border row o e))
+          (λ l. inr (subst (IsLinked words') e l))
+          (borders border i)
+      own_notes v same ways borders run _ (by_run row o) = inl (by_run row (run row o))
+      own_notes v same ways borders run _ (by_run_item base row o k) =
+          inl (by_run_item base row (run base o) k)
 
-      claims_in : (row : ℕ) (c : Claim)
-          → claim_of (taken_out outs (given ins d.claims)) row ≡ some c → (0 < row) × (row ≤ z.rows)
+      -- the claims of the seat then
+      abbrev pub claims' : List Claimed
+      claims' = lent_out served (taken_out (x.old.row ∷ x.goes) (given (new ∷ x.comes) d.claims))
+
+      -- What neither comes nor goes has the claim that it had.
+      claim_stays : (row : ℕ) → ¬ IsIn row ins → ¬ IsIn row outs
+          → claim_of claims' row ≡ claim_of d.claims row
+      claim_stays row n m =
+          lent_else served (taken_out outs (given comings d.claims)) row
+          (λ i. n (in_front served comings row i))
+          ∙ (taken_else outs (given comings d.claims) row m
+          ∙ given_else comings d.claims row (λ i. n (in_back served comings row i)))
+
+      claims_in : (row : ℕ) (c : Claim) → claim_of claims' row ≡ some c → (0 < row) × (row ≤ z.rows)
       claims_in row c e = ⊎_elim
+          (λ i. let h = held_in row i in let w = held row h.0 h.1 in (w.0, w.1))
+          (λ n. ⊎_elim
           (λ o. linked_range z s.words role last shape row (out_linked row o))
-          (λ m. ⊎_elim (λ i. let h = held_in row i in let w = held row h.0 h.1 in (w.0, w.1))
-          (λ n. (r.seat id d at).in_range row c (sym (taken_else outs (given ins d.claims) row m
-          ∙ given_else ins d.claims row n) ∙ e)) (has ins row))
-          (has outs row)
+          (λ m. (r.seat id d at).in_range row c
+          (sym (claim_stays row n m) ∙ e)) (has outs row))
+          (has ins row)
 
       -- A row that isn't linked keeps its words.
       unlinked_keeps : (c k : ℕ) → 0 < c → ¬ IsLinked s.words c → k < row_words
@@ -544,57 +772,90 @@ module _ (z : Sizes) (s : State (Unit {0}) (View TreeView)) (r : R z s) (id : �
           (out_no_route role c (unlinked_out z s.words role last shape c n)) k l
 
       -- The seat knows this then, with one note more, and so do the others.
-      module _ (u' : TreeView) (same_notes : u'.notes ≡ new_note ∷ d.upper.notes)
-          (same_ways : u'.ways ≡ d.upper.ways)
-          (same_inventory : u'.inventory ≡ updated_inventory new x d.upper.inventory)
+      module _ (u' : TreeView)
+          (own : (row : ℕ) → IsNoted (set s.words x.old.place.link new) u' row
+          → IsNoted (set s.words x.old.place.link new) d.upper row
+          ⊎ IsLinked (set s.words x.old.place.link new) row)
+          (same_inventory : u'.inventory ≡ exchanged_inventory served new x d.upper.inventory)
           (edits : AreEdits z.keypos next) (by_passes : AreByPasses r.made next)
+          (quiet : (pass number : ℕ) → ¬ IsActive s.words pass number)
+          (runs : AreRuns (scene_of (set s.words x.old.place.link new) role') r.above.ranged.ends)
           (own_knows : Knows z.rows r.made (set s.words x.old.place.link new) role'
           (set (map upper_of s.views) id u') next id u')
+          (own_ranging : IsRanging z.rows (set s.words x.old.place.link new) role'
+          (r.above.ranged.ends u'.number) u'.since next u'.number u'.ranges)
           (others_know : (j : ℕ) (v : TreeView) → j ≢ id
           → get_elem? (map upper_of s.views) j ≡ some v
           → Knows z.rows r.made (set s.words x.old.place.link new) role'
-          (set (map upper_of s.views) id u') next j v) where
+          (set (map upper_of s.views) id u') next j v
+          × IsRanging z.rows (set s.words x.old.place.link new) role'
+          (r.above.ranged.ends v.number) v.since next v.number v.ranges) where
         abbrev d' : View TreeView
-        d' = (relinked me (taken_out outs (given ins d.claims)) u').0
+        d' = (relinked me claims' u').0
 
-        kind_by : (row : ℕ) → IsIn row ins ⊎ ¬ IsIn row ins → IsIn row outs ⊎ ¬ IsIn row outs
-            → Change
-        kind_by row (inl i) o = Comes
-        kind_by row (inr n) (inl o) = Goes
-        kind_by row (inr n) (inr m) = Stays
+        kind_by : (row : ℕ) → IsIn row served ⊎ ¬ IsIn row served
+            → IsIn row comings ⊎ ¬ IsIn row comings → IsIn row outs ⊎ ¬ IsIn row outs → Change
+        kind_by row (inl i) c o = Serves
+        kind_by row (inr i) (inl c) o = Comes
+        kind_by row (inr i) (inr c) (inl o) = Goes
+        kind_by row (inr i) (inr c) (inr o) = Stays
 
         kind : ℕ → Change
-        kind row = kind_by row (has ins row) (has outs row)
+        kind row = kind_by row (has served row) (has comings row) (has outs row)
 
         abbrev IsSo : ℕ → Change → Type 0
         IsSo = IsChange IsLinked IsLent IsNoted IsTree tree_lends z s r id d d' words' kind
 
-        changed : (row : ℕ) (a : IsIn row ins ⊎ ¬ IsIn row ins)
-            (b : IsIn row outs ⊎ ¬ IsIn row outs) → IsSo row (kind_by row a b)
+        -- What comes has another form than what is lent.
+        coming_unlent : (row : ℕ) → IsIn row comings → ¬ IsLent words' row
+        coming_unlent row i = ⊎_elim
+            (λ (e : new ≡ row). unlent z words' role' last' shape' row (λ (f : form (row_at words' row) ≡ 4).
+            let b : form (row_at words' row) ≡ 2 = ap (λ c. form (row_at words' c)) (sym e)
+            ∙ (ap form new_its ∙ u.is_base) in omega arith))
+            (λ j. unlent z words' role' last' shape' row (λ (f : form (row_at words' row) ≡ 4).
+            let o : form (row_at words' row) ≡ 1 = ap form (object_keeps row (u.come row j).0)
+            ∙ comes_object row j in omega arith))
+            (in_more new row x.comes i)
+
+        none_in : (row : ℕ) → ¬ IsIn row served → ¬ IsIn row comings → ¬ IsIn row ins
+        none_in row n m i = ⊎_elim n m (in_either served comings row i)
+
+        changed : (row : ℕ) (a : IsIn row served ⊎ ¬ IsIn row served)
+            (b : IsIn row comings ⊎ ¬ IsIn row comings)
+            (c : IsIn row outs ⊎ ¬ IsIn row outs) → IsSo row (kind_by row a b c)
         unfolding kind_by
-        changed row (inl i) b = (
-          in_linked row i,
-          nothing_lent z words' role' last' shape' row,
-          held_in row i,
-          taken_else outs (given ins d.claims) row (apart row i) ∙ given_here ins d.claims row i,
+        changed row (inl i) b c = (
+          served_lent row i,
+          (serve row i).0,
+          lent_here served (taken_out outs (given comings d.claims)) row i,
         )
-        changed row (inr n) (inl o) = (
+        changed row (inr n) (inl i) c = (
+          in_linked row (in_back served comings row i),
+          coming_unlent row i,
+          held_in row (in_back served comings row i),
+          lent_else served (taken_out outs (given comings d.claims)) row n
+              ∙ (taken_else outs (given comings d.claims) row
+              (apart row (in_back served comings row i))
+              ∙ given_here comings d.claims row i),
+        )
+        changed row (inr n) (inr m) (inl o) = (
           out_linked row o,
-          nothing_lent z s.words role last shape row,
-          out_unlinked row o n,
-          taken_here outs (given ins d.claims) row o,
+          out_unlent row o,
+          out_unlinked row o (none_in row n m),
+          lent_else served (taken_out outs (given comings d.claims)) row n
+              ∙ taken_here outs (given comings d.claims) row o,
         )
-        changed row (inr n) (inr m) = (
-          stays_back row n,
-          stays_on row m,
-          (λ b. absurd (nothing_lent z words' role' last' shape' row b)),
-          (λ b. absurd (nothing_lent z s.words role last shape row b)),
-          taken_else outs (given ins d.claims) row m ∙ given_else ins d.claims row n,
+        changed row (inr n) (inr m) (inr o) = (
+          stays_back row (none_in row n m),
+          stays_on row o,
+          (λ l. ⊎_elim (λ b. b) (λ i. absurd (n i)) (lent_back row l)),
+          lent_on row,
+          claim_stays row (none_in row n m) o,
         )
 
         changed_now : (c : ℕ) → IsSo c (kind c)
         unfolding kind
-        changed_now c = changed c (has ins c) (has outs c)
+        changed_now c = changed c (has served c) (has comings c) (has outs c)
 
         first : get_elem? (map upper_of s.views) id ≡ some d.upper
         first = at_map upper_of s.views id d at
@@ -610,19 +871,31 @@ module _ (z : Sizes) (s : State (Unit {0}) (View TreeView)) (r : R z s) (id : �
           levels = control 133 (omega arith) (λ e. omega arith) ∙ f.levels;
           role = role';
           shape = shape';
+          ranged = record {
+            ends = f.ranged.ends;
+            runs = runs;
+            made_before = λ pass number now. f.ranged.made_before pass number
+                (active_back z.rows s.words words' role role' same_ranges pass number now);
+            each =
+                all_seats (λ j v. IsRanging z.rows words' role' (f.ranged.ends v.number) v.since next
+                v.number v.ranges) (map upper_of s.views) id u' own_ranging
+                (λ j v ne here. (others_know j v ne here).1);
+          };
+          quiet = λ pass number now.
+              quiet pass number (active_back z.rows s.words words' role role' same_ranges pass number now);
           each_seat =
               all_seats (Knows z.rows r.made words' role' (set (map upper_of s.views) id u') next)
-              (map upper_of s.views) id u' own_knows others_know;
-          inventory = updated_inventory new x f.inventory;
+              (map upper_of s.views) id u' own_knows (λ j v ne here. (others_know j v ne here).0);
+          inventory = exchanged_inventory served new x f.inventory;
           listed = listed_now;
           at_first = λ (e : r.made ≡ 0). let lo = u.is_pass in let hi = knows.made_before in
               absurd (omega arith);
           only_one =
               known_by_one z.rows r.made s.words role (map upper_of s.views) f.history f.each_seat
               id d.upper u'
-              (updated_inventory new x f.inventory) first u.is_pass
+              (exchanged_inventory served new x f.inventory) first u.is_pass
               (λ few. same_inventory
-              ∙ ap (updated_inventory new x) (f.only_one id d.upper first few u.is_pass));
+              ∙ ap (exchanged_inventory served new x) (f.only_one id d.upper first few u.is_pass));
         }
 
         -- Where the link names the old base, the whole rule holds again.
@@ -657,7 +930,7 @@ module _ (z : Sizes) (s : State (Unit {0}) (View TreeView)) (r : R z s) (id : �
                   (notes_keep id d at c o))
                   (λ (l : IsLinked words' c).
                   inr (l, ap (λ (w : View TreeView). w.pin.pinned) (sym t.1) ∙ u.is_pinned))
-                  (own_notes u' same_notes same_ways c (subst
+                  (own c (subst
                   (λ (w : View TreeView). IsNoted words' w.upper c) (sym t.1) n)))
                   (λ (t : (j ≢ id) × (get_elem? s.views j ≡ some y)). ⊎_elim (λ w. inl (y, t.1, w))
                   (λ l. inr l) (notes_keep j y t.1 c n))

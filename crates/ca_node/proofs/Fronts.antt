@@ -14,8 +14,9 @@ use Rattle.ca_rows.specs.Rule.{fresh, no_sizes, upper_of}
 use Rattle.ca_rows.proofs.Closing.{joins}
 use Rattle.ca_rows.proofs.Forking.{forks}
 use Rattle.ca_rows.proofs.Making.{at_place}
-use Rattle.ca_node.specs.Laws.{numbered, relisted, seat_changed, no_notes, knows_nothing, none_made, in_nothing}
-use Rattle.ca_node.specs.Links.{IsLinked, IsLent, IsNoted, by_note, by_item, by_way, by_link, by_link_item}
+use Rattle.ca_node.specs.Laws.{noted_alike, no_blank_notes, no_ranging, numbered, relisted, seat_changed, knows_nothing, none_made, in_nothing}
+use Rattle.ca_node.specs.Links.{IsLinked, IsLent, IsNoted}
+use Rattle.ca_node.specs.Ranging.{IsRanging}
 use Rattle.ca_node.specs.Told.{front_of, longer, learnt}
 use Rattle.ca_node.specs.Tree.{StartsWith, Knows, IsTree}
 use Rattle.ca_node.specs.TreeView.{TreeView, blank}
@@ -58,15 +59,6 @@ longer_is h a b s t = by_bool (nat_lt (length a) (length b))
     (λ e. subst (λ (c : Bool). StartsWith h (cond c b a)
     × StartsWith (cond c b a) a) (sym e) (s, ([], sym (append-nil a))))
 
--- A note of a pass that learnt is one that it had.
-learnt_notes : (words : List ℕ) (u v : TreeView) (row : ℕ) → IsNoted words (learnt u v) row
-    → IsNoted words u row
-learnt_notes words u v _ (by_note note row i e) = by_note note row i e
-learnt_notes words u v _ (by_item note row i b k) = by_item note row i b k
-learnt_notes words u v _ (by_way way row i e) = by_way way row i e
-learnt_notes words u v _ (by_link way row i e) = by_link way row i e
-learnt_notes words u v _ (by_link_item way base row i e f k) = by_link_item way base row i e f k
-
 -- Taking a front in keeps the rule of the tree.
 pub tree_learning : Closing IsLinked IsLent IsNoted IsTree learnt (blank 0)
 tree_learning = record {
@@ -88,15 +80,18 @@ tree_learning = record {
         links = k.links;
         ways = k.ways;
         ended = k.ended;
-      } in
+      }
+      (f.ranged.each i v at) in
       seat_changed z made words us j w (blank 0) g (set_else uppers i j u' ne ∙ there)
       (λ lo. absurd (omega arith))
       (λ lo. absurd (omega arith))
       (knows_nothing z.rows made words g.role (set us j (blank 0)) g.history j 0 (omega arith)
       (λ lo. absurd (omega arith))
-      (none_made made 0 g.history g.by_passes (inl refl)));
-  closing_notes = λ words v w r n. inl (learnt_notes words v w r n);
-  spent_notes = λ words r. no_notes words (blank 0) r refl refl;
+      (none_made made 0 g.history g.by_passes (inl refl)))
+      (no_ranging z.rows words g.role (g.ranged.ends 0) g.history);
+  closing_notes = λ words v w r n. inl (noted_alike words v (learnt v w) (λ x i. i) (λ x i. i)
+      (λ x i. i) (λ x i. i) r n);
+  spent_notes = λ words r. no_blank_notes words 0 r;
 }
 
 -- A front more.
@@ -114,6 +109,19 @@ front_more z made words uppers id u f at = let next : List TreeView = uppers ++ 
       levels = f.levels;
       role = f.role;
       shape = f.shape;
+      ranged = record {
+        ends = f.ranged.ends;
+        runs = f.ranged.runs;
+        made_before = f.ranged.made_before;
+        each = λ j v here. ⊎_elim
+            (λ (was : get_elem? uppers j ≡ some v). f.ranged.each j v was)
+            (λ (t : (j ≡ length uppers) × (front_of u ≡ v)).
+            subst (λ (y : TreeView). IsRanging z.rows words f.role (f.ranged.ends y.number) y.since
+            f.history y.number y.ranges) t.1
+            (no_ranging z.rows words f.role (f.ranged.ends 0) f.history))
+            (at_place uppers (front_of u) v j here);
+      };
+      quiet = f.quiet;
       each_seat = λ j v here. ⊎_elim
           (λ (was : get_elem? uppers j ≡ some v). let k = f.each_seat j v was in record {
             made_before = k.made_before;
@@ -176,7 +184,8 @@ module _ (z : Sizes) where
   pub fronts : (id : ℕ) (v : View TreeView)
       → Splits (R z) id v v (fresh no_sizes 0 (front_of v.upper))
   fronts id v s r at = forks IsLinked IsLent IsNoted IsTree z s r id v at (front_of v.upper)
-      (λ q. no_notes s.words (front_of v.upper) q refl refl)
+      (λ q n. no_blank_notes s.words 0 q (noted_alike s.words (blank 0) (front_of v.upper)
+      (λ x i. i) (λ x i. i) (λ x i. i) (λ x i. i) q n))
       (front_more z r.made s.words (map upper_of s.views) id v.upper r.above
       (at_map upper_of s.views id v at))
 

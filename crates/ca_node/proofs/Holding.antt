@@ -16,7 +16,7 @@ use Rattle.ca_rows.proofs.Claiming.{claim_there}
 use Rattle.ca_rows.proofs.Steps.{owned}
 use Rattle.ca_node.specs.Laws.{tree_frames}
 use Rattle.ca_node.specs.Links.{IsLinked, IsLent, IsNoted}
-use Rattle.ca_node.specs.Reached.{linked_range, nothing_lent}
+use Rattle.ca_node.specs.Reached.{linked_range}
 use Rattle.ca_node.specs.Row.{row_at}
 use Rattle.ca_node.specs.Stays.{row_long, word_at}
 use Rattle.ca_node.specs.Tree.{IsTree}
@@ -53,18 +53,18 @@ module _ (z : Sizes) (s : State (Unit {0}) (View TreeView)) (r : R z s) (id : �
   abbrev N : ℕ → ℕ → Type 0
   N = NotedAt IsNoted s.words s.views
 
-  -- A row that is linked is nobody's.
-  nobodys : (row : ℕ) (o : Owner) → IsLinked s.words row
+  -- A row that is linked, and not lent, is nobody's.
+  nobodys : (row : ℕ) (o : Owner) → IsLinked s.words row → ¬ IsLent s.words row
       → IsRow s.words (IsLinked s.words) (IsLent s.words) N (claim_at s.views) row o
       → claim_at s.views id row ≡ none
-  nobodys row (Free k) l w = absurd (w.0.0 l)
-  nobodys row Linked l w = w.2 id
-  nobodys row (Of i) l w = absurd (by w.0.0 w.0.2)
+  nobodys row (Free k) l n w = absurd (w.0.0 l)
+  nobodys row Linked l n w = w.2 id
+  nobodys row (Of i) l n w = absurd (by w.0.0 w.0.2)
     where
       by : (c : Claim) → IsClaim s.words (IsLinked s.words) (IsLent s.words) N row c → ⊥
       by (Holds its) k = k.2.0 l
       by Lends k = ⊎_elim
-          (λ b. nothing_lent z s.words r.above.role (after r.above.history []) r.above.shape row b)
+          (λ b. n b)
           (λ (o : (age : ℕ) × IsOut s.words (IsLinked s.words) (IsLent s.words) N row age). o.1.0 l)
           k
       by Unlinked k = k.1.0 l
@@ -72,9 +72,10 @@ module _ (z : Sizes) (s : State (Unit {0}) (View TreeView)) (r : R z s) (id : �
       by (Returns t its) k = k.3.0 l
 
   -- So the seat doesn't claim it.
-  pub unclaimed_row : (row : ℕ) → IsLinked s.words row → claim_of d.claims row ≡ none
-  unclaimed_row row l =
+  pub unclaimed_row : (row : ℕ) → IsLinked s.words row → ¬ IsLent s.words row
+      → claim_of d.claims row ≡ none
+  unclaimed_row row l n =
       let range =
       linked_range z s.words r.above.role (after r.above.history []) r.above.shape row l in
       sym (claim_there s.views id d d at row)
-      ∙ nobodys row (r.owner row) l (r.row row range.0 range.1)
+      ∙ nobodys row (r.owner row) l n (r.row row range.0 range.1)

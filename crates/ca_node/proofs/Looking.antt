@@ -1,5 +1,5 @@
 -- Loads: of links, and of words of rows that were shown.
-use Rattle.std.proofs.Common.{◌≡◌, ◌≢◌, ◌⊎◌, ℕ, zero, suc, ◌+◌, ◌*◌, ◌<◌, ◌≤◌, le_refl, Bool, true, List, [], ◌∷◌, ◌++◌, length, map, get_or, set, sym, refl, ap, ◌∙◌, subst, inl, inr, ⊎_elim, arith, length-append}
+use Rattle.std.proofs.Common.{◌≡◌, ◌≢◌, ◌⊎◌, ℕ, zero, suc, ◌+◌, ◌*◌, ◌/◌, ◌<◌, ◌≤◌, le_refl, Bool, true, List, [], ◌∷◌, ◌++◌, length, map, get_or, set, sym, refl, ap, ◌∙◌, subst, inl, inr, ⊎_elim, arith, length-append}
 use Rattle.std.proofs.lemmas.List.{map-set, set-get_or, append_assoc, length-map}
 use mathlib.Core.Option.{some, none, some-injective, some-ne-none}
 use lib.ListN.{get_elem?}
@@ -13,24 +13,27 @@ use Rattle.ca_model.specs.StoreMap.{StoreMap}
 use Rattle.ca_rows.specs.declared.sizes.Sizes.{Sizes}
 use Rattle.ca_rows.specs.declared.view.View.{View}
 use Rattle.ca_rows.specs.Calls.{Raises}
+use Rattle.ca_rows.specs.Words.{result_of}
 use Rattle.ca_rows.specs.Rule.{upper_of, Ruled}
 use Rattle.ca_rows.proofs.Relinking.{Stays, relinks}
 use Rattle.ca_node.specs.Inventory.{IsListed}
-use Rattle.ca_node.specs.Laws.{alive, tree_lends, numbered, relisted, seat_changed, starts_whole}
-use Rattle.ca_node.specs.Links.{IsIn, IsUnder, IsLinked, by_route, by_base, IsLent, IsNoted, by_note, by_item, by_way, by_link, by_link_item}
+use Rattle.ca_node.specs.Laws.{noted_alike, alive, tree_lends, numbered, relisted, seat_changed, starts_whole}
+use Rattle.ca_node.specs.Links.{IsIn, IsUnder, IsLinked, by_route, by_base, IsLent, HasBegun, IsNoted, by_note, by_item, by_way, by_link, by_link_item, by_border, by_run, by_run_item}
+use Rattle.ca_node.specs.Marks.{IsOfRange, IsOfJoin}
 use Rattle.ca_node.specs.Place.{Span, all_keys, left_of, right_of, HasKey, part, Place}
 use Rattle.ca_node.specs.Reached.{by_place, base_at, route_at, placed_linked, item_linked}
-use Rattle.ca_node.specs.Row.{row_at, IsObjectRow, IsBaseRow, IsRouteRow, items, route_key, pair}
+use Rattle.ca_node.specs.Row.{row_at, IsObjectRow, IsBaseRow, IsRouteRow, items, mark_owner, mark_number, IsMarkedBy, IsUnmarked, route_key, pair}
 use Rattle.ca_node.specs.Shape.{Base, Route, place_of, LeadsTo, IsBaseAt, IsRouteAt}
 use Rattle.ca_node.specs.Standing.{mark_of}
 use Rattle.ca_node.specs.Stays.{word_at, row_long}
-use Rattle.ca_node.specs.Told.{MyTree, with_upper, IsBaseNote, IsRouteNote, IsKnown, IsMissed, IsKnownLink, IsAnyLink, IsPlaceOf, come_to, come_at, led_to_base, led_to_route, IsLedToBase, IsLedToRoute, IsLed, Leads, IsShown, IsShownRoute, IsRead, Reads, entered, ReadsLast, Refuses, IsRise, one_more_lost, MayLoad}
+use Rattle.ca_node.specs.May.{MayLoad}
+use Rattle.ca_node.specs.Told.{MyTree, with_upper, IsBaseNote, IsRouteNote, IsKnown, IsMissed, IsKnownLink, IsAnyLink, IsPlaceOf, come_to, come_at, led_to_base, led_to_route, IsLedToBase, IsLedToRoute, IsLed, Leads, IsShown, IsShownRoute, IsRead, Reads, entered, ReadsLast, Refuses, IsRise, one_more_lost}
 use Rattle.ca_node.specs.States.{IsAlone, IsReadSince}
 use Rattle.ca_node.specs.Tree.{StartsWith, ArePast, IsLinkOfView, IsFixed, IsTrue, IsTrueWay, Knows, IsTree}
 use Rattle.ca_node.specs.TreeView.{Note, Way, Inventory, TreeView}
 use Rattle.ca_node.proofs.Logs.{last_state, state_stays, read_lawful, past_more}
 use Rattle.ca_rows.specs.Layout.{row_words}
-use Rattle.ca_node.specs.Layout.{root_word}
+use Rattle.ca_node.specs.Layout.{root_word, sequence_unit}
 
 module _ (z : Sizes) where
   abbrev pub R : State (Unit {0}) (View TreeView) → Type 0
@@ -141,6 +144,11 @@ new_note words u more note last shown here named _ (by_link way row i under) =
     inl (by_link way row i under)
 new_note words u more note last shown here named _ (by_link_item way base row i under f m) =
     inl (by_link_item way base row i under f m)
+new_note words u more note last shown here named _ (by_border border row i e) =
+    inl (by_border border row i e)
+new_note words u more note last shown here named _ (by_run row o) = inl (by_run row o)
+new_note words u more note last shown here named _ (by_run_item base row o k) =
+    inl (by_run_item base row o k)
 
 -- A route more: one that is linked, and so is what its links name.
 pub new_way : (words : List ℕ) (u : TreeView) (more : History) (way : Way) → IsLinked words way.row
@@ -162,35 +170,9 @@ new_way words u more way here form _ (by_link_item w base row i under f m) = ⊎
     inr (by_base base row (by_route way.row base here form (subst
     (λ (x : Way). IsUnder words x.row base) (sym same) under)) f m))
     (λ (o : IsIn w u.ways). inl (by_link_item w base row o under f m)) (in_more way w u.ways i)
-
--- What a seat counts gives no note.
-pub counted_notes : (words : List ℕ) (u : TreeView) (counts : Counts) (lost : ℕ) (row : ℕ)
-    → IsNoted words (record u { counts = counts; lost = lost }) row → IsNoted words u row
-counted_notes words u counts lost _ (by_note note row i e) = by_note note row i e
-counted_notes words u counts lost _ (by_item note row i b k) = by_item note row i b k
-counted_notes words u counts lost _ (by_way way row i e) = by_way way row i e
-counted_notes words u counts lost _ (by_link way row i e) = by_link way row i e
-counted_notes words u counts lost _ (by_link_item way base row i e f k) =
-    by_link_item way base row i e f k
-
--- A seat that remembers no base any more has no note more.
-pub lost_notes : (words : List ℕ) (u : TreeView) (row : ℕ) → IsNoted words (one_more_lost u) row
-    → IsNoted words u row
-lost_notes words u _ (by_note note row i e) = absurd (some-ne-none note (sym i.1))
-lost_notes words u _ (by_item note row i b k) = absurd (some-ne-none note (sym i.1))
-lost_notes words u _ (by_way way row i e) = by_way way row i e
-lost_notes words u _ (by_link way row i e) = by_link way row i e
-lost_notes words u _ (by_link_item way base row i e f k) = by_link_item way base row i e f k
-
--- An entry in the log gives no note.
-pub entered_notes : (words : List ℕ) (u : TreeView) (event : Event) (at row : ℕ)
-    → IsNoted words (entered u event at) row → IsNoted words u row
-entered_notes words u event at _ (by_note note row i e) = by_note note row i e
-entered_notes words u event at _ (by_item note row i b k) = by_item note row i b k
-entered_notes words u event at _ (by_way way row i e) = by_way way row i e
-entered_notes words u event at _ (by_link way row i e) = by_link way row i e
-entered_notes words u event at _ (by_link_item way base row i e f k) =
-    by_link_item way base row i e f k
+new_way words u more way here form _ (by_border border row i e) = inl (by_border border row i e)
+new_way words u more way here form _ (by_run row o) = inl (by_run row o)
+new_way words u more way here form _ (by_run_item base row o k) = inl (by_run_item base row o k)
 
 -- What a list of rows spells, one after another.
 pub in_turn : (words : List ℕ) (xs : List ℕ)
@@ -217,6 +199,21 @@ module _ (z : Sizes) (made : ℕ) (words : List ℕ) (uppers : List TreeView)
     at : IsBaseAt z words f.role last place row
     at = base_at z words f.role last f.shape row place is
 
+    -- A range that marked it was begun.
+    base_begun : (pass number : ℕ) → IsMarkedBy (row_at words row) pass number
+        → HasBegun words pass number
+    base_begun pass number m = ⊎_elim
+        (λ (none : IsUnmarked (row_at words row)). let one = m.0 in absurd (omega arith))
+        (λ some_mark. ⊎_elim
+        (λ (k : IsOfRange (row_at words row) × (mark_number (row_at words row)
+        ≤ result_of words (mark_owner (row_at words row)) / sequence_unit)).
+        subst (λ (x : ℕ × ℕ). HasBegun words x.0 x.1) (λ i. (m.1 i, m.2 i)) (k.0.1, k.0.2, k.1))
+        (λ (k : IsOfJoin place (row_at words row) × (4 * mark_number (row_at words row)
+        ≤ get_or words (row_words * mark_owner (row_at words row) + 3) 0)).
+        let one = m.0 in let two = k.0.0 in absurd (omega arith))
+        some_mark)
+        at.marked
+
     -- That note says what the words spell.
     pub base_true : IsTrue z.rows words f.role base_note
     base_true = record {
@@ -226,6 +223,7 @@ module _ (z : Sizes) (made : ℕ) (words : List ℕ) (uppers : List TreeView)
       named = λ _ r i. at.are_objects r i;
       objects_are = λ _. refl;
       stands = inl is;
+      marks = λ pass number m. (base_begun pass number m, λ _. is);
     }
 
     -- It is on a base.
@@ -475,7 +473,8 @@ module _ (z : Sizes) where
                 (λ (o : IsIn m u.notes). k.links m o) (in_more note m u.notes i);
             ways = k.ways;
             ended = k'.ended;
-          })
+          }
+          (f.ranged.each id u first))
 
       -- It is listed, and so it is in the list of a pass that is the only one.
       base_listed : IsAlone z u → IsListed u.inventory note
@@ -565,7 +564,8 @@ module _ (z : Sizes) where
                 key is))
                 (λ (o : IsIn w u.ways). k.ways w o) (in_more way w u.ways i);
             ended = k'.ended;
-          })
+          }
+          (f.ranged.each id u first))
 
       pub route_told : IsLedToRoute link me (get_or s.words link 0) (with_upper me with_route)
       route_told = record {
@@ -660,7 +660,8 @@ module _ (z : Sizes) where
         record d { upper = u' },
         keeps,
         tt,
-        looked z s r i id d u' at (λ row n. inl (entered_notes s.words d.upper event p row n))
+        looked z s r i id d u' at (λ row n. inl (noted_alike s.words d.upper u'
+            (λ x m. m) (λ x m. m) (λ x m. m) (λ x m. m) row n))
             (seat_changed z r.made s.words us id d.upper u' f first (λ _. refl) (λ _. refl) record {
               made_before = k'.made_before;
               alone = k'.alone;
@@ -674,7 +675,8 @@ module _ (z : Sizes) where
               links = k'.links;
               ways = k'.ways;
               ended = k'.ended;
-            }),
+            }
+            (f.ranged.each id d.upper first)),
         (refl, inr (inr (inl (event, read))), read),
       )
 
@@ -695,7 +697,8 @@ module _ (z : Sizes) where
       let k = relisted z.rows r.made s.words f.role us (set us id u') f.history id d.upper
       (numbered us id d.upper u' first (λ _. refl))
       (knows_upper z s r id d at) in
-      looked z s r i id d u' at (λ row n. inl (counted_notes s.words d.upper counts lost row n))
+      looked z s r i id d u' at (λ row n. inl (noted_alike s.words d.upper u'
+      (λ x m. m) (λ x m. m) (λ x m. m) (λ x m. m) row n))
       (seat_changed z r.made s.words us id d.upper u' f first (λ _. refl) (λ _. refl) record {
         made_before = k.made_before;
         alone = k.alone;
@@ -707,7 +710,8 @@ module _ (z : Sizes) where
         links = k.links;
         ways = k.ways;
         ended = k.ended;
-      })
+      }
+      (f.ranged.each id d.upper first))
 
   -- An exchange after which the seat counts one more that was lost, and remembers no base.
   pub loses : (s : State (Unit {0}) (View TreeView)) (r : R z s) (i id : ℕ) (d : View TreeView)
@@ -722,7 +726,8 @@ module _ (z : Sizes) where
       let k = relisted z.rows r.made s.words f.role us (set us id u') f.history id d.upper
       (numbered us id d.upper u' first (λ _. refl))
       (knows_upper z s r id d at) in
-      looked z s r i id d u' at (λ row n. inl (lost_notes s.words d.upper row n))
+      looked z s r i id d u' at (λ row n. inl (noted_alike s.words d.upper u'
+      (λ x m. absurd (some-ne-none x (sym m.1))) (λ x m. m) (λ x m. m) (λ x m. m) row n))
       (seat_changed z r.made s.words us id d.upper u' f first (λ _. refl) (λ _. refl) record {
         made_before = k.made_before;
         alone = k.alone;
@@ -734,7 +739,8 @@ module _ (z : Sizes) where
         links = λ m i. absurd (some-ne-none m (sym i.1));
         ways = k.ways;
         ended = k.ended;
-      })
+      }
+      (f.ranged.each id d.upper first))
 
   -- A base that a pass lists which is alone hangs under its link.
   pub hangs_still : (s : State (Unit {0}) (View TreeView)) (r : R z s) (id : ℕ) (me : MyTree)
@@ -760,5 +766,5 @@ module _ (z : Sizes) where
     keeps,
     tt,
     recounted s r i id d (one_more d.upper.counts) d.upper.lost at,
-    (refl, inr (inr (inr (one_more, rise, refl))), refl),
+    (refl, inr (inr (inr (inl (one_more, rise, refl)))), refl),
   )

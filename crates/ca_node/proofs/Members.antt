@@ -8,13 +8,13 @@ use Rattle.std.specs.Cmp.Lexicographic.{nat_list_cmp_total}
 use Rattle.std.specs.declared.cmp.Ordering.TheVariants.{Less}
 use Rattle.atomic_table.proofs.Lists.{at_map}
 use Rattle.ca_model.specs.StoreMap.{Pair, StoreMap, bytes_cmp, AreAbove, IsStoreMap}
-use Rattle.ca_rows.specs.declared.view.Claim.TheVariants.{Unlinked}
+use Rattle.ca_rows.specs.declared.view.Claim.TheVariants.{Lends, Unlinked}
 use Rattle.ca_rows.specs.declared.view.Claimed.{Claimed}
 use Rattle.ca_rows.specs.Claims.{claim_of}
 use Rattle.ca_rows.proofs.Claiming.{claimed_here, claimed_else, dropped_here, dropped_else}
 use Rattle.ca_node.specs.Laws.{in_nothing}
 use Rattle.ca_node.specs.Links.{IsIn}
-use Rattle.ca_node.specs.Told.{given, taken_out, IsLastThere}
+use Rattle.ca_node.specs.Told.{given, lent_out, taken_out, IsLastThere}
 use Rattle.ca_node.specs.TreeView.{Note}
 use Rattle.ca_node.proofs.Looking.{in_more}
 
@@ -67,6 +67,24 @@ taken_else [] claims r n = refl
 taken_else (x ∷ xs) claims r n = claimed_else (taken_out xs claims) x r Unlinked
     (λ e. n (0, ap some (sym e)))
     ∙ taken_else xs claims r (λ i. n (in_rest r x xs i))
+
+-- A row that was lent is lent.
+pub lent_here : (rows : List ℕ) (claims : List Claimed) (r : ℕ) → IsIn r rows
+    → claim_of (lent_out rows claims) r ≡ some Lends
+lent_here [] claims r i = absurd (in_nothing r [] refl i)
+lent_here (x ∷ xs) claims r i = dite (ℕ_discrete r x)
+    (λ e. ap (claim_of (lent_out (x ∷ xs) claims)) e
+    ∙ claimed_here (lent_out xs claims) x Lends)
+    (λ n. claimed_else (lent_out xs claims) x r Lends n
+    ∙ lent_here xs claims r (⊎_elim (λ e. absurd (n (sym e))) (λ j. j) (in_more x r xs i)))
+
+-- Another one has the claim that it had.
+pub lent_else : (rows : List ℕ) (claims : List Claimed) (r : ℕ) → ¬ IsIn r rows
+    → claim_of (lent_out rows claims) r ≡ claim_of claims r
+lent_else [] claims r n = refl
+lent_else (x ∷ xs) claims r n = claimed_else (lent_out xs claims) x r Lends
+    (λ e. n (0, ap some (sym e)))
+    ∙ lent_else xs claims r (λ i. n (in_rest r x xs i))
 
 -- Of two lists that are as long, one has something where the other has.
 pub other_has : {A B : Type 0} (xs : List A) (ys : List B) (k : ℕ) (a : A) → length ys ≡ length xs

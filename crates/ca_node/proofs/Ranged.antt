@@ -1,6 +1,5 @@
--- What the tree is to ranges: its bases stand side by side, its map is cut by keys, and while no
--- range is active, what is marked is of none.
-use Rattle.std.proofs.Common.{◌≡◌, ◌⊎◌, ℕ, ◌+◌, ◌*◌, ◌/◌, ◌≤◌, true, List, [], get_or, sym, refl, ap, ◌∙◌, subst, inl, inr, ⊎_elim, arith}
+-- What the tree is to ranges: its bases stand side by side, and its map is cut by keys.
+use Rattle.std.proofs.Common.{◌≡◌, ◌⊎◌, ℕ, ◌+◌, ◌*◌, true, List, get_or, sym, refl, ap, ◌∙◌, subst, inl, inr, ⊎_elim}
 use mathlib.Core.Option.{some-injective}
 use Rattle.std.specs.Ordering.{is_lt, ordering_reverse}
 use Rattle.std.specs.declared.cmp.Ordering.{Ordering}
@@ -11,14 +10,11 @@ use Rattle.ca_model.specs.StoreMap.{StoreMap, bytes_cmp, IsStoreMap}
 use Rattle.ca_model.proofs.Places.{bytes_flip}
 use Rattle.ca_rows.specs.declared.sizes.Sizes.{Sizes}
 use Rattle.ca_rows.specs.Layout.{row_words}
-use Rattle.ca_rows.specs.Words.{result_of}
-use Rattle.ca_runs.specs.Runs.{Span, Ends, AreRuns, AreApart}
+use Rattle.ca_runs.specs.Runs.{Span, AreApart}
 use Rattle.ca_runs.proofs.Showing.{IsCutByKeys, IsChained}
-use Rattle.ca_node.specs.Layout.{root_word, sequence_unit}
-use Rattle.ca_node.specs.Marks.{IsOfRange, IsOfJoin}
+use Rattle.ca_node.specs.Layout.{root_word}
 use Rattle.ca_node.specs.Place.{Place, all_keys, left_of, right_of, HasKey, IsLinkOf}
 use Rattle.ca_node.specs.Reached.{base_at}
-use Rattle.ca_node.specs.Row.{row_at, mark, mark_owner, mark_number, IsUnmarked}
 use Rattle.ca_node.specs.Scenes.{IsBase, span_of, scene_of}
 use Rattle.ca_node.specs.Shape.{Role, Base, Route, place_of, LeadsTo, IsBaseAt, IsRouteAt, IsSo, IsShape}
 use Rattle.ca_node.proofs.Parts.{both_hold, first_holds, second_holds, greater_within, part_sides}
@@ -119,23 +115,6 @@ module _ (z : Sizes) (words : List ℕ) (role : ℕ → Role) (m : StoreMap) (sh
           both_hold (is_from base.0.span.low k) (is_up_to base.0.span.high k)
           (subst (λ (b : Bound). is_from b k ≡ true) (sym low) (rw (bytes_itself k) refl))
           (span_begins base.0.span k (sides row base.0 base.1) low)
-
-  -- While no range is active, what is marked is of none.
-  pub quiet_runs : (ends : ℕ → Ends) → AreRuns (scene_of words role) ends
-  quiet_runs ends = record {
-    run = λ pass. [];
-    each = λ pass number now. tt;
-    whole = λ pass number row now base marked. absurd (shape.quiet pass number now);
-    begun = λ pass number row base marked. let place = base.0 in ⊎_elim
-        (λ (none : IsUnmarked (row_at words row)). let one : mark (row_at words row) ≡ 1 = marked.0 in absurd (omega (arith, one, none)))
-        (λ some_mark. ⊎_elim
-        (λ (r : IsOfRange (row_at words row) × (mark_number (row_at words row) ≤ result_of words (mark_owner (row_at words row)) / sequence_unit)).
-        subst (λ (x : ℕ × ℕ). x.1 ≤ result_of words x.0 / sequence_unit) (λ i. (marked.1 i, marked.2 i)) r.1)
-        (λ (j : IsOfJoin place (row_at words row) × (4 * mark_number (row_at words row) ≤ get_or words (row_words * mark_owner (row_at words row) + 3) 0)).
-        let one : mark (row_at words row) ≡ 1 = marked.0 in let two = j.0.0 in absurd (omega (arith, one, two)))
-        some_mark)
-        (base_at z words role m shape row place base.1).marked;
-  }
 
 -- The map of a tree is cut by keys.
 pub map_cuts : (keypos : ℕ) (m : StoreMap) → IsStoreMap keypos m → IsCutByKeys m

@@ -9,14 +9,14 @@ use native.Mathlib.Decide.{ℕ_discrete}
 use Rattle.ca_model.specs.StoreMap.{StoreMap}
 use Rattle.ca_rows.specs.declared.sizes.Sizes.{Sizes}
 use Rattle.ca_rows.specs.Words.{IsWide, result_of, announced}
-use Rattle.ca_node.specs.Links.{IsIn, IsActive}
-use Rattle.ca_node.specs.Marks.{IsMarkIn}
+use Rattle.ca_node.specs.Links.{IsIn, IsActive, IsBoundOf}
+use Rattle.ca_node.specs.Marks.{IsMarkIn, IsBorder}
 use Rattle.ca_node.specs.Place.{Span, all_keys, left_of, right_of, HasKey, part, Place, IsLinkOf}
-use Rattle.ca_node.specs.Row.{row_at, form, IsObjectRow, IsBaseRow, count, level, items, IsIdle, objects_in, AreHeaded}
+use Rattle.ca_node.specs.Row.{row_at, form, IsObjectRow, IsBaseRow, count, level, items, mark_owner, IsIdle, objects_in, AreHeaded}
 use Rattle.ca_node.specs.Shape.{Role, Out, Base, Route, place_of, IsLink, LeadsTo, IsBaseAt, IsSo, IsShape}
 use Rattle.ca_node.specs.Stays.{IsSameRow, word_at, row_same}
-use Rattle.ca_node.specs.Reached.{led_to, base_at, hung, link_range, object_out}
-use Rattle.ca_node.specs.Standing.{IsSameButLinks, objects_same, mark_stays, base_stands, route_stands, heads_same}
+use Rattle.ca_node.specs.Reached.{led_to, base_at, route_at, hung, link_range, object_out}
+use Rattle.ca_node.specs.Standing.{IsSameButLinks, objects_same, mark_stays, bounded_stays, base_stands, route_stands, heads_same}
 use Rattle.ca_rows.specs.Layout.{row_words}
 use Rattle.ca_node.specs.Layout.{root_word}
 use Rattle.ca_rows.proofs.OwnWords.{announced_else, result_else}
@@ -45,6 +45,8 @@ pub record IsNewBase (z : Sizes) (words : List ℕ) (role : ℕ → Role) (place
   pub level_is : level (row_at words row) ≡ place.level
   pub few : count (row_at words row) ≤ z.leaf
   pub marked : IsMarkIn words place (row_at words row)
+  pub bounded : (border : ℕ) → IsBoundOf words row border
+      → IsBorder z.rows words (mark_owner (row_at words row)) border
   pub are_objects : (r : ℕ) → IsIn r (items (row_at words row)) → (0 < r) × (r ≤ z.rows)
       × IsObjectRow (row_at words r)
   pub headed : AreHeaded words row
@@ -113,9 +115,9 @@ module _ (z : Sizes) (words : List ℕ) (role : ℕ → Role) (m : StoreMap)
       (λ route _. let e = relinked_joins route in omega arith)
 
   -- no range becomes active,
-  pub relinked_quiet : (pass sequence : ℕ) → ¬ IsActive (set words place.link row) pass sequence
-  relinked_quiet pass sequence x =
-      shape.quiet pass sequence (x.0, x.1, sym (relinked_ranges pass x.0 x.1) ∙ x.2)
+  pub relinked_active : (pass number : ℕ) → IsActive (set words place.link row) pass number
+      → IsActive words pass number
+  relinked_active pass number x = (x.0, x.1, sym (relinked_ranges pass x.0 x.1) ∙ x.2)
 
   -- and no join gets under way.
   pub relinked_idle : (route : ℕ) → IsIdle (row_at words route)
@@ -157,6 +159,12 @@ module _ (z : Sizes) (words : List ℕ) (role : ℕ → Role) (m : StoreMap)
       → row_at (set words place.link row) c ≡ row_at words c
   relinked_object c lo hi f =
       relinked_row c lo hi (out_no_route role c (object_out z words role m shape c f))
+
+  -- So does a row that says up to where a range goes.
+  pub relinked_border : (c : ℕ) → 0 < c → c ≤ z.rows → form (row_at words c) ≡ 4
+      → row_at (set words place.link row) c ≡ row_at words c
+  relinked_border c lo hi f = relinked_row c lo hi (λ t.
+      let g = (route_at z words role m shape c t.0 t.1 t.2).is_route in omega arith)
 
   -- What has another row's place has another link.
   other_link : (c : ℕ) (p : Place) → place_of (role c) ≡ some p → c ≢ old → p.link ≢ place.link
@@ -211,7 +219,9 @@ module _ (z : Sizes) (words : List ℕ) (role : ℕ → Role) (m : StoreMap)
         (λ r i. let o = s.are_objects r i in relinked_object r o.0 o.1 o.2.0)
         (relinked_else p.link (other_link c p (ap place_of e) d)
         ∙ s.under) (link_still p.link s.is_link) (parts c p e d)
-        (relinked_marks p (row_at words c))
+        (relinked_marks p (row_at words c)) relinked_active
+        (λ border b. let end = s.bounded border b in
+        relinked_border border end.some_row end.in_range end.is_border)
     row_still c d (Route p key) e s =
         route_stands z words words' role role' p key c s shape.wide relinked_wide
         (relinked_routes c s.some_row)
@@ -240,6 +250,9 @@ module _ (z : Sizes) (words : List ℕ) (role : ℕ → Role) (m : StoreMap)
           few = subst (λ its. count its ≤ z.leaf) (sym e) b.few;
           marked = subst (IsMarkIn (set words place.link row) p) (sym e)
               (relinked_marks p (row_at words c) b.marked);
+          bounded = bounded_stays z.rows words words' c e relinked_active
+              (λ border x. let end = b.bounded border x in
+              relinked_border border end.some_row end.in_range end.is_border) b.bounded;
           are_objects = λ r i. let i' = subst (λ its. IsIn r (items its)) e i in
               let o = b.are_objects r i' in
               (o.0, o.1, subst IsObjectRow (sym (same r i')) o.2);
@@ -359,7 +372,6 @@ module _ (z : Sizes) (words : List ℕ) (role : ℕ → Role) (m : StoreMap)
         shape.top;
     each_row = so;
     apart = alone;
-    quiet = relinked_quiet z words role m shape old place is new;
     idle = λ c p key e.
         relinked_idle z words role m shape old place is new c
         (shape.idle c p key (route_was c p key e));

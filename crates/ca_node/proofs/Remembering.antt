@@ -1,18 +1,24 @@
 -- What seats remember of the tree, once a link of it was exchanged.
-use Rattle.std.proofs.Common.{◌≡◌, ◌⊎◌, ℕ, ◌+◌, ◌*◌, List, get_or, set, refl, sym, ap, ◌∙◌, subst, inl, inr, ⊎_elim}
+use Rattle.std.proofs.Common.{◌≡◌, ◌⊎◌, ℕ, ◌+◌, ◌*◌, ◌<◌, ◌≤◌, List, length, get_or, set, refl, sym, ap, ◌∙◌, subst, inl, inr, ⊎_elim}
 use mathlib.Core.Option.{some}
+use Rattle.ca_model.specs.History.{History, state}
 use Rattle.ca_model.specs.StoreMap.{StoreMap}
 use Rattle.ca_rows.specs.declared.sizes.Sizes.{Sizes}
+use Rattle.ca_rows.specs.Words.{result_of}
+use Rattle.ca_runs.specs.Runs.{Ends}
 use Rattle.ca_node.specs.Laws.{alive}
-use Rattle.ca_node.specs.Links.{IsIn, IsUnder, IsLinked, by_route, by_base, IsNoted, by_note, by_item, by_way, by_link, by_link_item}
+use Rattle.ca_node.specs.Links.{IsIn, IsUnder, IsActive, IsLinked, by_route, by_base, IsOfOwnRun, IsNoted, by_note, by_item, by_way, by_link, by_link_item, by_border, by_run, by_run_item}
 use Rattle.ca_node.specs.Place.{Place}
+use Rattle.ca_node.specs.Ranging.{IsRanging}
+use Rattle.ca_node.specs.RangesStay.{own_note, own_run_back, begun_on, active_back, decided_back, ranging_stays}
 use Rattle.ca_node.specs.Reached.{led_to, route_at, placed_linked}
-use Rattle.ca_node.specs.Row.{row_at, IsObjectRow, IsBaseRow, items, route_key}
+use Rattle.ca_node.specs.Row.{row_at, form, IsObjectRow, IsBaseRow, items, IsMarkedBy, route_key}
+use Rattle.ca_node.specs.Scenes.{IsBase}
 use Rattle.ca_node.specs.Shape.{Role, Out, Base, Route, place_of, IsShape}
 use Rattle.ca_node.specs.Stays.{map_same}
 use Rattle.ca_node.specs.Tree.{IsAlive, IsLinkOfView, IsTrue, IsTrueWay}
 use Rattle.ca_node.specs.TreeView.{Note, Way, TreeView}
-use Rattle.ca_node.proofs.Rebased.{IsRoute, base_no_route, out_no_route, relinked_row, relinked_object, relinked_routes}
+use Rattle.ca_node.proofs.Rebased.{IsRoute, base_no_route, out_no_route, relinked_ranges, relinked_row, relinked_object, relinked_border, relinked_routes}
 use Rattle.ca_rows.specs.Layout.{row_words}
 use Rattle.ca_node.specs.Layout.{root_word}
 
@@ -67,16 +73,22 @@ module _ (z : Sizes) (words : List ℕ) (role : ℕ → Role) (m : StoreMap)
     (routes_stay : (c : ℕ) (p : Place) (key : List ℕ) → role c ≡ Route p key
     → role' c ≡ Route p key)
     (bases_stay : (c : ℕ) (p : Place) → role c ≡ Base p → (role' c ≡ Base p) ⊎ (role' c ≡ Out))
-    (outs_stay : (c : ℕ) → role c ≡ Out → ¬ comes c → role' c ≡ Out) where
+    (outs_stay : (c : ℕ) → role c ≡ Out → ¬ comes c → role' c ≡ Out)
+    (marked_stay : (c : ℕ) (p : Place) (pass number : ℕ) → role c ≡ Base p
+    → IsMarkedBy (row_at words c) pass number → IsActive words pass number → role' c ≡ Base p) where
   abbrev words' : List ℕ
   words' = set words place.link row
+
+  abbrev same_ranges : (pass : ℕ) → 0 < pass → pass ≤ 64
+      → result_of (set words place.link row) pass ≡ result_of words pass
+  same_ranges = relinked_ranges z words role m shape old place is row
 
   -- What a seat remembers that has no note on a row that comes.
   module _ (u : TreeView) (unnoted : (c : ℕ) → comes c → ¬ IsNoted words u c) where
     -- A note of it says what is so still.
-    pub note_stays : (note : Note) → IsIn note u.notes → IsTrue z.rows words role note
+    pub note_stays : (note : Note) → IsNoted words u note.row → IsTrue z.rows words role note
         → IsTrue z.rows (set words place.link row) role' note
-    note_stays note i t = record {
+    note_stays note noted t = record {
       some_row = t.some_row;
       in_range = t.in_range;
       spells = relinked_row z words role m shape old place is row note.row t.some_row t.in_range
@@ -88,8 +100,14 @@ module _ (z : Sizes) (words : List ℕ) (role : ℕ → Role) (m : StoreMap)
       stands = ⊎_elim
           (λ (e : role note.row ≡ Base note.place). bases_stay note.row note.place e)
           (λ (e : role note.row ≡ Out). inr (outs_stay note.row e
-          (λ c. unnoted note.row c (by_note note note.row i refl))))
+          (λ c. unnoted note.row c noted)))
           t.stands;
+      marks = λ pass number k. let was = t.marks pass number k in (
+        begun_on z.rows words words' role role' same_ranges pass number was.0,
+        λ now. let before = active_back z.rows words words' role role' same_ranges pass number now in
+            marked_stay note.row note.place pass number (was.1 before)
+            (subst (λ its. IsMarkedBy its pass number) (sym t.spells) k) before,
+      );
     }
       where
         no_route : ¬ IsRoute role note.row
@@ -125,18 +143,57 @@ module _ (z : Sizes) (words : List ℕ) (role : ℕ → Role) (m : StoreMap)
         by_route way.row c (placed_linked z words' role' n shape' way.row way.place (ap place_of e))
         (route_at z words' role' n shape' way.row way.place (route_key way.its) e).is_route under
 
-    -- What it has a note on now is what it had one on, or is linked; and then it had some note.
-    pub notes_stay : ((way : Way) → IsIn way u.ways → IsTrueWay words role way) → (c : ℕ)
-        → IsNoted (set words place.link row) u c
-        → IsNoted words u c ⊎ (IsLinked (set words place.link row) c
-        × ((d : ℕ) × IsNoted words u d))
-    notes_stay ways _ (by_note note c i e) = inl (by_note note c i e)
-    notes_stay ways _ (by_item note c i b k) = inl (by_item note c i b k)
-    notes_stay ways _ (by_way way c i e) = inl (by_way way c i e)
-    notes_stay ways _ (by_link way c i under) =
-        inr (under_linked ways way i c under, (way.row, by_way way way.row i refl))
-    notes_stay ways _ (by_link_item way base c i under b k) =
-        inr (
-          by_base base c (under_linked ways way i base under) b k,
-          (way.row, by_way way way.row i refl),
-        )
+    -- What it knows of ranges.
+    module _ (ends : Ends) (history : History)
+        (known : IsRanging z.rows words role ends u.since history u.number u.ranges) where
+      -- A base of the run of its own range has the words that it had.
+      run_its : (c : ℕ) → IsOfOwnRun words u c → row_at (set words place.link row) c ≡ row_at words c
+      run_its c o = let n = own_note z.rows words role ends history u known c o in
+          let stays : row_at words' n.0.row ≡ row_at words n.0.row =
+          (note_stays n.0 (subst (IsNoted words u) (sym n.2) (by_run c o)) n.1).spells ∙ sym n.1.spells in
+          ap (row_at words') (sym n.2) ∙ (stays ∙ ap (row_at words) n.2)
+
+      run_back : (c : ℕ) → IsOfOwnRun (set words place.link row) u c → IsOfOwnRun words u c
+      run_back = own_run_back words words' u
+          (decided_back z.rows words words' role role' same_ranges u.number) run_its
+
+      -- It goes on to know them, where no base is marked for its own range that has none yet, and the
+      -- history is longer.
+      pub ranges_stay : (history' : History)
+          → ((at : ℕ) → at ≤ length history
+          → (at ≤ length history') × (state history' at ≡ state history at))
+          → ((number : ℕ) → IsActive words u.number number
+          → ((c : ℕ) → IsBase role c → ¬ IsMarkedBy (row_at words c) u.number number)
+          → (c : ℕ) → IsBase role' c
+          → ¬ IsMarkedBy (row_at (set words place.link row) c) u.number number)
+          → IsRanging z.rows (set words place.link row) role' ends u.since history' u.number u.ranges
+      ranges_stay history' longer unmarked =
+          ranging_stays z.rows words words' role role' same_ranges ends u.since history history'
+          u.number u.ranges
+          (λ border i. let b = known.borders border i in
+          relinked_border z words role m shape old place is row border.row b.some_row b.in_range
+          (ap form b.spells ∙ b.is_border))
+          unmarked
+          (λ number last note marking decided on t.
+          note_stays note (by_run note.row (number, last, marking, decided, on)) t)
+          longer known
+
+      -- What it has a note on now is what it had one on, or is linked; and then it had some note.
+      pub notes_stay : ((way : Way) → IsIn way u.ways → IsTrueWay words role way) → (c : ℕ)
+          → IsNoted (set words place.link row) u c
+          → IsNoted words u c ⊎ (IsLinked (set words place.link row) c
+          × ((d : ℕ) × IsNoted words u d))
+      notes_stay ways _ (by_note note c i e) = inl (by_note note c i e)
+      notes_stay ways _ (by_item note c i b k) = inl (by_item note c i b k)
+      notes_stay ways _ (by_way way c i e) = inl (by_way way c i e)
+      notes_stay ways _ (by_link way c i under) =
+          inr (under_linked ways way i c under, (way.row, by_way way way.row i refl))
+      notes_stay ways _ (by_link_item way base c i under b k) =
+          inr (
+            by_base base c (under_linked ways way i base under) b k,
+            (way.row, by_way way way.row i refl),
+          )
+      notes_stay ways _ (by_border border c i e) = inl (by_border border c i e)
+      notes_stay ways _ (by_run c o) = inl (by_run c (run_back c o))
+      notes_stay ways _ (by_run_item base c o k) = let was = run_back base o in
+          inl (by_run_item base c was (subst (λ its. IsIn c (items its)) (run_its base was) k))

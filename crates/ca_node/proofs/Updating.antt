@@ -2,33 +2,41 @@
 use Rattle.std.proofs.Common.{◌≡◌, ◌≢◌, ◌⊎◌, ℕ, ◌+◌, ◌≤◌, Bool, true, false, eqb, List, [], ◌∷◌, ◌++◌, length, map, get_or, set, sym, refl, ap, ◌∙◌, subst, inl, inr, ⊎_elim, arith, length-append, eq-eqb, ne_eqb}
 use Rattle.std.proofs.lemmas.List.{append_assoc}
 use mathlib.Core.Logic.{dite}
-use mathlib.Core.Option.{some, none}
+use mathlib.Core.Option.{some, none, some-ne-none}
 use native.Mathlib.Decide.{ℕ_discrete}
 use lib.ListN.{get_elem?}
 use prog.Atomic.{either}
 use Rattle.atomic_table.specs.Table.{State, step, keeps, stepped, Allows}
 use Rattle.atomic_table.proofs.Lists.{at_map}
 use Rattle.ca_model.specs.Event.{IsAnswer}
-use Rattle.ca_model.specs.History.{History, Edit, after, after_edit, IsEdit, AreEdits, AreByPasses}
+use Rattle.ca_model.specs.History.{History, Edit, after, state, after_edit, IsEdit, AreEdits, AreByPasses}
 use Rattle.ca_model.specs.Lawful.{IsLawful}
 use Rattle.ca_model.specs.StoreMap.{StoreMap, IsStoreMap}
+use Rattle.ca_runs.specs.Runs.{AreRuns}
+use Rattle.ca_runs.proofs.Keeping.{runs_still, replaced_stays}
 use Rattle.ca_rows.specs.Calls.{Relinks}
 use Rattle.ca_rows.specs.declared.sizes.Sizes.{Sizes}
+use Rattle.ca_rows.specs.declared.view.Claim.TheVariants.{Holds}
 use Rattle.ca_rows.specs.declared.view.View.{View}
+use Rattle.ca_rows.specs.Claims.{claim_of}
 use Rattle.ca_rows.specs.Rule.{upper_of}
 use Rattle.ca_node.specs.Laws.{numbered, relisted, starts_whole}
-use Rattle.ca_node.specs.Links.{IsIn}
-use Rattle.ca_node.specs.Marks.{IsMarkIn}
+use Rattle.ca_node.specs.Links.{IsIn, IsActive, IsBoundOf, IsLent}
+use Rattle.ca_node.specs.Inventory.{AreOnce, row_itself}
+use Rattle.ca_node.specs.Marks.{IsMarkIn, IsBorder}
 use Rattle.ca_node.specs.Place.{part, Place, edit_key, has_key}
-use Rattle.ca_node.specs.Row.{pair}
+use Rattle.ca_node.specs.Ranging.{IsRanging}
+use Rattle.ca_node.specs.Row.{row_at, mark as mark_kind, mark_owner, IsMarkedBy, pair}
+use Rattle.ca_node.specs.Scenes.{scene_of}
 use Rattle.ca_node.specs.Shape.{Role, Base}
 use Rattle.ca_rows.specs.Told.{met_of, relinked}
-use Rattle.ca_node.specs.Told.{MyTree, IsKnown, Update, IsUpdate, given, taken_out, updated, one_more_lost, IsUpdated, IsMissed, Updates, HasUpdated, MaySwap}
+use Rattle.ca_node.specs.May.{MaySwap}
+use Rattle.ca_node.specs.Told.{MyTree, IsKnown, Update, IsUpdate, given, taken_out, updated, one_more_lost, IsUpdated, IsMissed, Updates, HasUpdated}
 use Rattle.ca_node.specs.Tree.{StartsWith, IsLinkOfView, IsTrue, Knows, IsTree}
 use Rattle.ca_node.specs.TreeView.{Note, TreeView}
-use Rattle.ca_node.proofs.Exchanging.{IsExchange, is_old, old_map, is_last, out_linked, old_apart, note_keeps, way_keeps, new_true, exchange_step}
+use Rattle.ca_node.proofs.Exchanging.{IsExchange, is_old, new_row, old_map, is_last, ins_once, new_its, out_linked, out_unlent, replaced, ranging_keeps, own_notes, old_apart, note_keeps, way_keeps, new_true, exchange_step}
 use Rattle.ca_node.proofs.Holding.{unclaimed_row}
-use Rattle.ca_node.proofs.Logs.{after_more, others_lawful, own_lawful, past_more, ended_more}
+use Rattle.ca_node.proofs.Logs.{after_more, state_stays, others_lawful, own_lawful, past_more, ended_more}
 use Rattle.ca_node.proofs.Looking.{R, loses, hangs_still, of_map, knows_upper, fewer_passes, further, longer_past, starts_shorter, in_more}
 use Rattle.ca_node.proofs.Members.{in_notes}
 use Rattle.ca_node.proofs.Parts.{part_edited, part_left, answer_whole, about_edit}
@@ -76,6 +84,10 @@ module _ (z : Sizes) (s : State (Unit {0}) (View TreeView)) (r : R z s) (id : �
   abbrev ex : IsExchange z me new x
   ex = exchange_of z me new x u
 
+  -- So far no range is active.
+  over : (pass number : ℕ) → IsMarkedBy x.old.its pass number → ¬ IsActive s.words pass number
+  over pass number _ = r.above.quiet pass number
+
   abbrev d : View TreeView
   d = me.0
 
@@ -109,10 +121,10 @@ module _ (z : Sizes) (s : State (Unit {0}) (View TreeView)) (r : R z s) (id : �
   one_more = after_more f.history (own ∷ []) []
 
   was_map : IsStoreMap z.keypos last
-  was_map = is_last z s r id me at new x ex hit
+  was_map = is_last z s r id me at new x ex hit over
 
   has_now : map pair x.objects ≡ part x.old.place.span (after (r.above.history ++ own ∷ []) [])
-  has_now = u.map_is ∙ (ap (after_edit x.edit) (old_map z s r id me at new x ex hit)
+  has_now = u.map_is ∙ (ap (after_edit x.edit) (old_map z s r id me at new x ex hit over)
       ∙ (sym (part_edited z.keypos place.span x.edit last was_map u.about)
       ∙ ap (part place.span) (sym one_more)))
 
@@ -127,12 +139,42 @@ module _ (z : Sizes) (s : State (Unit {0}) (View TreeView)) (r : R z s) (id : �
       (λ (h : has_key p.span (edit_key x.edit)
       ≡ true). absurd
       (ne (f.shape.apart c x.old.row p place (edit_key x.edit) is
-      (is_old z s r id me at new x ex hit) h u.about)))
+      (is_old z s r id me at new x ex hit over) h u.about)))
       (λ h. part_left z.keypos p.span x.edit last was_map h)
       (by_bool (has_key p.span (edit_key x.edit)))
 
   mark : IsMarkIn s.words x.old.place x.its
   mark = inl u.unmarked
+
+  -- No range marked the new base.
+  new_unmarked : (border : ℕ) → ¬ IsBoundOf s.words new border
+  new_unmarked border b = let none = u.unmarked in
+      let one : mark_kind x.its ≡ 1 = sym (ap mark_kind (new_row z s r id me at new x ex hit over).2) ∙ b.0 in
+      omega arith
+
+  bounded : (border : ℕ) → IsBoundOf s.words new border
+      → IsBorder z.rows s.words (mark_owner (row_at s.words new)) border
+  bounded border b = absurd (new_unmarked border b)
+
+  -- Nothing is lent by an update.
+  serve : (row : ℕ) → IsIn row []
+      → ((its : List ℕ) × (claim_of me.0.claims row ≡ some (Holds its))) × IsBoundOf s.words new row
+  serve row i = absurd (some-ne-none row (sym i.1))
+
+  once : AreOnce row_itself (new ∷ x.comes)
+  once = ins_once z s r id me at new x ex hit over
+
+  new_end : (border : ℕ) → IsBoundOf s.words new border → IsLent s.words border ⊎ IsIn border []
+  new_end border b = absurd (new_unmarked border b)
+
+  unmarked : (pass number : ℕ) → ¬ IsMarkedBy x.its pass number
+  unmarked pass number m = let one = m.0 in let none = u.unmarked in omega arith
+
+  -- The states that the history had it goes on to have.
+  longer : (i : ℕ) → i ≤ length r.above.history → (i ≤ length (r.above.history ++ own ∷ []))
+      × (state (r.above.history ++ own ∷ []) i ≡ state r.above.history i)
+  longer i l = let sum = length-append r.above.history (own ∷ []) in
+      (omega arith, state_stays r.above.history (own ∷ []) i l)
 
   abbrev u' : TreeView
   u' = updated (met_of me) d.upper knows.seen_first.0 new x
@@ -159,7 +201,7 @@ module _ (z : Sizes) (s : State (Unit {0}) (View TreeView)) (r : R z s) (id : �
   answered =
       answer_whole place.span last (edit_key x.edit) x.event u.about
       (about_edit x.event x.edit u.does)
-      (subst (IsAnswer x.event) (old_map z s r id me at new x ex hit) u.answer)
+      (subst (IsAnswer x.event) (old_map z s r id me at new x ex hit over) u.answer)
 
   own_knows : Knows z.rows r.made words' role' (set (map upper_of s.views) id u')
       (r.above.history ++ own ∷ []) id u'
@@ -195,18 +237,18 @@ module _ (z : Sizes) (s : State (Unit {0}) (View TreeView)) (r : R z s) (id : �
         notes = λ note i. ⊎_elim
             (λ (e : new_note ≡ note).
             subst (IsTrue z.rows words' role') e
-            (new_true z s r id me at new x ex hit (r.above.history ++ own ∷ []) mark has_now
-            others_have))
-            (λ (o : IsIn note d.upper.notes). note_keeps z s r id me at new x ex hit
-            (r.above.history ++ own ∷ []) mark has_now others_have id d at note o)
+            (new_true z s r id me at new x ex hit over (r.above.history ++ own ∷ []) mark bounded has_now
+            others_have [] serve once new_end))
+            (λ (o : IsIn note d.upper.notes). note_keeps z s r id me at new x ex hit over
+            (r.above.history ++ own ∷ []) mark bounded has_now others_have [] serve once new_end id d at note o)
             (in_more new_note note d.upper.notes i);
         links = λ note i. ⊎_elim
             (λ (e : new_note ≡ note). subst (λ (y : Note). IsLinkOfView d.upper y.place.link) e
             (knows.links x.old (was_shown z me new x u)))
             (λ (o : IsIn note d.upper.notes). knows.links note o)
             (in_more new_note note d.upper.notes i);
-        ways = way_keeps z s r id me at new x ex hit (r.above.history ++ own ∷ []) mark has_now
-            others_have id d at;
+        ways = way_keeps z s r id me at new x ex hit over (r.above.history ++ own ∷ []) mark bounded has_now
+            others_have [] serve once new_end id d at;
         ended = λ y i.
             ended_more r.made (set (map upper_of s.views) id u') d.upper.number x.edit f.history y
             ((knows.ended y i).gone id d.upper first) (k'.ended y i);
@@ -228,12 +270,12 @@ module _ (z : Sizes) (s : State (Unit {0}) (View TreeView)) (r : R z s) (id : �
             (λ same. ne (knows.alone u.is_pass j v here (sym same))) k.lawful;
         past = k.past;
         notes = λ note i.
-            note_keeps z s r id me at new x ex hit (r.above.history ++ own ∷ []) mark has_now
-            others_have j y.0 y.1 note (subst (λ (w : TreeView). IsIn note w.notes) (sym y.2) i);
+            note_keeps z s r id me at new x ex hit over (r.above.history ++ own ∷ []) mark bounded has_now
+            others_have [] serve once new_end j y.0 y.1 note (subst (λ (w : TreeView). IsIn note w.notes) (sym y.2) i);
         links = k.links;
         ways = λ way i.
-            way_keeps z s r id me at new x ex hit (r.above.history ++ own ∷ []) mark has_now
-            others_have j y.0 y.1 way (subst (λ (w : TreeView). IsIn way w.ways) (sym y.2) i);
+            way_keeps z s r id me at new x ex hit over (r.above.history ++ own ∷ []) mark bounded has_now
+            others_have [] serve once new_end j y.0 y.1 way (subst (λ (w : TreeView). IsIn way w.ways) (sym y.2) i);
         ended = λ e i.
             ended_more r.made (set (map upper_of s.views) id u') d.upper.number x.edit f.history e
             (((f.each_seat j v here).ended e i).gone id d.upper first) (k.ended e i);
@@ -246,12 +288,38 @@ module _ (z : Sizes) (s : State (Unit {0}) (View TreeView)) (r : R z s) (id : �
   passes_now = let lo = u.is_pass in
       passes_more r.made f.history d.upper.number x.edit f.by_passes (omega arith) knows.made_before
 
+  -- Runs stay as they are: no range had the base that went, and none has the one that came.
+  runs_now : AreRuns (scene_of words' role') r.above.ranged.ends
+  runs_now = let t = replaced z s r id me at new x ex hit over (r.above.history ++ own ∷ []) mark bounded has_now
+      others_have [] serve once new_end in
+      runs_still (scene_of s.words role) (scene_of words' role') f.ranged.ends f.ranged.runs
+      (replaced_stays (scene_of s.words role) (scene_of words' role') f.ranged.ends x.old.row new
+      f.ranged.runs t
+      (λ pass number m. absurd (unmarked pass number
+      (subst (λ its. IsMarkedBy its pass number) (new_its z s r id me at new x ex hit over
+      (r.above.history ++ own ∷ []) mark bounded has_now others_have [] serve once new_end) m))))
+
+  ranging_now : (j : ℕ) (y : View TreeView) → get_elem? s.views j ≡ some y
+      → IsRanging z.rows words' role' (r.above.ranged.ends y.upper.number) y.upper.since
+      (r.above.history ++ own ∷ []) y.upper.number y.upper.ranges
+  ranging_now j y here = ranging_keeps z s r id me at new x ex hit over (r.above.history ++ own ∷ [])
+      mark bounded has_now others_have [] serve once new_end j y here longer
+      (λ number _ _ m. unmarked y.upper.number number m)
+
   -- Where the link names the old base, the exchange carries out the update.
   pub update_step : R z record { words = words'; homes = s.homes; views = set s.views id d' }
   update_step =
-      exchange_step z s r id me at new x ex hit (r.above.history ++ own ∷ []) mark has_now
-      others_have u' refl refl refl
-      edits_now passes_now own_knows others_know
+      exchange_step z s r id me at new x ex hit over (r.above.history ++ own ∷ []) mark bounded has_now
+      others_have [] serve once new_end u'
+      (own_notes z s r id me at new x ex hit over (r.above.history ++ own ∷ []) mark bounded has_now
+      others_have [] serve once new_end u' refl refl (λ border i. inl i) (λ c o. o))
+      refl edits_now passes_now f.quiet runs_now own_knows (ranging_now id d at)
+      (λ j v ne here. let y = of_map upper_of s.views j v here in (
+        others_know j v ne here,
+        subst (λ (w : TreeView). IsRanging z.rows words' role'
+            (r.above.ranged.ends w.number) w.since (r.above.history ++ own ∷ []) w.number w.ranges) y.2
+            (ranging_now j y.0 y.1),
+      ))
 
   -- What the seat has seen then is the whole history.
   known_now : IsKnown z u'
@@ -274,10 +342,12 @@ module _ (z : Sizes) (s : State (Unit {0}) (View TreeView)) (r : R z s) (id : �
     now = refl;
     unclaimed =
         λ row o. unclaimed_row z s r id d at row
-        (out_linked z s r id me at new x ex hit (r.above.history ++ own ∷ []) mark has_now
-        others_have row o);
-    apart = old_apart z s r id me at new x ex hit (r.above.history ++ own ∷ []) mark has_now
-        others_have;
+        (out_linked z s r id me at new x ex hit over (r.above.history ++ own ∷ []) mark bounded has_now
+        others_have [] serve once new_end row o)
+        (out_unlent z s r id me at new x ex hit over (r.above.history ++ own ∷ []) mark bounded has_now
+        others_have [] serve once new_end row o);
+    apart = old_apart z s r id me at new x ex hit over (r.above.history ++ own ∷ []) mark bounded has_now
+        others_have [] serve once new_end;
     known = λ some_rows. let same : d.sizes ≡ z = ⊎_elim
         (λ (e : d.sizes.rows ≡ 0). absurd (omega arith)) (λ (e : d.sizes ≡ z). e)
         (r.seat id d at).sizes_are in subst (λ (y : Sizes). IsKnown y u') (sym same) known_now;

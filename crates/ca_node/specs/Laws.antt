@@ -5,26 +5,32 @@ use mathlib.Core.Option.{some, some-injective, some-ne-none}
 use native.Mathlib.Decide.{ℕ_discrete}
 use lib.ListN.{get_elem?}
 use Rattle.atomic_table.proofs.Lists.{at_set, set_else}
+use Rattle.ca_model.specs.Edges.{Unbounded}
 use Rattle.ca_model.specs.History.{History, after, edits_of_pass, AreByPasses}
 use Rattle.ca_model.specs.StoreMap.{StoreMap}
 use Rattle.ca_rows.specs.declared.sizes.Sizes.{Sizes}
 use Rattle.ca_rows.specs.Laws.{Agrees, Framed, Frames, Lends, Pinning, Making, Closing, Opened, Opening}
 use Rattle.ca_rows.specs.Opening.{AreInBounds, AreUsable}
 use Rattle.ca_rows.specs.Words.{IsWide, result_of}
+use Rattle.ca_runs.specs.Runs.{Ends}
+use Rattle.ca_runs.proofs.Keeping.{runs_still}
 use Rattle.ca_rows.proofs.Making.{at_place}
 use Rattle.ca_rows.proofs.Rules.{all_seats}
 use Rattle.ca_node.specs.Bare.{bare_headed}
 use Rattle.ca_node.specs.Inventory.{IsInventory}
-use Rattle.ca_node.specs.Links.{root, IsIn, IsUnder, IsActive, IsLinked, by_root, by_range, IsLent, IsNoted, by_note, by_item, by_way, by_link, by_link_item}
+use Rattle.ca_node.specs.Links.{root, IsIn, IsUnder, IsActive, IsBoundOf, IsLinked, by_root, by_range, IsLent, IsOfOwnRun, IsNoted, by_note, by_item, by_way, by_link, by_link_item, by_border, by_run, by_run_item}
 use Rattle.ca_node.specs.Opened.{opens_at, result_at}
 use Rattle.ca_node.specs.Place.{Place, root_place}
-use Rattle.ca_node.specs.Reached.{same_place, reached, linked_range, nothing_lent}
-use Rattle.ca_node.specs.Row.{row_at, IsObjectRow, IsBaseRow, items, route_key, pair, item_words, row_in, IsHeaded}
+use Rattle.ca_node.specs.Ranging.{IsSoFar, IsRanging, AreRanged}
+use Rattle.ca_node.specs.RangesStay.{own_note, own_run_back, begun_on, decided_back, ranging_stays}
+use Rattle.ca_node.specs.Reached.{same_place, placed_linked, reached, linked_range}
+use Rattle.ca_node.specs.Row.{row_at, IsObjectRow, IsBaseRow, items, mark, mark_owner, mark_number, IsMarkedBy, route_key, pair, item_words, row_in, IsHeaded}
+use Rattle.ca_node.specs.Scenes.{IsBase, mark_of, scene_of}
 use Rattle.ca_node.specs.Shape.{Role, Out, Base, Route, place_of, IsBaseAt, IsSo, IsShape}
 use Rattle.ca_node.specs.Standing.{shape_stands}
 use Rattle.ca_node.specs.Stays.{IsSameRow, word_at, row_same, map_same, linked_on, linked_back, lent_on, lent_back}
 use Rattle.ca_node.specs.Tree.{StartsWith, IsAlive, IsDead, IsTrue, IsTrueWay, IsEnded, Knows, IsTree}
-use Rattle.ca_node.specs.TreeView.{Note, Way, Ended, TreeView, first_inventory, blank, ended_of, and_ended, ended_with, pinned, unpinned}
+use Rattle.ca_node.specs.TreeView.{Note, Way, Border, Begun, Ranging, Quiet, Unmarked, Marking, Left, Ended, TreeView, no_ranges, first_inventory, blank, ended_of, and_ended, ended_with, left_over, pinned, unpinned}
 use Rattle.ca_rows.specs.Layout.{row_words, passes_words}
 use Rattle.ca_node.specs.Layout.{items_word, form_unit, root_word, sequence_unit}
 
@@ -60,6 +66,29 @@ under_placed z words role map shape route row place key is under = let so = subs
     (λ (e : get_or words (row_words * route + 1) 0 ≡ row). (_, ap (λ r. place_of (role r)) (sym e) ∙ so.left.hangs))
     (λ (e : get_or words (row_words * route + 2) 0 ≡ row). (_, ap (λ r. place_of (role r)) (sym e) ∙ so.right.hangs)) under
 
+-- A seat that remembers no more, and whose own range is as far, has no note more.
+pub noted_alike : (words : List ℕ) (u v : TreeView) → ((note : Note) → IsIn note v.notes → IsIn note u.notes)
+    → ((way : Way) → IsIn way v.ways → IsIn way u.ways) → ((border : Border) → IsIn border v.ranges.borders → IsIn border u.ranges.borders)
+    → ((row : ℕ) → IsOfOwnRun words v row → IsOfOwnRun words u row) → (row : ℕ) → IsNoted words v row → IsNoted words u row
+noted_alike words u v notes ways borders run _ (by_note note row i e) = by_note note row (notes note i) e
+noted_alike words u v notes ways borders run _ (by_item note row i b k) = by_item note row (notes note i) b k
+noted_alike words u v notes ways borders run _ (by_way way row i e) = by_way way row (ways way i) e
+noted_alike words u v notes ways borders run _ (by_link way row i e) = by_link way row (ways way i) e
+noted_alike words u v notes ways borders run _ (by_link_item way base row i e f k) = by_link_item way base row (ways way i) e f k
+noted_alike words u v notes ways borders run _ (by_border border row i e) = by_border border row (borders border i) e
+noted_alike words u v notes ways borders run _ (by_run row o) = by_run row (run row o)
+noted_alike words u v notes ways borders run _ (by_run_item base row o k) = by_run_item base row (run base o) k
+
+-- A seat whose range is quiet, or left, has none of a run of its own.
+pub left_run : (words : List ℕ) (u v : TreeView) (row : ℕ) → v.ranges.own ≡ left_over u.ranges.own → ¬ IsOfOwnRun words v row
+left_run words u v row is o = by u.ranges.own o.2.0 o.2.1 (sym is ∙ o.2.2)
+  where
+    by : (own : Ranging) (begun : Begun) (border : Border) → ¬ (left_over own ≡ Marking begun border)
+    by Quiet begun border e = absurd cc
+    by (Unmarked b) begun border e = absurd cc
+    by (Marking b c) begun border e = absurd cc
+    by Left begun border e = absurd cc
+
 -- The rows are the same where a table agrees with another on what is linked or noted.
 module _ (z : Sizes) (made : ℕ) (uppers : List TreeView) (words others : List ℕ) (f : IsTree z made words uppers)
     (a : Agrees IsLinked IsLent IsNoted IsTree uppers words others) where
@@ -89,7 +118,12 @@ module _ (z : Sizes) (made : ℕ) (uppers : List TreeView) (words others : List 
 
   shape_now : IsShape z others f.role (after f.history [])
   shape_now = shape_stands z words others f.role (after f.history []) f.shape wide' same_root
-      (λ pass lo hi. a.results pass lo hi) same
+      (λ pass lo hi. let e = a.results pass lo hi in omega arith) (λ pass number x. (active pass number).0 x) same
+
+  -- A base has the same words.
+  scene_on : (row : ℕ) → IsBase f.role row → row_at others row ≡ row_at words row
+  scene_on row base = let l = placed_linked z words f.role (after f.history []) f.shape row base.0 (ap place_of base.1) in
+      row_same words others z.rows row f.shape.wide wide' (in_range row l) (same row l)
 
   -- What one seat has a note on.
   module _ (j : ℕ) (u : TreeView) (at : get_elem? uppers j ≡ some u) where
@@ -102,16 +136,42 @@ module _ (z : Sizes) (made : ℕ) (uppers : List TreeView) (words others : List 
     noted_its : (row : ℕ) → 0 < row → row ≤ z.rows → IsNoted words u row → row_at others row ≡ row_at words row
     noted_its row lo hi n = row_same words others z.rows row f.shape.wide wide' hi (noted_same row lo hi n)
 
-    note_now : (note : Note) → IsIn note u.notes → IsTrue z.rows others f.role note
-    note_now note i = let t = knows.notes note i in record {
+    true_now : (note : Note) → IsNoted words u note.row → (IsBaseRow note.its → (r : ℕ) → IsIn r (items note.its) → IsNoted words u r)
+        → IsTrue z.rows words f.role note → IsTrue z.rows others f.role note
+    true_now note noted items_noted t = record {
       some_row = t.some_row;
       in_range = t.in_range;
-      spells = noted_its note.row t.some_row t.in_range (by_note note note.row i refl) ∙ t.spells;
-      named = λ b r n. let o = t.named b r n in (o.0, o.1, subst IsObjectRow (sym (noted_its r o.0 o.1 (by_item note r i b n))) o.2);
+      spells = noted_its note.row t.some_row t.in_range noted ∙ t.spells;
+      named = λ b r n. let o = t.named b r n in (o.0, o.1, subst IsObjectRow (sym (noted_its r o.0 o.1 (items_noted b r n))) o.2);
       objects_are = λ b. map_same (λ r. row_at others r) (λ r. row_at words r) (items note.its)
-          (λ r n. let o = t.named b r n in noted_its r o.0 o.1 (by_item note r i b n)) ∙ t.objects_are b;
+          (λ r n. let o = t.named b r n in noted_its r o.0 o.1 (items_noted b r n)) ∙ t.objects_are b;
       stands = t.stands;
+      marks = λ pass number m. let was = t.marks pass number m in
+          (begun_on z.rows words others f.role f.role a.results pass number was.0, λ now. was.1 ((active pass number).0 now));
     }
+
+    note_now : (note : Note) → IsIn note u.notes → IsTrue z.rows others f.role note
+    note_now note i = true_now note (by_note note note.row i refl) (λ b r n. by_item note r i b n) (knows.notes note i)
+
+    known_ranges : IsRanging z.rows words f.role (f.ranged.ends u.number) u.since f.history u.number u.ranges
+    known_ranges = f.ranged.each j u at
+
+    ranges_now : IsRanging z.rows others f.role (f.ranged.ends u.number) u.since f.history u.number u.ranges
+    ranges_now = ranging_stays z.rows words others f.role f.role a.results (f.ranged.ends u.number) u.since f.history f.history u.number u.ranges
+        (λ border i. let b = known_ranges.borders border i in noted_its border.row b.some_row b.in_range (by_border border border.row i refl))
+        (λ number now none row base marked. none row base (subst (λ its. IsMarkedBy its u.number number) (scene_on row base) marked))
+        (λ number last note marking decided on t. true_now note (by_run note.row (number, last, marking, decided, on))
+        (λ b r n. by_run_item note.row r (number, last, marking, decided, on) (subst (λ its. IsIn r (items its)) (sym t.spells) n)) t)
+        (λ at before. (before, refl))
+        known_ranges
+
+    -- The run of the seat's own range is as it was.
+    run_its : (row : ℕ) → IsOfOwnRun words u row → row_at others row ≡ row_at words row
+    run_its row o = let n = own_note z.rows words f.role (f.ranged.ends u.number) f.history u known_ranges row o in
+        noted_its row (subst (λ r. 0 < r) n.2 n.1.some_row) (subst (λ r. r ≤ z.rows) n.2 n.1.in_range) (by_run row o)
+
+    run_back : (row : ℕ) → IsOfOwnRun others u row → IsOfOwnRun words u row
+    run_back = own_run_back words others u (decided_back z.rows words others f.role f.role a.results u.number) run_its
 
     way_range : (way : Way) → IsIn way u.ways → (0 < way.row) × (way.row ≤ z.rows)
     way_range way i = let t = knows.ways way i in
@@ -140,6 +200,10 @@ module _ (z : Sizes) (made : ℕ) (uppers : List TreeView) (words others : List 
     notes_back _ (by_link_item way base row i under b k) = let was = under_back way i base under in let lo = under_range way i base was in
         let e = noted_its base lo.0 lo.1 (by_link way base i was) in
         by_link_item way base row i was (subst IsBaseRow e b) (subst (λ its. IsIn row (items its)) e k)
+    notes_back _ (by_border border row i e) = by_border border row i e
+    notes_back _ (by_run row o) = by_run row (run_back row o)
+    notes_back _ (by_run_item base row o k) = let was = run_back base o in
+        by_run_item base row was (subst (λ its. IsIn row (items its)) (run_its base was) k)
 
   linked_then : (row : ℕ) → IsLinked others row → IsLinked words row
   linked_then row = linked_back z.rows words others f.shape.wide wide' same_root active in_range same row
@@ -157,6 +221,24 @@ module _ (z : Sizes) (made : ℕ) (uppers : List TreeView) (words others : List 
     bases_once = f.listed.bases_once;
   }
 
+  ranged_now : AreRanged z made others f.role uppers f.history
+  ranged_now = record {
+    ends = f.ranged.ends;
+    runs = runs_still (scene_of words f.role) (scene_of others f.role) f.ranged.ends f.ranged.runs record {
+      alike = record {
+        active = λ pass number now. (active pass number).1 now;
+        was_active = λ pass number now. (active pass number).0 now;
+        begun = λ pass number b. begun_on z.rows words others f.role f.role a.results pass number b;
+      };
+      stay = λ pass number row now base marked. (base, refl, ap mark_of (scene_on row base));
+      begun = λ pass number row base marked. begun_on z.rows words others f.role f.role a.results pass number
+          (f.ranged.runs.begun pass number row base (subst (λ its. IsMarkedBy its pass number) (scene_on row base) marked));
+      were = λ pass number row base marked now. (base, subst (λ its. IsMarkedBy its pass number) (scene_on row base) marked);
+    };
+    made_before = λ pass number now. f.ranged.made_before pass number ((active pass number).0 now);
+    each = λ j u at. ranges_now j u at;
+  }
+
   tree_now : IsTree z made others uppers
   tree_now = record {
     usable = f.usable;
@@ -168,6 +250,8 @@ module _ (z : Sizes) (made : ℕ) (uppers : List TreeView) (words others : List 
     levels = a.control 133 (omega arith) (omega arith) ∙ f.levels;
     role = f.role;
     shape = shape_now;
+    ranged = ranged_now;
+    quiet = λ pass number now. f.quiet pass number ((active pass number).0 now);
     each_seat = λ j u at. let k = f.each_seat j u at in record {
       made_before = k.made_before;
       alone = k.alone;
@@ -237,8 +321,9 @@ relisted rows made words role uppers uppers' history j u n k = record {
 -- One seat's view is another.
 pub seat_changed : (z : Sizes) (made : ℕ) (words : List ℕ) (uppers : List TreeView) (id : ℕ) (u u' : TreeView) (f : IsTree z made words uppers)
     → get_elem? uppers id ≡ some u → (0 < u'.number → u'.number ≡ u.number) → (0 < u'.number → u'.inventory ≡ u.inventory)
-    → Knows z.rows made words f.role (set uppers id u') f.history id u' → IsTree z made words (set uppers id u')
-seat_changed z made words uppers id u u' f at same has k = record {
+    → Knows z.rows made words f.role (set uppers id u') f.history id u'
+    → IsRanging z.rows words f.role (f.ranged.ends u'.number) u'.since f.history u'.number u'.ranges → IsTree z made words (set uppers id u')
+seat_changed z made words uppers id u u' f at same has k ranging = record {
   usable = f.usable;
   history = f.history;
   edits = f.edits;
@@ -248,6 +333,14 @@ seat_changed z made words uppers id u u' f at same has k = record {
   levels = f.levels;
   role = f.role;
   shape = f.shape;
+  ranged = record {
+    ends = f.ranged.ends;
+    runs = f.ranged.runs;
+    made_before = f.ranged.made_before;
+    each = all_seats (λ j v. IsRanging z.rows words f.role (f.ranged.ends v.number) v.since f.history v.number v.ranges) uppers id u' ranging
+        (λ j v n here. f.ranged.each j v here);
+  };
+  quiet = f.quiet;
   each_seat = all_seats (Knows z.rows made words f.role (set uppers id u') f.history) uppers id u' k
       (λ j v n here. relisted z.rows made words f.role uppers (set uppers id u') f.history j v (numbered uppers id u u' at same) (f.each_seat j v here));
   inventory = f.inventory;
@@ -260,19 +353,29 @@ seat_changed z made words uppers id u u' f at same has k = record {
 pub starts_whole : (h : History) → StartsWith h h
 starts_whole h = ([], sym (append-nil h))
 
-pub no_notes : (words : List ℕ) (u : TreeView) (row : ℕ) → u.notes ≡ [] → u.ways ≡ [] → ¬ IsNoted words u row
-no_notes words u _ empty empty_too (by_note note row i e) = in_nothing note u.notes empty i
-no_notes words u _ empty empty_too (by_item note row i b k) = in_nothing note u.notes empty i
-no_notes words u _ empty empty_too (by_way way row i e) = in_nothing way u.ways empty_too i
-no_notes words u _ empty empty_too (by_link way row i e) = in_nothing way u.ways empty_too i
-no_notes words u _ empty empty_too (by_link_item way base row i e f k) = in_nothing way u.ways empty_too i
+pub no_notes : (words : List ℕ) (u : TreeView) (row : ℕ) → u.notes ≡ [] → u.ways ≡ [] → u.ranges.borders ≡ [] → ((r : ℕ) → ¬ IsOfOwnRun words u r)
+    → ¬ IsNoted words u row
+no_notes words u _ empty empty_too no_borders no_run (by_note note row i e) = in_nothing note u.notes empty i
+no_notes words u _ empty empty_too no_borders no_run (by_item note row i b k) = in_nothing note u.notes empty i
+no_notes words u _ empty empty_too no_borders no_run (by_way way row i e) = in_nothing way u.ways empty_too i
+no_notes words u _ empty empty_too no_borders no_run (by_link way row i e) = in_nothing way u.ways empty_too i
+no_notes words u _ empty empty_too no_borders no_run (by_link_item way base row i e f k) = in_nothing way u.ways empty_too i
+no_notes words u _ empty empty_too no_borders no_run (by_border border row i e) = in_nothing border u.ranges.borders no_borders i
+no_notes words u _ empty empty_too no_borders no_run (by_run row o) = no_run row o
+no_notes words u _ empty empty_too no_borders no_run (by_run_item base row o k) = no_run base o
 
-same_notes : (words : List ℕ) (u : TreeView) (row : ℕ) → IsNoted words (pinned u) row → IsNoted words u row
-same_notes words u _ (by_note note row i e) = by_note note row i e
-same_notes words u _ (by_item note row i b k) = by_item note row i b k
-same_notes words u _ (by_way way row i e) = by_way way row i e
-same_notes words u _ (by_link way row i e) = by_link way row i e
-same_notes words u _ (by_link_item way base row i e f k) = by_link_item way base row i e f k
+-- A seat that knows nothing yet has no note.
+pub no_blank_notes : (words : List ℕ) (number row : ℕ) → ¬ IsNoted words (blank number) row
+no_blank_notes words number row = no_notes words (blank number) row refl refl refl (λ r. left_run words (blank number) (blank number) r refl)
+
+-- A range that is left to others isn't spoken of.
+left_so_far : (rows : ℕ) (words : List ℕ) (role : ℕ → Role) (ends : Ends) (since since' history : History) (pass : ℕ) (borders borders' : List Border)
+    (own : Ranging) → IsSoFar rows words role ends since history pass borders own
+    → IsSoFar rows words role ends since' history pass borders' (left_over own)
+left_so_far rows words role ends since since' history pass borders borders' Quiet k = k
+left_so_far rows words role ends since since' history pass borders borders' (Unmarked begun) k = tt
+left_so_far rows words role ends since since' history pass borders borders' (Marking begun border) k = tt
+left_so_far rows words role ends since since' history pass borders borders' Left k = tt
 
 pub tree_pinning : Pinning IsLinked IsLent IsNoted IsTree pinned unpinned
 tree_pinning = record {
@@ -290,8 +393,15 @@ tree_pinning = record {
         links = k.links;
         ways = k.ways;
         ended = k.ended;
-      };
-  entering_notes = same_notes;
+      }
+      (let known = f.ranged.each i u at in record {
+        over = known.over;
+        borders = known.borders;
+        own = λ lo. left_so_far z.rows words f.role (f.ranged.ends u.number) u.since u.seen f.history u.number u.ranges.borders u.ranges.borders
+            u.ranges.own (known.own lo);
+      });
+  entering_notes = λ words u. noted_alike words u (pinned u) (λ n i. i) (λ w i. i) (λ b i. i)
+      (λ row o. absurd (left_run words u (pinned u) row refl o));
   keeps_leaving = λ z made uppers words i u f at. let k = relisted z.rows made words f.role uppers (set uppers i (unpinned u)) f.history i u
       (numbered uppers i u (unpinned u) at (λ _. refl)) (f.each_seat i u at) in
       seat_changed z made words uppers i u (unpinned u) f at (λ _. refl) (λ _. refl)
@@ -306,8 +416,14 @@ tree_pinning = record {
         links = λ note i. absurd (in_nothing note [] refl i);
         ways = λ way i. absurd (in_nothing way [] refl i);
         ended = k.ended;
-      };
-  leaving_notes = λ words u r. no_notes words (unpinned u) r refl refl;
+      }
+      (let known = f.ranged.each i u at in record {
+        over = λ x m. absurd (in_nothing x [] refl m);
+        borders = λ border m. absurd (in_nothing border [] refl m);
+        own = λ lo. left_so_far z.rows words f.role (f.ranged.ends u.number) u.since u.since f.history u.number u.ranges.borders [] u.ranges.own
+            (known.own lo);
+      });
+  leaving_notes = λ words u r. no_notes words (unpinned u) r refl refl refl (λ row. left_run words u (unpinned u) row refl);
 }
 
 -- A pass that wasn't made yet has no edit in the history.
@@ -338,6 +454,23 @@ knows_nothing rows made words role uppers history j number before alone unmade =
   ended = λ x i. absurd (in_nothing x [] refl i);
 }
 
+-- A seat that knows nothing yet knows nothing of ranges, and none of its own is active.
+pub new_ranging : (rows : ℕ) (words : List ℕ) (role : ℕ → Role) (ends : Ends) (history : History) (pass : ℕ) → ((number : ℕ) → ¬ IsActive words pass number)
+    → IsRanging rows words role ends [] history pass no_ranges
+new_ranging rows words role ends history pass quiet = record {
+  over = λ x i. absurd (in_nothing x [] refl i);
+  borders = λ border i. absurd (in_nothing border [] refl i);
+  own = λ _. quiet;
+}
+
+-- So it is of a seat that is no pass's.
+pub no_ranging : (rows : ℕ) (words : List ℕ) (role : ℕ → Role) (ends : Ends) (history : History) → IsRanging rows words role ends [] history 0 no_ranges
+no_ranging rows words role ends history = record {
+  over = λ x i. absurd (in_nothing x [] refl i);
+  borders = λ border i. absurd (in_nothing border [] refl i);
+  own = λ lo. absurd (omega arith);
+}
+
 pub tree_making : Making IsLinked IsLent IsNoted IsTree blank
 tree_making = record {
   keeps_making = λ z made uppers words f. let next : List TreeView = uppers ++ blank (made + 1) ∷ [] in record {
@@ -350,6 +483,18 @@ tree_making = record {
     levels = f.levels;
     role = f.role;
     shape = f.shape;
+    ranged = record {
+      ends = f.ranged.ends;
+      runs = f.ranged.runs;
+      made_before = λ pass number now. let before = f.ranged.made_before pass number now in omega arith;
+      each = λ j u here. ⊎_elim (λ (was : get_elem? uppers j ≡ some u). f.ranged.each j u was)
+          (λ (t : (j ≡ length uppers) × (blank (made + 1) ≡ u)).
+          subst (λ (v : TreeView). IsRanging z.rows words f.role (f.ranged.ends v.number) v.since f.history v.number v.ranges) t.1
+          (new_ranging z.rows words f.role (f.ranged.ends (made + 1)) f.history (made + 1)
+          (λ number now. let before = f.ranged.made_before (made + 1) number now in omega arith)))
+          (at_place uppers (blank (made + 1)) u j here);
+    };
+    quiet = f.quiet;
     each_seat = λ j u here. ⊎_elim
         (λ (was : get_elem? uppers j ≡ some u). let k = f.each_seat j u was in let low = k.made_before in record {
           made_before = omega arith;
@@ -386,7 +531,7 @@ tree_making = record {
         (λ (t : (j ≡ length uppers) × (blank (made + 1) ≡ u)). ap (λ (y : TreeView). y.inventory) (sym t.1) ∙ sym (f.at_first first))
         (at_place uppers (blank (made + 1)) u j here);
   };
-  making_notes = λ words pass r. no_notes words (blank pass) r refl refl;
+  making_notes = λ words pass r. no_blank_notes words pass r;
 }
 
 -- Two places of a list are set in either order.
@@ -403,7 +548,7 @@ module _ (z : Sizes) (made : ℕ) (words : List ℕ) (uppers : List TreeView) (i
   fewer : IsTree z made words (set uppers j (blank 0))
   fewer = seat_changed z made words uppers j w (blank 0) f there (λ lo. absurd (omega arith)) (λ lo. absurd (omega arith))
       (knows_nothing z.rows made words f.role (set uppers j (blank 0)) f.history j 0 (omega arith) (λ lo. absurd (omega arith))
-      (none_made made 0 f.history f.by_passes (inl refl)))
+      (none_made made 0 f.history f.by_passes (inl refl))) (no_ranging z.rows words f.role (f.ranged.ends 0) f.history)
 
   at_too : get_elem? (set uppers j (blank 0)) i ≡ some v
   at_too = set_else uppers j i (blank 0) (λ e. ne (sym e)) ∙ at
@@ -457,21 +602,13 @@ module _ (z : Sizes) (made : ℕ) (words : List ℕ) (uppers : List TreeView) (i
   closes : IsTree z made words (set (set uppers i joined) j (blank 0))
   unfolding seat_changed fewer
   closes = subst (IsTree z made words) (sym (set_apart uppers i j joined (blank 0) ne))
-      (seat_changed z made words (set uppers j (blank 0)) i v joined fewer at_too (λ _. refl) (λ _. refl) knows_joined)
-
--- What the seat has a note on is what it had one on.
-ended_notes : (words : List ℕ) (u w : TreeView) (row : ℕ) → IsNoted words (ended_with u w) row → IsNoted words u row
-ended_notes words u w _ (by_note note row i e) = by_note note row i e
-ended_notes words u w _ (by_item note row i b k) = by_item note row i b k
-ended_notes words u w _ (by_way way row i e) = by_way way row i e
-ended_notes words u w _ (by_link way row i e) = by_link way row i e
-ended_notes words u w _ (by_link_item way base row i e f k) = by_link_item way base row i e f k
+      (seat_changed z made words (set uppers j (blank 0)) i v joined fewer at_too (λ _. refl) (λ _. refl) knows_joined (f.ranged.each i v at))
 
 pub tree_closing : Closing IsLinked IsLent IsNoted IsTree ended_with (blank 0)
 tree_closing = record {
   keeps_closing = λ z made uppers words i j v w f at ne there. closes z made words uppers i j v w f at ne there;
-  closing_notes = λ words v w r n. inl (ended_notes words v w r n);
-  spent_notes = λ words r. no_notes words (blank 0) r refl refl;
+  closing_notes = λ words v w r n. inl (noted_alike words v (ended_with v w) (λ n i. i) (λ y i. i) (λ b i. i) (λ row o. o) r n);
+  spent_notes = λ words r. no_blank_notes words 0 r;
 }
 
 -- The words at the start.
@@ -489,6 +626,9 @@ module _ (z : Sizes) (words : List ℕ) (bounds : AreInBounds z) (usable : AreUs
 
   no_items : items (row_at words 1) ≡ []
   no_items = ap (map row_in) no_words
+
+  unmarked : mark (row_at words 1) ≡ 0
+  unmarked = word_at words 1 2 (omega arith) ∙ above 138 (omega arith) (omega arith)
 
   -- row 1 is the one base
   role_of : ℕ → Role
@@ -512,7 +652,8 @@ module _ (z : Sizes) (words : List ℕ) (bounds : AreInBounds z) (usable : AreUs
     is_base = ap (λ n. n / form_unit) first_word;
     level_is = ap (λ n. n / 65536 % 65536) first_word;
     few = let e = ap (λ n. n % 65536) first_word in omega arith;
-    marked = inl (word_at words 1 2 (omega arith) ∙ above 138 (omega arith) (omega arith));
+    marked = inl unmarked;
+    bounded = λ border x. let one = x.0 in let none = unmarked in absurd (omega arith);
     are_objects = λ r i. absurd (in_nothing r (items (row_at words 1)) no_items i);
     headed = subst (IsHeaded (row_at words 1)) (sym (ap (map (λ row. row_at words row)) no_items)) (bare_headed (row_at words 1) first_word
         (word_at words 1 7 (omega arith) ∙ above 143 (omega arith) (omega arith)) (word_at words 1 8 (omega arith) ∙ above 144 (omega arith) (omega arith))
@@ -539,9 +680,35 @@ module _ (z : Sizes) (words : List ℕ) (bounds : AreInBounds z) (usable : AreUs
         (λ (e : row ≡ 1). subst (λ r. IsSo z words role_of [] r (role_of r)) (sym e) (subst (IsSo z words role_of [] 1) (sym role_one) first_base))
         (λ n. subst (IsSo z words role_of [] row) (sym (role_other row n)) tt);
     apart = λ a b p q key is is' _ _. base_one a p is ∙ sym (base_one b q is');
-    quiet = λ pass sequence x. let lo = x.0 in let hi = x.1 in let e = x.2 in let here = range_is pass lo hi in omega arith;
     idle = λ route p key e. absurd (no_route route p key e);
   }
+
+  -- No range is active.
+  quiet : (pass number : ℕ) → ¬ IsActive words pass number
+  quiet pass number x = let lo = x.0 in let hi = x.1 in let e = x.2 in let here = range_is pass lo hi in omega arith
+
+  base_unmarked : (row pass number : ℕ) → IsBase role_of row → ¬ IsMarkedBy (row_at words row) pass number
+  base_unmarked row pass number base marked = let same = base_one row base.0 base.1 in
+      let one : mark (row_at words 1) ≡ 1 = ap (λ r. mark (row_at words r)) (sym same) ∙ marked.0 in let none = unmarked in omega arith
+
+  ranged_there : AreRanged z 0 words role_of (blank 0 ∷ []) []
+  ranged_there = record {
+    ends = λ _. record { edge = Unbounded; top = 0 };
+    runs = record {
+      run = λ _. [];
+      each = λ pass number now. absurd (quiet pass number now);
+      whole = λ pass number row now base marked. absurd (quiet pass number now);
+      begun = λ pass number row base marked. absurd (base_unmarked row pass number base marked);
+    };
+    made_before = λ pass number now. absurd (quiet pass number now);
+    each = λ j u here. by j u here;
+  }
+    where
+      by : (j : ℕ) (u : TreeView) → get_elem? (blank 0 ∷ []) j ≡ some u
+          → IsRanging z.rows words role_of (record { edge = Unbounded; top = 0 }) u.since [] u.number u.ranges
+      by zero u e = subst (λ (v : TreeView). IsRanging z.rows words role_of (record { edge = Unbounded; top = 0 }) v.since [] v.number v.ranges)
+          (some-injective (blank 0) u e) (no_ranging z.rows words role_of (record { edge = Unbounded; top = 0 }) [])
+      by (suc j) u e = absurd (some-ne-none u (sym e))
 
   only : (j : ℕ) (u : TreeView) → get_elem? (blank 0 ∷ []) j ≡ some u → Knows z.rows 0 words role_of (blank 0 ∷ []) [] j u
   only zero u e = subst (Knows z.rows 0 words role_of (blank 0 ∷ []) [] 0) (some-injective (blank 0) u e)
@@ -553,9 +720,13 @@ module _ (z : Sizes) (words : List ℕ) (bounds : AreInBounds z) (usable : AreUs
   only_first row l = ⊎_elim
       (λ (x : (place : Place) × (place_of (role_of row) ≡ some place)). dite (ℕ_discrete row 1) (λ e. e)
       (λ n. absurd (some-ne-none x.0 (sym x.1 ∙ ap place_of (role_other row n)))))
+      (λ is. ⊎_elim
       (λ (x : (base : ℕ) × (place : Place) × (role_of base ≡ Base place) × IsIn row (items (row_at words base))). dite (ℕ_discrete x.0 1)
       (λ e. absurd (in_nothing row (items (row_at words x.0)) (ap (λ r. items (row_at words r)) e ∙ no_items) x.3))
       (λ n. let y : Base x.1 ≡ Out = sym x.2 ∙ role_other x.0 n in absurd cc))
+      (λ (x : (base : ℕ) × (place : Place) × (role_of base ≡ Base place) × IsBoundOf words base row). absurd (quiet
+      (mark_owner (row_at words x.0)) (mark_number (row_at words x.0)) x.3.1))
+      is)
       (reached z words role_of [] shape_there row l)
 
   one_linked : (row : ℕ) → row ≡ 1 → IsLinked words row
@@ -588,6 +759,8 @@ module _ (z : Sizes) (words : List ℕ) (bounds : AreInBounds z) (usable : AreUs
       levels = above 133 (omega arith) (omega arith);
       role = role_of;
       shape = shape_there;
+      ranged = ranged_there;
+      quiet = quiet;
       each_seat = only;
       inventory = first_inventory;
       listed = listed_first;
@@ -595,8 +768,8 @@ module _ (z : Sizes) (words : List ℕ) (bounds : AreInBounds z) (usable : AreUs
       only_one = λ j u here few lo. let low = (only j u here).made_before in absurd (omega arith);
     };
     links = λ r. (only_first r, one_linked r);
-    lents = nothing_lent z words role_of [] shape_there;
-    notes = λ r. no_notes words (blank 0) r refl refl;
+    lents = λ r x. quiet (mark_owner (row_at words x.0)) (mark_number (row_at words x.0)) x.3.1;
+    notes = λ r. no_blank_notes words 0 r;
   }
 
 pub tree_opening : Opening IsLinked IsLent IsNoted IsTree opens_at result_at (blank 0)

@@ -1,12 +1,17 @@
 pub mod Bare
+pub mod Copies
+pub mod Endings
 pub mod Inventory
 pub mod LastTree
 pub mod Laws
 pub mod Layout
 pub mod Links
 pub mod Marks
+pub mod May
 pub mod Opened
 pub mod Place
+pub mod RangesStay
+pub mod Ranging
 pub mod Reached
 pub mod Row
 pub mod Scenes
@@ -19,4 +24,5 @@ pub mod Told
 pub mod Tree
 pub mod TreePasses
 pub mod TreeView
+pub mod True
 pub mod Walking

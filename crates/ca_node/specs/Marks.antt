@@ -2,7 +2,7 @@
 use Rattle.std.specs.Prelude.{◌≡◌, ◌⊎◌, ℕ, ◌+◌, ◌*◌, ◌/◌, ◌<◌, ◌≤◌, List, slice_index}
 use Rattle.ca_rows.specs.declared.sizes.Sizes.{Sizes}
 use Rattle.ca_node.specs.Place.{Place, IsLinkOf}
-use Rattle.ca_node.specs.Row.{row_at, IsBaseRow, count, mark, mark_owner, mark_number, IsUnmarked, join_word, IsIdle, IsPreparing, IsSecured}
+use Rattle.ca_node.specs.Row.{row_at, IsBaseRow, IsBorderRow, count, mark, mark_owner, mark_number, IsUnmarked, join_word, IsIdle, IsPreparing, IsSecured}
 use Rattle.ca_rows.specs.Layout.{row_words}
 use Rattle.ca_node.specs.Layout.{sequence_unit}
 use Rattle.ca_rows.specs.Words.{result_of}
@@ -24,6 +24,13 @@ IsMark place its = IsUnmarked its ⊎ (IsOfRange its ⊎ IsOfJoin place its)
 abbrev pub IsMarkIn : List ℕ → Place → List ℕ → Type 0
 IsMarkIn words place its = IsUnmarked its ⊎ ((IsOfRange its × (mark_number its ≤ result_of words (mark_owner its) / sequence_unit))
     ⊎ (IsOfJoin place its × (4 * mark_number its ≤ slice_index words (row_words * mark_owner its + 3))))
+
+-- The row says up to where a range of this pass goes.
+pub record IsBorder (rows : ℕ) (words : List ℕ) (pass row : ℕ) : Type 0 where
+  pub some_row : 0 < row
+  pub in_range : row ≤ rows
+  pub is_border : IsBorderRow (row_at words row)
+  pub owner : slice_index (row_at words row) 1 ≡ pass
 
 -- This attempt of the route marked the base that one of its links names.
 pub record IsMarkedUnder (words : List ℕ) (route attempt link : ℕ) : Type 0 where

@@ -1,11 +1,11 @@
 -- What the root link reaches in a tree of routes: what has a place, and the objects of the bases.
-use Rattle.std.proofs.Common.{◌≡◌, ◌⊎◌, ℕ, zero, suc, ◌+◌, ◌*◌, ◌<◌, ◌≤◌, List, get_or, sym, refl, ap, ◌∙◌, subst, inl, inr, ⊎_elim, arith}
+use Rattle.std.proofs.Common.{◌≡◌, ◌⊎◌, ℕ, zero, suc, ◌+◌, ◌*◌, ◌<◌, ◌≤◌, List, ◌≢◌, get_or, sym, refl, ap, ◌∙◌, subst, inl, inr, ⊎_elim, arith}
 use mathlib.Core.Option.{some, some-injective, some-ne-none}
 use Rattle.ca_model.specs.StoreMap.{StoreMap}
 use Rattle.ca_rows.specs.declared.sizes.Sizes.{Sizes}
-use Rattle.ca_node.specs.Links.{IsIn, IsLinked, by_root, by_route, by_base, by_range, IsLent}
+use Rattle.ca_node.specs.Links.{IsIn, IsBoundOf, IsLinked, by_root, by_route, by_base, by_range, IsLent}
 use Rattle.ca_node.specs.Place.{Span, all_keys, left_of, right_of, Place, IsLinkOf}
-use Rattle.ca_node.specs.Row.{row_at, form, IsObjectRow, IsBaseRow, IsRouteRow, items, mark_owner, mark_number, key}
+use Rattle.ca_node.specs.Row.{row_at, form, IsObjectRow, IsBaseRow, IsRouteRow, IsBorderRow, items}
 use Rattle.ca_node.specs.Shape.{Role, Out, Base, Route, place_of, IsLink, LeadsTo, IsBaseAt, IsRouteAt, IsSo, IsShape}
 use Rattle.ca_rows.specs.Layout.{row_words}
 use Rattle.ca_node.specs.Layout.{root_word}
@@ -96,10 +96,20 @@ module _ (z : Sizes) (words : List ℕ) (role : ℕ → Role) (m : StoreMap) (sh
   pub item_linked : (base : ℕ) (place : Place) → role base ≡ Base place → (row : ℕ) → IsIn row (items (row_at words base)) → IsLinked words row
   item_linked base place e row i = by_base base row (placed_linked base place (ap place_of e)) (base_at base place e).is_base i
 
-  -- The row has a place, or is an object of a base.
+  -- The row is an object of a base, or says up to where the active range goes that marked one.
+  abbrev pub IsItem : ℕ → Type 0
+  IsItem row = (base : ℕ) × (place : Place) × (role base ≡ Base place) × IsIn row (items (row_at words base))
+
+  abbrev pub IsEnd : ℕ → Type 0
+  IsEnd row = (base : ℕ) × (place : Place) × (role base ≡ Base place) × IsBoundOf words base row
+
+  -- The row has a place, or is such an object, or such an end.
   abbrev pub IsOfTree : ℕ → Type 0
-  IsOfTree row = ((place : Place) × (place_of (role row) ≡ some place))
-      ⊎ ((base : ℕ) × (place : Place) × (role base ≡ Base place) × IsIn row (items (row_at words base)))
+  IsOfTree row = ((place : Place) × (place_of (role row) ≡ some place)) ⊎ (IsItem row ⊎ IsEnd row)
+
+  -- An end of a range has the form of one, and is in range.
+  pub end_at : (row : ℕ) → IsEnd row → (0 < row) × (row ≤ z.rows) × IsBorderRow (row_at words row)
+  end_at row t = let b = (base_at t.0 t.1 t.2).bounded row t.3 in (b.some_row, b.in_range, b.is_border)
 
   -- An object of a base is an object row, in range.
   pub item_at : (base : ℕ) (place : Place) → role base ≡ Base place → (row : ℕ) → IsIn row (items (row_at words base))
@@ -113,8 +123,10 @@ module _ (z : Sizes) (words : List ℕ) (role : ℕ → Role) (m : StoreMap) (sh
       (λ (b : role row ≡ Base t.0). (t.0, b))
       (λ (r : (key : List ℕ) × (role row ≡ Route t.0 key)). let g = (route_at row t.0 r.0 r.1).is_route in absurd (omega arith))
       (by_place (role row) t.0 t.1))
-      (λ (t : (base : ℕ) × (place : Place) × (role base ≡ Base place) × IsIn row (items (row_at words base))).
-      let g = (item_at t.0 t.1 t.2 row t.3).2.0 in absurd (omega arith))
+      (λ is'. ⊎_elim
+      (λ (t : IsItem row). let g = (item_at t.0 t.1 t.2 row t.3).2.0 in absurd (omega arith))
+      (λ (t : IsEnd row). let g = (end_at row t).2 in absurd (omega arith))
+      is')
       is
 
   -- What is of the tree and has the form of a route is a route.
@@ -124,8 +136,10 @@ module _ (z : Sizes) (words : List ℕ) (role : ℕ → Role) (m : StoreMap) (sh
       (λ (b : role row ≡ Base t.0). let g = (base_at row t.0 b).is_base in absurd (omega arith))
       (λ (r : (key : List ℕ) × (role row ≡ Route t.0 key)). (t.0, r.0, r.1))
       (by_place (role row) t.0 t.1))
-      (λ (t : (base : ℕ) × (place : Place) × (role base ≡ Base place) × IsIn row (items (row_at words base))).
-      let g = (item_at t.0 t.1 t.2 row t.3).2.0 in absurd (omega arith))
+      (λ is'. ⊎_elim
+      (λ (t : IsItem row). let g = (item_at t.0 t.1 t.2 row t.3).2.0 in absurd (omega arith))
+      (λ (t : IsEnd row). let g = (end_at row t).2 in absurd (omega arith))
+      is')
       is
 
   -- What a link leads to has a place.
@@ -139,20 +153,38 @@ module _ (z : Sizes) (words : List ℕ) (role : ℕ → Role) (m : StoreMap) (sh
       (of_lead (row_words * route + 1) (t.0.level + 1) (left_of t.1 t.0.span) at.left row)
       (of_lead (row_words * route + 2) (t.0.level + 1) (right_of t.1 t.0.span) at.right row)
       u
-  reached _ (by_base base row l f i) = let t = of_base base (reached base l) f in inr (base, t.0, t.1, i)
-  reached _ (by_range base row l f x) = absurd (shape.quiet (mark_owner (row_at words base)) (mark_number (row_at words base)) x.1)
+  reached _ (by_base base row l f i) = let t = of_base base (reached base l) f in inr (inl (base, t.0, t.1, i))
+  reached _ (by_range base row l f x) = let t = of_base base (reached base l) f in inr (inr (base, t.0, t.1, x))
 
   -- What is linked is a row in range.
   pub linked_range : (row : ℕ) → IsLinked words row → (0 < row) × (row ≤ z.rows)
   linked_range row l = ⊎_elim
       (λ (t : (place : Place) × (place_of (role row) ≡ some place)). let h = hung row t.0 t.1 in (h.2, h.3))
-      (λ (t : (base : ℕ) × (place : Place) × (role base ≡ Base place) × IsIn row (items (row_at words base))).
-      let o = item_at t.0 t.1 t.2 row t.3 in (o.0, o.1))
+      (λ is. ⊎_elim
+      (λ (t : IsItem row). let o = item_at t.0 t.1 t.2 row t.3 in (o.0, o.1))
+      (λ (t : IsEnd row). let o = end_at row t in (o.0, o.1))
+      is)
       (reached row l)
 
-  -- No operation is under way that something could be lent to.
-  pub nothing_lent : (row : ℕ) → ¬ IsLent words row
-  nothing_lent row x = shape.quiet (mark_owner (row_at words x.0)) (mark_number (row_at words x.0)) x.3.1
+  -- What is lent is an end of an active range.
+  pub lent_end : (row : ℕ) → IsLent words row → IsEnd row
+  lent_end row x = let t = of_base x.0 (reached x.0 x.1) x.2 in (x.0, t.0, t.1, x.3)
+
+  pub end_lent : (row : ℕ) → IsEnd row → IsLent words row
+  end_lent row t = (t.0, placed_linked t.0 t.1 (ap place_of t.2), (base_at t.0 t.1 t.2).is_base, t.3)
+
+  -- So what has another form isn't.
+  pub unlent : (row : ℕ) → form (row_at words row) ≢ 4 → ¬ IsLent words row
+  unlent row n x = n (end_at row (lent_end row x)).2
+
+  -- An end of a range has no place,
+  pub end_out : (row : ℕ) → IsEnd row → role row ≡ Out
+  end_out row t = by (role row) refl
+    where
+      by : (is : Role) → role row ≡ is → role row ≡ Out
+      by Out e = e
+      by (Base place) e = let g = (base_at row place e).is_base in let f = (end_at row t).2 in absurd (omega arith)
+      by (Route place key) e = let g = (route_at row place key e).is_route in let f = (end_at row t).2 in absurd (omega arith)
 
   -- An object row has no place.
   pub object_out : (row : ℕ) → form (row_at words row) ≡ 1 → role row ≡ Out

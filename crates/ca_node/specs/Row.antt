@@ -22,6 +22,10 @@ IsBaseRow its = form its ≡ 2
 abbrev pub IsRouteRow : List ℕ → Type 0
 IsRouteRow its = form its ≡ 3
 
+-- The row says up to where a range goes.
+abbrev pub IsBorderRow : List ℕ → Type 0
+IsBorderRow its = form its ≡ 4
+
 -- the number in the last two bytes of the first word: of a base the number of its items, of the other forms a length
 abbrev pub count : List ℕ → ℕ
 count its = slice_index its 0 % 65536
@@ -65,6 +69,10 @@ mark_back its = slice_index its 5
 abbrev pub mark_bound : List ℕ → ℕ
 mark_bound its = slice_index its 6
 
+-- This range of a pass marked the base.
+abbrev pub IsMarkedBy : List ℕ → ℕ → ℕ → Type 0
+IsMarkedBy its pass number = (mark its ≡ 1) × (mark_owner its ≡ pass) × (mark_number its ≡ number)
+
 -- No operation marked the base.
 abbrev pub IsUnmarked : List ℕ → Type 0
 IsUnmarked its = mark its ≡ 0
@@ -105,6 +113,10 @@ IsObjectRow its = (form its ≡ 1) × IsPadded its
 -- of a route: its key
 abbrev pub route_key : List ℕ → List ℕ
 route_key its = take (count its) (bytes_in (drop key_word its))
+
+-- of a row that says up to where a range goes: how its key bounds it, 0 not at all, 1 it is the last one, 2 it is left out
+abbrev pub edge_form : List ℕ → ℕ
+edge_form its = slice_index its 0 / 65536 % 1099511627776
 
 abbrev pub key_place : List ℕ → ℕ
 key_place its = slice_index its 0 / 65536 % 65536

@@ -1,9 +1,7 @@
 -- What ranges see of the tree in the words.
-use Rattle.std.specs.Prelude.{◌≡◌, ℕ, ◌/◌, ◌≤◌, List}
-use Rattle.ca_rows.specs.Words.{result_of}
+use Rattle.std.specs.Prelude.{◌≡◌, ℕ, List}
 use Rattle.ca_runs.specs.Runs.{Mark, Span, Scene}
-use Rattle.ca_node.specs.Layout.{sequence_unit}
-use Rattle.ca_node.specs.Links.{IsActive}
+use Rattle.ca_node.specs.Links.{IsActive, HasBegun}
 use Rattle.ca_node.specs.Place.{Place, all_keys}
 use Rattle.ca_node.specs.Row.{row_at, mark, mark_owner, mark_number, mark_back, mark_bound}
 use Rattle.ca_node.specs.Shape.{Role, Out, Base, Route}
@@ -34,5 +32,5 @@ scene_of words role = record {
   keys = λ row. span_of (role row);
   mark = λ row. mark_of (row_at words row);
   is_active = IsActive words;
-  has_begun = λ pass number. number ≤ result_of words pass / sequence_unit;
+  has_begun = HasBegun words;
 }

@@ -6,10 +6,10 @@ use Rattle.ca_model.specs.Edges.{Included}
 use Rattle.ca_model.specs.StoreMap.{StoreMap, bytes_cmp}
 use Rattle.ca_rows.specs.declared.sizes.Sizes.{Sizes}
 use Rattle.ca_rows.specs.Words.{IsWide}
-use Rattle.ca_node.specs.Links.{IsIn, IsActive}
-use Rattle.ca_node.specs.Marks.{IsMarkIn, IsJoinWord}
+use Rattle.ca_node.specs.Links.{IsIn, IsBoundOf}
+use Rattle.ca_node.specs.Marks.{IsMarkIn, IsBorder, IsJoinWord}
 use Rattle.ca_node.specs.Place.{Span, all_keys, left_of, right_of, HasKey, part, Place, IsLinkOf}
-use Rattle.ca_node.specs.Row.{row_at, IsObjectRow, IsBaseRow, IsRouteRow, count, level, items, IsIdle, route_key, objects_in, AreHeaded}
+use Rattle.ca_node.specs.Row.{row_at, IsObjectRow, IsBaseRow, IsRouteRow, count, level, items, mark_owner, IsIdle, route_key, objects_in, AreHeaded}
 use Rattle.ca_rows.specs.Layout.{row_words}
 use Rattle.ca_node.specs.Layout.{root_word}
 
@@ -35,7 +35,8 @@ pub record LeadsTo (words : List ℕ) (role : ℕ → Role) (link least : ℕ) (
   pub hangs : place_of (role (slice_index words link)) ≡ some (record { link = link; level = level; span = span })
 
 -- The row is a base at this place: it has no more items than a leaf may, each of them names an object row, it has no mark or that of an operation
--- that was begun, its items have the heads of their objects' keys, and its objects are what the map has of the keys that are led to it.
+-- that was begun, where an active range marked it a row says up to where that goes, its items have the heads of their objects' keys, and its objects are
+-- what the map has of the keys that are led to it.
 pub record IsBaseAt (z : Sizes) (words : List ℕ) (role : ℕ → Role) (map : StoreMap) (place : Place) (row : ℕ) : Type 0 where
   pub some_row : 0 < row
   pub in_range : row ≤ z.rows
@@ -46,6 +47,7 @@ pub record IsBaseAt (z : Sizes) (words : List ℕ) (role : ℕ → Role) (map : 
   pub level_is : level (row_at words row) ≡ place.level
   pub few : count (row_at words row) ≤ z.leaf
   pub marked : IsMarkIn words place (row_at words row)
+  pub bounded : (border : ℕ) → IsBoundOf words row border → IsBorder z.rows words (mark_owner (row_at words row)) border
   pub are_objects : (r : ℕ) → IsIn r (items (row_at words row)) → (0 < r) × (r ≤ z.rows) × IsObjectRow (row_at words r)
   pub headed : AreHeaded words row
   pub has : objects_in words row ≡ part place.span map
@@ -79,6 +81,5 @@ pub record IsShape (z : Sizes) (words : List ℕ) (role : ℕ → Role) (map : S
   pub top : LeadsTo words role root_word 0 all_keys
   pub each_row : (row : ℕ) → IsSo z words role map row (role row)
   pub apart : (a b : ℕ) (p q : Place) (key : List ℕ) → role a ≡ Base p → role b ≡ Base q → HasKey p.span key → HasKey q.span key → a ≡ b
-  -- So far no range is active, and no join is under way.
-  pub quiet : (pass sequence : ℕ) → ¬ IsActive words pass sequence
+  -- So far no join is under way.
   pub idle : (route : ℕ) (place : Place) (key : List ℕ) → role route ≡ Route place key → IsIdle (row_at words route)

@@ -7,10 +7,10 @@ use mathlib.Core.Option.{some}
 use Rattle.ca_model.specs.StoreMap.{StoreMap}
 use Rattle.ca_rows.specs.declared.sizes.Sizes.{Sizes}
 use Rattle.ca_rows.specs.Words.{IsWide, result_of}
-use Rattle.ca_node.specs.Links.{root, IsIn, IsLinked}
-use Rattle.ca_node.specs.Marks.{IsOfRange, IsOfJoin, IsMark, IsMarkIn}
+use Rattle.ca_node.specs.Links.{root, IsIn, IsActive, IsBoundOf, IsLinked, by_range}
+use Rattle.ca_node.specs.Marks.{IsOfRange, IsOfJoin, IsMark, IsMarkIn, IsBorder}
 use Rattle.ca_node.specs.Place.{Span, all_keys, left_of, right_of, part, Place, IsLinkOf}
-use Rattle.ca_node.specs.Row.{row_at, form, IsObjectRow, IsBaseRow, count, level, items, mark_owner, mark_number, IsUnmarked, join_word, IsIdle, route_key, bytes_in, pair, objects_in, IsHeaded, AreHeaded}
+use Rattle.ca_node.specs.Row.{row_at, form, IsObjectRow, IsBaseRow, IsBorderRow, count, level, items, mark, mark_owner, mark_number, mark_bound, IsUnmarked, join_word, IsIdle, route_key, bytes_in, pair, objects_in, IsHeaded, AreHeaded}
 use Rattle.ca_node.specs.Shape.{Role, Out, Base, Route, place_of, IsLink, LeadsTo, IsBaseAt, IsRouteAt, IsSo, IsShape}
 use Rattle.ca_node.specs.Stays.{IsSameRow, word_at, row_long, row_same, map_same}
 use Rattle.ca_node.specs.Reached.{linked_range, placed_linked, item_linked}
@@ -83,7 +83,7 @@ mark_of words place its m = ⊎_elim
 
 -- A mark stays one, where no pass's sequence falls, nor the attempt of the route above.
 pub mark_stays : (words others : List ℕ) (place : Place) (its : List ℕ)
-    → ((pass : ℕ) → 0 < pass → pass ≤ 64 → result_of words pass ≤ result_of others pass)
+    → ((pass : ℕ) → 0 < pass → pass ≤ 64 → result_of words pass / sequence_unit ≤ result_of others pass / sequence_unit)
     → ((route : ℕ) → IsLinkOf route place.link → get_or words (row_words * route + 3) 0 ≤ get_or others (row_words * route + 3) 0)
     → IsMarkIn words place its → IsMarkIn others place its
 mark_stays words others place its ranges joins m = ⊎_elim
@@ -107,14 +107,33 @@ link_route role link route is of = ⊎_elim
     (t.1, t.2, sym (ap role same) ∙ t.3))
     is
 
+-- The row stays one that says up to where the range goes that marked a base, where its words and those of the base are the same, and no range becomes
+-- active.
+pub bounded_stays : (rows : ℕ) (words others : List ℕ) (base : ℕ) → row_at others base ≡ row_at words base
+    → ((pass number : ℕ) → IsActive others pass number → IsActive words pass number)
+    → ((border : ℕ) → IsBoundOf words base border → row_at others border ≡ row_at words border)
+    → ((border : ℕ) → IsBoundOf words base border → IsBorder rows words (mark_owner (row_at words base)) border)
+    → (border : ℕ) → IsBoundOf others base border → IsBorder rows others (mark_owner (row_at others base)) border
+bounded_stays rows words others base e active same was border b =
+    let c = subst (λ its. (mark its ≡ 1) × IsActive others (mark_owner its) (mark_number its) × (mark_bound its ≡ border)) e b in
+    let before : IsBoundOf words base border = (c.0, active (mark_owner (row_at words base)) (mark_number (row_at words base)) c.1, c.2) in
+    let w = was border before in record {
+      some_row = w.some_row;
+      in_range = w.in_range;
+      is_border = subst IsBorderRow (sym (same border before)) w.is_border;
+      owner = ap (λ its. get_or its 1 0) (same border before) ∙ (w.owner ∙ ap mark_owner (sym e));
+    }
+
 -- A base is one in other words, under other roles and for another map, if its words and those of its objects are the same, it is under its
--- link, which is one of the tree, the map has the same for it, and a mark on it stays one.
+-- link, which is one of the tree, the map has the same for it, a mark on it stays one, no range becomes active, and the row that says up to where the
+-- range goes that marked it has the same words.
 pub base_stands : (z : Sizes) (words others : List ℕ) (role role' : ℕ → Role) (m n : StoreMap) (place : Place) (row : ℕ)
     → IsBaseAt z words role m place row → row_at others row ≡ row_at words row
     → ((r : ℕ) → IsIn r (items (row_at words row)) → row_at others r ≡ row_at words r) → get_or others place.link 0 ≡ row → IsLink role' place.link
     → part place.span n ≡ part place.span m → (IsMarkIn words place (row_at words row) → IsMarkIn others place (row_at words row))
-    → IsBaseAt z others role' n place row
-base_stands z words others role role' m n place row b e same under is parts marks = record {
+    → ((pass number : ℕ) → IsActive others pass number → IsActive words pass number)
+    → ((border : ℕ) → IsBoundOf words row border → row_at others border ≡ row_at words border) → IsBaseAt z others role' n place row
+base_stands z words others role role' m n place row b e same under is parts marks active ends = record {
   some_row = b.some_row;
   in_range = b.in_range;
   under = under;
@@ -124,6 +143,7 @@ base_stands z words others role role' m n place row b e same under is parts mark
   level_is = subst (λ its. level its ≡ place.level) (sym e) b.level_is;
   few = subst (λ its. count its ≤ z.leaf) (sym e) b.few;
   marked = subst (IsMarkIn others place) (sym e) (marks b.marked);
+  bounded = bounded_stays z.rows words others row e active ends b.bounded;
   are_objects = λ r i. let was = subst (λ its. IsIn r (items its)) e i in let o = b.are_objects r was in
       (o.0, o.1, subst IsObjectRow (sym (same r was)) o.2);
   headed = heads_same words others row e same b.headed;
@@ -154,9 +174,11 @@ route_stands z words others role role' place key row r wide wide' same under is 
   right = right;
 }
 
--- Two tables that agree on the root link, on the words of ranges and on each linked row have the same shape.
+-- Two tables that agree on the root link and on each linked row, where no pass's sequence falls and no range becomes active, have the same shape.
 module _ (z : Sizes) (words others : List ℕ) (role : ℕ → Role) (m : StoreMap) (shape : IsShape z words role m) (wide : IsWide z.rows others)
-    (same_root : root others ≡ root words) (ranges : (pass : ℕ) → 0 < pass → pass ≤ 64 → result_of others pass ≡ result_of words pass)
+    (same_root : root others ≡ root words)
+    (sequences : (pass : ℕ) → 0 < pass → pass ≤ 64 → result_of words pass / sequence_unit ≤ result_of others pass / sequence_unit)
+    (active : (pass number : ℕ) → IsActive others pass number → IsActive words pass number)
     (same : (row : ℕ) → IsLinked words row → IsSameRow words others row) where
   -- A linked row has the same words.
   its_same : (row : ℕ) → IsLinked words row → row_at others row ≡ row_at words row
@@ -187,7 +209,7 @@ module _ (z : Sizes) (words others : List ℕ) (role : ℕ → Role) (m : StoreM
 
   -- A mark at a place of the tree stays one.
   marks : (place : Place) (its : List ℕ) → IsLink role place.link → IsMarkIn words place its → IsMarkIn others place its
-  marks place its is = mark_stays words others place its (λ pass lo hi. let e = ranges pass lo hi in omega arith)
+  marks place its is = mark_stays words others place its sequences
       (λ route of. let t = link_route role place.link route is of in let e = same route (placed route t.0 (ap place_of t.2)) 3 (omega arith) in omega arith)
 
   -- Each row is what it was.
@@ -195,7 +217,8 @@ module _ (z : Sizes) (words others : List ℕ) (role : ℕ → Role) (m : StoreM
   so row Out e s = tt
   so row (Base place) e s = base_stands z words others role role m m place row s (its_same row (placed row place (ap place_of e)))
       (λ r i. its_same r (item_linked z words role m shape row place e r i)) (link_same place.link s.is_link ∙ s.under) s.is_link refl
-      (marks place (row_at words row) s.is_link)
+      (marks place (row_at words row) s.is_link) active
+      (λ border b. its_same border (by_range row border (placed row place (ap place_of e)) s.is_base b))
   so row (Route place key) e s = route_stands z words others role role place key row s shape.wide wide
       (λ k l _ _. same row (placed row place (ap place_of e)) k l) (link_same place.link s.is_link ∙ s.under) s.is_link (shape.idle row place key e)
       (lead_same (row_words * row + 1) (place.level + 1) (left_of key place.span) (inr (row, place, key, e, inl refl)) s.left)
@@ -208,7 +231,6 @@ module _ (z : Sizes) (words others : List ℕ) (role : ℕ → Role) (m : StoreM
     top = lead_same root_word 0 all_keys (inl refl) shape.top;
     each_row = λ row. so row (role row) refl (shape.each_row row);
     apart = shape.apart;
-    quiet = λ pass sequence x. shape.quiet pass sequence (x.0, x.1, sym (ranges pass x.0 x.1) ∙ x.2);
     idle = λ route place key e. ap (λ its. join_word its % 4) (its_same route (placed route place (ap place_of e))) ∙ shape.idle route place key e;
   }
 
@@ -219,5 +241,5 @@ module _ (z : Sizes) (words : List ℕ) (role : ℕ → Role) (m n : StoreMap) (
   so_too : (row : ℕ) (is : Role) → role row ≡ is → IsSo z words role m row is → IsSo z words role n row is
   so_too row Out e s = tt
   so_too row (Base place) e s = base_stands z words words role role m n place row s refl (λ r i. refl) s.under s.is_link (parts row place e)
-      (λ k. k)
+      (λ k. k) (λ pass number x. x) (λ border b. refl)
   so_too row (Route place key) e s = s

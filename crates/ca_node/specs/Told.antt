@@ -1,5 +1,5 @@
 -- What each step of the tree tells.
-use Rattle.std.specs.Prelude.{◌≡◌, ◌≢◌, ◌⊎◌, None, Bool, true, false, ℕ, ◌+◌, ◌*◌, ◌<◌, ◌≤◌, max, List, [], ◌∷◌, ◌++◌, length, map, take, drop, nat_lt, cond, slice_index, slice_index_or}
+use Rattle.std.specs.Prelude.{◌≡◌, ◌≢◌, ◌==◌, ◌⊎◌, None, Bool, true, false, ℕ, ◌+◌, ◌-◌, ◌*◌, ◌/◌, ◌%◌, ◌<◌, ◌≤◌, max, List, [], ◌∷◌, ◌++◌, length, map, take, drop, nat_lt, cond, slice_index, slice_index_or}
 use mathlib.Core.Option.{some, none}
 use lib.ListN.{get_elem?}
 use Rattle.atomic_table.specs.Table.{Step}
@@ -9,7 +9,7 @@ use Rattle.ca_model.specs.declared.outcome.Cause.{Cause}
 use Rattle.ca_model.specs.Known.{Counts, one_more}
 use Rattle.ca_model.specs.Lawful.{IsLawful}
 use Rattle.ca_rows.specs.declared.sizes.Sizes.{Sizes}
-use Rattle.ca_rows.specs.declared.view.Claim.TheVariants.{Holds, Unlinked}
+use Rattle.ca_rows.specs.declared.view.Claim.TheVariants.{Holds, Lends, Unlinked}
 use Rattle.ca_rows.specs.declared.view.Claimed.{Claimed}
 use Rattle.ca_rows.specs.Claims.{claim_of, claimed, dropped}
 use Rattle.ca_rows.specs.Rule.{fresh, no_sizes}
@@ -19,14 +19,16 @@ use Rattle.ca_node.specs.Inventory.{AreOnce, but, but_all, row_itself, row_of_ba
 use Rattle.ca_node.specs.Links.{IsIn}
 use Rattle.ca_node.specs.declared.link.Link.{Link}
 use Rattle.ca_node.specs.declared.link.Link.TheVariants as link
+use Rattle.ca_node.specs.declared.range_state.RangeState.{RangeState}
+use Rattle.ca_node.specs.declared.range_state.RangeState.TheVariants.{Idle, Active, Decided}
 use Rattle.ca_node.specs.Marks.{IsMark}
 use Rattle.ca_node.specs.Place.{Span, all_keys, left_of, right_of, HasKey, Place, left_place, right_place, edit_key}
-use Rattle.ca_node.specs.Row.{IsObjectRow, IsBaseRow, IsRouteRow, count, level, items, IsUnmarked, IsIdle, key, route_key, pair, IsHeaded}
+use Rattle.ca_node.specs.Row.{IsObjectRow, IsBaseRow, IsRouteRow, count, level, items, mark, mark_owner, mark_number, IsUnmarked, IsIdle, key, route_key, pair, IsHeaded}
 use Rattle.ca_node.specs.States.{HasState, IsAlone, IsReadAt}
 use Rattle.ca_node.specs.Tree.{ArePast, IsFixed}
-use Rattle.ca_node.specs.TreeView.{Note, Way, Renewal, Division, Inventory, TreeView, blank, no_note, one_passed}
-use Rattle.ca_rows.specs.Layout.{row_words}
-use Rattle.ca_node.specs.Layout.{root_word}
+use Rattle.ca_node.specs.TreeView.{Note, Way, Over, Renewal, Division, Inventory, TreeView, blank, no_note, one_passed}
+use Rattle.ca_rows.specs.Layout.{row_words, pass_words, row_limit}
+use Rattle.ca_node.specs.Layout.{root_word, sequence_unit}
 
 abbrev pub MyTree : Type 0
 MyTree = Mine TreeView
@@ -154,6 +156,31 @@ IsShownRoute u row its = (way : Way) × IsIn way u.ways × (way.row ≡ row) × 
 abbrev pub IsShownWord : TreeView → ℕ → ℕ → ℕ → Type 0
 IsShownWord u row index word = (its : List ℕ) × (IsShown u row its ⊎ (IsShownRoute u row its × IsFixed index)) × (word ≡ slice_index its index)
 
+-- the word that says how far the last range of a pass is
+abbrev pub status_word : Sizes → ℕ → ℕ
+status_word z pass = row_words * z.rows + row_words + pass_words * pass - pass_words + 1
+
+-- how far a range is, by that word: 1 in its state is an active one, 2 one that was decided with the base that the word names
+abbrev pub status_of : ℕ → RangeState
+status_of word = cond (word % sequence_unit == row_limit) (Active (word / sequence_unit))
+    (cond (word / row_limit % 4 == 2) (Decided (word / sequence_unit) (word % row_limit)) (Idle (word / sequence_unit)))
+
+-- The ranges of the pass that are over, by that word: all that were begun, but for the last one while it is active.
+abbrev pub over_by : ℕ → ℕ → Over
+over_by pass word = record { pass = pass; below = cond (word % sequence_unit == row_limit) (word / sequence_unit) (word / sequence_unit + 1) }
+
+-- what a seat knows after it loaded that word
+abbrev pub watched : TreeView → ℕ → ℕ → TreeView
+watched u pass word = record u { ranges = record u.ranges { over = over_by pass word ∷ u.ranges.over } }
+
+-- The word of a pass's last range was loaded. Each range of the pass that marked a base that was shown had begun.
+pub record HasWatched (pass : ℕ) (m : MyTree) (n : ℕ) (m' : MyTree) : Type 0 where
+  pub now : m' ≡ with_upper m (watched m.0.upper pass n)
+  pub begun : (note : Note) → IsIn note m.0.upper.notes → mark note.its ≡ 1 → mark_owner note.its ≡ pass → mark_number note.its ≤ n / sequence_unit
+
+abbrev pub Watches : Step (Unit {0}) → MyTree → ℕ → MyTree → Type 0
+Watches st m n m' = (pass : ℕ) × (0 < pass) × (st.word ≡ status_word m.0.sizes pass) × HasWatched pass m n m'
+
 -- A word of a row was loaded: where it was shown, it is the word that was shown.
 abbrev pub IsRead : TreeView → ℕ → ℕ → Type 0
 IsRead u place n = (row index word : ℕ) → place ≡ row_words * row + index → index < row_words → IsShownWord u row index word → n ≡ word
@@ -202,6 +229,11 @@ given (row ∷ rows) claims = dropped row (given rows claims)
 abbrev pub taken_out : List ℕ → List Claimed → List Claimed
 taken_out [] claims = claims
 taken_out (row ∷ rows) claims = claimed row Unlinked (taken_out rows claims)
+
+-- the claims once these rows are lent to an operation
+abbrev pub lent_out : List ℕ → List Claimed → List Claimed
+lent_out [] claims = claims
+lent_out (row ∷ rows) claims = claimed row Lends (lent_out rows claims)
 
 -- The object row with these words was named by the old base, or is one that the seat holds.
 abbrev pub IsObjectOf : MyTree → Update → ℕ → List ℕ → Type 0
@@ -255,13 +287,17 @@ renewed_by met u new x = record {
   met = met;
 }
 
+-- what the tree has after the exchange by which a base takes the place of another one, and these rows are lent to an operation
+abbrev pub exchanged_inventory : List ℕ → ℕ → Update → Inventory → Inventory
+exchanged_inventory served new x i = record {
+  rows = (served ++ new ∷ x.comes) ++ but_all row_itself (x.old.row ∷ x.goes) i.rows;
+  bases = (new, x.old.place) ∷ but row_of_base x.old.row i.bases;
+  most = max i.most (length ((served ++ new ∷ x.comes) ++ but_all row_itself (x.old.row ∷ x.goes) i.rows));
+}
+
 -- what the tree has after the update
 abbrev pub updated_inventory : ℕ → Update → Inventory → Inventory
-updated_inventory new x i = record {
-  rows = new ∷ x.comes ++ but_all row_itself (x.old.row ∷ x.goes) i.rows;
-  bases = (new, x.old.place) ∷ but row_of_base x.old.row i.bases;
-  most = max i.most (length (new ∷ x.comes ++ but_all row_itself (x.old.row ∷ x.goes) i.rows));
-}
+updated_inventory new x i = exchanged_inventory [] new x i
 
 -- what a seat knows after it carried out the update, given what it had met of the pool: its edit is the last one of the history
 abbrev pub updated : Met → TreeView → History → ℕ → Update → TreeView
@@ -395,18 +431,3 @@ learnt u v = record u { seen = longer u.seen v.seen }
 -- A front's half knows a history and nothing else.
 abbrev pub IsFront : MyTree → Type 0
 IsFront m = m ≡ (fresh no_sizes 0 (front_of m.0.upper), [])
-
--- All that a load may tell of the tree: that of a link, that of a word that was shown, and the ends of calls, which edit nothing or are refused. No load
--- counts a lost exchange, a split or an update.
-abbrev pub MayLoad : Step (Unit {0}) → MyTree → ℕ → MyTree → Type 0
-MayLoad st m n m' = ((walks : Bool) × Leads walks st m n m') ⊎ (Reads st m n m' ⊎ (((event : Event) × ReadsLast event st m n m')
-    ⊎ ((rise : Counts → Counts) × IsRise rise × Refuses rise st m n m')))
-
--- The exchange is about the base that the seat's last load of that link showed: it expects its row, at the link where it hung.
-abbrev pub IsShownLast : TreeView → Step (Unit {0}) → Note → Type 0
-IsShownLast u st note = IsLastThere note u.notes × (st.first ≡ note.row) × (st.word ≡ note.place.link)
-
--- All that an exchange may tell: an update or a split, or one exchange more that was lost.
-abbrev pub MaySwap : Step (Unit {0}) → MyTree → ℕ → MyTree → Type 0
-MaySwap st m n m' = ((x : Update) × IsShownLast m.0.upper st x.old × Updates x st m n m')
-    ⊎ ((x : Division) × IsShownLast m.0.upper st x.old × Divides x st m n m')

@@ -1,5 +1,5 @@
 -- The rule of the tree, which holds between any two steps.
-use Rattle.std.specs.Prelude.{◌≡◌, ◌≢◌, ◌⊎◌, ℕ, ◌+◌, ◌*◌, ◌<◌, ◌≤◌, List, [], ◌∷◌, ◌++◌, length, map, slice_index}
+use Rattle.std.specs.Prelude.{◌≡◌, ◌≢◌, ◌⊎◌, ℕ, ◌+◌, ◌*◌, ◌<◌, ◌≤◌, List, [], ◌∷◌, ◌++◌, length, slice_index}
 use mathlib.Core.Option.{some}
 use lib.ListN.{get_elem?}
 use Rattle.ca_model.specs.Event.{Entry}
@@ -8,10 +8,12 @@ use Rattle.ca_model.specs.Lawful.{IsLawful}
 use Rattle.ca_rows.specs.declared.sizes.Sizes.{Sizes}
 use Rattle.ca_rows.specs.Opening.{AreUsable}
 use Rattle.ca_node.specs.Inventory.{IsInventory}
-use Rattle.ca_node.specs.Links.{IsIn}
+use Rattle.ca_node.specs.Links.{IsIn, IsActive}
 use Rattle.ca_node.specs.Place.{IsLinkOf}
-use Rattle.ca_node.specs.Row.{row_at, IsObjectRow, IsBaseRow, items, route_key}
-use Rattle.ca_node.specs.Shape.{Role, Out, Base, Route, IsShape}
+use Rattle.ca_node.specs.Ranging.{AreRanged}
+use Rattle.ca_node.specs.Row.{route_key}
+use Rattle.ca_node.specs.Shape.{Role, Route, IsShape}
+pub use Rattle.ca_node.specs.True.{IsTrue}
 use Rattle.ca_node.specs.TreeView.{Note, Way, Inventory, Ended, TreeView, first_inventory}
 use Rattle.ca_rows.specs.Layout.{row_words}
 use Rattle.ca_node.specs.Layout.{root_word}
@@ -27,15 +29,6 @@ ArePast place (entry ∷ log) = (entry.1 ≤ place) × ArePast place log
 -- The seat remembers the route whose link this is, or it is the root link.
 abbrev pub IsLinkOfView : TreeView → ℕ → Type 0
 IsLinkOfView u link = (link ≡ root_word) ⊎ ((way : Way) × IsIn way u.ways × IsLinkOf way.row link)
-
--- The row has the words that the note says, and so have the object rows that it names. It hangs where it hung, or isn't in the tree any more.
-pub record IsTrue (rows : ℕ) (words : List ℕ) (role : ℕ → Role) (note : Note) : Type 0 where
-  pub some_row : 0 < note.row
-  pub in_range : note.row ≤ rows
-  pub spells : row_at words note.row ≡ note.its
-  pub named : IsBaseRow note.its → (r : ℕ) → IsIn r (items note.its) → (0 < r) × (r ≤ rows) × IsObjectRow (row_at words r)
-  pub objects_are : IsBaseRow note.its → map (λ r. row_at words r) (items note.its) ≡ note.objects
-  pub stands : (role note.row ≡ Base note.place) ⊎ (role note.row ≡ Out)
 
 -- The word of a row is neither one of a route's links nor its join word.
 abbrev pub IsFixed : ℕ → Type 0
@@ -86,6 +79,9 @@ pub record IsTree (z : Sizes) (made : ℕ) (words : List ℕ) (uppers : List Tre
   pub levels : slice_index words 133 ≡ z.levels
   pub role : ℕ → Role
   pub shape : IsShape z words role (after history [])
+  pub ranged : AreRanged z made words role uppers history
+  -- So far no range is begun.
+  pub quiet : (pass number : ℕ) → ¬ IsActive words pass number
   pub each_seat : (j : ℕ) (u : TreeView) → get_elem? uppers j ≡ some u → Knows z.rows made words role uppers history j u
   -- What the tree has is listed. Until a pass was made that is what it has at first, and a pass that is the only one knows the list.
   pub inventory : Inventory

@@ -1,6 +1,7 @@
 -- What a seat knows of the tree. It is data of proofs alone: lists, since a function is no value.
 use Rattle.std.specs.Prelude.{ℕ, ◌+◌, List, [], ◌∷◌, None}
 use Prim.Native.Nat.{zero, suc}
+use Rattle.ca_model.specs.Edges.{Bound, Unbounded}
 use Rattle.ca_model.specs.Event.{Entry}
 use Rattle.ca_model.specs.History.{History}
 use Rattle.ca_model.specs.Known.{Counts}
@@ -67,6 +68,42 @@ pub record Turns : Type 0 where
   pub passed : ℕ
   pub helped : ℕ
 
+-- The ranges of a pass whose numbers are less than this one, of which it is known that they are over: each was decided, or given up.
+pub record Over : Type 0 where
+  pub pass : ℕ
+  pub below : ℕ
+
+-- A row that says up to where a range goes, with its words. They stay as long as the pass remembers it.
+pub record Border : Type 0 where
+  pub row : ℕ
+  pub its : List ℕ
+
+-- a range that a pass began: its number, from where on it wants keys, and the row that says up to where
+pub record Begun : Type 0 where
+  pub number : ℕ
+  pub edge : Bound
+  pub top : ℕ
+
+abbrev pub no_border : Border
+no_border = record { row = 0; its = [] }
+
+abbrev pub none_begun : Begun
+none_begun = record { number = 0; edge = Unbounded; top = 0 }
+
+-- How far the last range of a pass is: it is over, or there was none; it was begun, and nothing is marked; something was marked, with the row that says up
+-- to where it goes, and others may have ended it since; or the pass unpinned before it was over, and nothing is said of it.
+pub data Ranging : Type 0 where
+  Quiet : Ranging
+  Unmarked : Begun → Ranging
+  Marking : Begun → Border → Ranging
+  Left : Ranging
+
+-- What a seat knows of ranges: some that are over, some rows that say up to where one goes, and how far its own last one is.
+pub record KnownRanges : Type 0 where
+  pub over : List Over
+  pub borders : List Border
+  pub own : Ranging
+
 pub record TreeView : Type 0 where
   -- the number of its pass; 0 of a seat that is no pass's
   pub number : ℕ
@@ -79,6 +116,7 @@ pub record TreeView : Type 0 where
   -- what it was shown since it was pinned
   pub notes : List Note
   pub ways : List Way
+  pub ranges : KnownRanges
   -- how many links it loaded, and how many splits and joins it carried out
   pub loads : ℕ
   pub splits : ℕ
@@ -110,9 +148,16 @@ no_refusals = record { busy = 0; full = 0; deep = 0; worn = 0; last = None }
 abbrev pub no_turns : Turns
 no_turns = record { passed = 0; helped = 0 }
 
+abbrev pub no_ranges : KnownRanges
+no_ranges = record { over = []; borders = []; own = Quiet }
+
 -- one turn more, by which a seat passed on
 abbrev pub one_passed : Turns → Turns
 one_passed turns = record turns { passed = turns.passed + 1 }
+
+-- one operation more that a seat helped to its end
+abbrev pub one_helped : Turns → Turns
+one_helped turns = record turns { helped = turns.helped + 1 }
 
 -- what the tree has at first: row 1, a base
 abbrev pub first_inventory : Inventory
@@ -128,6 +173,7 @@ blank number = record {
   counts = no_refusals;
   notes = [];
   ways = [];
+  ranges = no_ranges;
   loads = 0;
   splits = 0;
   joins = 0;
@@ -153,9 +199,16 @@ and_ended (suc before) x xs = x ∷ xs
 abbrev pub ended_with : TreeView → TreeView → TreeView
 ended_with u w = record u { ended = and_ended w.number (ended_of w) u.ended }
 
+-- a range that isn't over as its pass unpins is left to others
+abbrev pub left_over : Ranging → Ranging
+left_over Quiet = Quiet
+left_over (Unmarked begun) = Left
+left_over (Marking begun border) = Left
+left_over Left = Left
+
 -- It is pinned, or not any more.
 abbrev pub pinned : TreeView → TreeView
-pinned u = record u { since = u.seen }
+pinned u = record u { since = u.seen; ranges = record { over = u.ranges.over; borders = u.ranges.borders; own = left_over u.ranges.own } }
 
 abbrev pub unpinned : TreeView → TreeView
-unpinned u = record u { notes = []; ways = [] }
+unpinned u = record u { notes = []; ways = []; ranges = record { over = []; borders = []; own = left_over u.ranges.own } }

@@ -9,7 +9,10 @@ mod handed;
 mod handing;
 mod layout;
 mod link;
+mod marking;
 mod plays;
+mod range_state;
+mod ranges;
 mod rule;
 mod steps;
 mod tallying;
@@ -24,7 +27,10 @@ pub use layout::{
     BASE, BASE_FORM, CODE, ITEMS, KEY, OBJECT, OBJECT_FORM, PREFIX, PREFIX_LENGTH, ROUTE,
 };
 pub use link::Link;
-pub use plays::{Intent, Plan};
+pub use marking::{mark_first, mark_next};
+pub use plays::{Finishing, Intent, Marking, Plan};
+pub use range_state::RangeState;
+pub use ranges::{decide_for, load_status};
 pub use rule::{TreePass, TreeRule, TreeSpace};
 pub use steps::{load_link, load_word, replace_link};
 pub use tallying::adapted;

@@ -1,7 +1,10 @@
 //! What each step of the tree tells.
-ghost use Rattle.std.specs.Prelude.{true, false};
-ghost use Rattle.ca_node.specs.Told.{Leads, Reads, Update, Updates, no_update, Divides, no_division, front_of, learnt};
-ghost use Rattle.ca_node.specs.TreeView.{blank, Division};
+ghost use Rattle.std.specs.Prelude.{ℕ, List, [], ◌∷◌, true, false};
+ghost use Rattle.ca_node.specs.Copies.{Copy, no_copy, Copies, marking_now};
+ghost use Rattle.ca_node.specs.Endings.{Helps};
+ghost use Rattle.ca_node.specs.Row.{mark_bound};
+ghost use Rattle.ca_node.specs.Told.{Leads, Reads, Watches, Update, Updates, no_update, Divides, no_division, front_of, learnt};
+ghost use Rattle.ca_node.specs.TreeView.{blank, no_note, no_border, none_begun, Note, Border, Begun, Division};
 ghost use Rattle.ca_rows.specs.Closed.{joined};
 ghost use Rattle.ca_rows.specs.Rule.{fresh, no_sizes};
 
@@ -29,6 +32,83 @@ pub struct Read;
 
 impl Play<(), View<Knowledge>> for Read {
     ghost then = { Reads };
+}
+
+/// A load of the word that says how far the last range of a pass is.
+pub struct Watch;
+
+impl Play<(), View<Knowledge>> for Watch {
+    ghost then = { Watches };
+}
+
+/// Which base a step marks for a range: the copy that takes its place, the range as it was begun and the words of the row that says up to where it goes, and
+/// the base that the range marked before. It exists in proofs alone.
+pub trait Marking {
+    ghost copy: { Copy };
+
+    ghost begun: { Begun };
+
+    ghost border: { List ℕ };
+
+    ghost left: { Note };
+}
+
+impl Marking for Brand {
+    ghost copy = { no_copy };
+
+    ghost begun = { none_begun };
+
+    ghost border = { [] };
+
+    ghost left = { no_note };
+}
+
+/// The exchange of a link that marks the first base of the pass's own range.
+pub struct MarkFirst<K> {
+    marking: PhantomData<K>,
+}
+
+impl<K: Marking> Play<(), View<Knowledge>> for MarkFirst<K> {
+    ghost then = { λ st m n m'. Copies (K.begun.top ∷ []) (marking_now m.0.upper.ranges K.begun K.border) K.copy st m n m' };
+}
+
+/// The exchange of a link that marks the next base of a range.
+pub struct MarkNext<K> {
+    marking: PhantomData<K>,
+}
+
+impl<K: Marking> Play<(), View<Knowledge>> for MarkNext<K> {
+    ghost then = { λ st m n m'. Copies [] m.0.upper.ranges K.copy st m n m' };
+}
+
+/// Which range a step ends, by its pass and its number, with which base, and the row that says up to where it goes. It exists in proofs alone.
+pub trait Finishing {
+    ghost pass: { ℕ };
+
+    ghost number: { ℕ };
+
+    ghost last: { Note };
+
+    ghost border: { Border };
+}
+
+impl Finishing for Brand {
+    ghost pass = { 0 };
+
+    ghost number = { 0 };
+
+    ghost last = { no_note };
+
+    ghost border = { no_border };
+}
+
+/// The exchange that decides another pass's range.
+pub struct Help<K> {
+    ending: PhantomData<K>,
+}
+
+impl<K: Finishing> Play<(), View<Knowledge>> for Help<K> {
+    ghost then = { λ st m n m'. Helps K.pass K.number (mark_bound K.last.its) st m n m' };
 }
 
 /// The step that makes a front.

@@ -5,7 +5,7 @@ use Rattle.ca_base.specs.Taking.{AreHeld}
 use Rattle.ca_node.specs.Laws.{starts_whole}
 use Rattle.ca_node.specs.Tallied.{IsTallied}
 use Rattle.ca_node.specs.Told.{MyTree, IsKnown}
-use Rattle.ca_node.specs.TreeView.{Note, Way, TreeView, pinned, unpinned}
+use Rattle.ca_node.specs.TreeView.{Note, Way, TreeView, pinned, unpinned, KnownRanges}
 use Rattle.ca_node.proofs.Tallies.{tallied_still}
 use Rattle.ca_replace.specs.Attempting.{at_pin}
 use Rattle.ca_replace.specs.Between.{GoesOn, MayBegin}
@@ -62,14 +62,14 @@ anew m k n told moment out in_ = subst (λ (x : MyTree). n ≡ announced told mo
 
 module _ {R : Type 0} (space : Space R TreeView) (pass new : Pass R TreeView) where
   -- A pass that pinned may begin an attempt, at the root.
-  pub may_pinned : (key : List ℕ) (pin : Pin) (notes : List Note) (ways : List Way)
+  pub may_pinned : (key : List ℕ) (pin : Pin) (notes : List Note) (ways : List Way) (ranges : KnownRanges)
       → IsOn space pass → IsNumbered pass.number pass.seat.me.0.pin → 0 < pass.seat.me.0.upper.number
       → AreHeld space.table.shared.key.rows pass.kept.rows pass.seat.me.0 [] → IsKnown space.table.shared.key pass.seat.me.0.upper
       → IsTallied pass.tally pass.seat.me.0.upper → IsSame pass.seat new.seat → new.number ≡ pass.number
       → new.kept ≡ pass.kept → new.tally ≡ pass.tally → pin.pinned ≡ true
       → pin.number ≡ pass.seat.me.0.pin.number
-      → new.seat.me ≡ moved pass.seat.me pin pass.seat.me.0.upper.seen notes ways → MayBegin space key None new
-  may_pinned key pin notes ways own numbered some none known tallied same number kept tally is_pinned
+      → new.seat.me ≡ moved pass.seat.me pin pass.seat.me.0.upper.seen notes ways ranges → MayBegin space key None new
+  may_pinned key pin notes ways ranges own numbered some none known tallied same number kept tally is_pinned
       pin_number is = let now : IsKnown space.table.shared.key new.seat.me.0.upper = subst
       (λ (x : MyTree). IsKnown space.table.shared.key x.0.upper) (sym is)
       record {
@@ -105,7 +105,8 @@ module _ {R : Type 0} (space : Space R TreeView) (pass new : Pass R TreeView) wh
       → new.tally ≡ pass.tally → new.seat.me ≡ announced told moment pass.seat.me
       → MayBegin space key None new
   may_first key told moment r same number kept tally is =
-      may_pinned key (announced told moment pass.seat.me).0.pin pass.seat.me.0.upper.notes pass.seat.me.0.upper.ways r.of
+      may_pinned key (announced told moment pass.seat.me).0.pin pass.seat.me.0.upper.notes pass.seat.me.0.upper.ways
+      (announced told moment pass.seat.me).0.upper.ranges r.of
       r.numbered (subst (λ n. 0 < n) (sym r.same_number) r.numbered.1)
       (holds_none space.table.shared.table_id space.table.shared.key pass.number pass.kept.rows pass.seat r) r.known
       r.tallied same number kept tally refl refl is
@@ -116,7 +117,8 @@ module _ {R : Type 0} (space : Space R TreeView) (pass new : Pass R TreeView) wh
       → new.tally ≡ pass.tally → new.seat.me ≡ announced told moment (left pass.seat.me)
       → MayBegin space key None new
   may_anew key told moment may same number kept tally is =
-      may_pinned key (announced told moment (left pass.seat.me)).0.pin [] [] may.ready.own
+      may_pinned key (announced told moment (left pass.seat.me)).0.pin [] []
+      (announced told moment (left pass.seat.me)).0.upper.ranges may.ready.own
       may.ready.numbered may.ready.number may.ready.none may.known may.tallied same number kept
       tally refl refl is
 
@@ -125,14 +127,15 @@ module _ {R : Type 0} (space : Space R TreeView) (pass new : Pass R TreeView) wh
       → IsSame pass.seat new.seat → new.number ≡ pass.number
       → new.seat.me ≡ announced told moment (left pass.seat.me) → GoesOn pass new
   goes_anew key told moment may same number is = let pin = (announced told moment (left pass.seat.me)).0.pin in
-      let seen = pass.seat.me.0.upper.seen in record {
+      let seen = pass.seat.me.0.upper.seen in
+      let ranges = (announced told moment (left pass.seat.me)).0.upper.ranges in record {
         same = same;
         number = number;
         sizes = ap (λ (x : MyTree). x.0.sizes) is;
         pin_number = ap (λ (x : MyTree). x.0.pin.number) is;
-        quiet = moved_quiet pass.seat.me new.seat.me pin seen [] [] is;
+        quiet = moved_quiet pass.seat.me new.seat.me pin seen [] [] ranges is;
         seen = ap (λ (x : MyTree). x.0.upper.seen) is;
-        further = moved_further pass.seat.me new.seat.me pin seen [] [] is;
+        further = moved_further pass.seat.me new.seat.me pin seen [] [] ranges is;
         since = subst
             (λ (x : MyTree). IsFurther (at_pin pass.seat.me.0.upper) (at_pin x.0.upper)) (sym is)
             record { number = refl; seen = may.asking.before; log = refl; counts = refl };
@@ -167,8 +170,8 @@ goes_still pass same = let u = pass.seat.me.0.upper in record {
 }
 
 -- What was seen as the pass pinned is what had been seen before.
-pub first_since : (k m : MyTree) (pin : Pin) (notes : List Note) (ways : List Way)
-    → m ≡ moved k pin k.0.upper.seen notes ways → IsFurther k.0.upper (at_pin m.0.upper)
-first_since k m pin notes ways is = subst
+pub first_since : (k m : MyTree) (pin : Pin) (notes : List Note) (ways : List Way) (ranges : KnownRanges)
+    → m ≡ moved k pin k.0.upper.seen notes ways ranges → IsFurther k.0.upper (at_pin m.0.upper)
+first_since k m pin notes ways ranges is = subst
     (λ (x : MyTree). IsFurther k.0.upper (at_pin x.0.upper)) (sym is)
     record { number = refl; seen = starts_whole k.0.upper.seen; log = refl; counts = refl }

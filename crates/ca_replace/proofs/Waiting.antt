@@ -11,7 +11,7 @@ use Rattle.ca_model.specs.History.{History}
 use Rattle.ca_node.specs.Laws.{starts_whole}
 use Rattle.ca_node.specs.States.{IsAlone}
 use Rattle.ca_node.specs.Told.{MyTree, IsKnown}
-use Rattle.ca_node.specs.TreeView.{Note, Way, TreeView, unpinned}
+use Rattle.ca_node.specs.TreeView.{Note, Way, TreeView, unpinned, KnownRanges}
 use Rattle.ca_replace.specs.declared.adapting.Adapting.{Adapting}
 use Rattle.ca_replace.specs.declared.adapting.Course.{Course}
 use Rattle.ca_replace.specs.declared.attempting.Halt.{Halt}
@@ -45,19 +45,19 @@ pub record IsWaiting (z : Sizes) (adds : Option (List ℕ)) (a b : Course) (k m 
   pub full : HasCutFull z adds k.0.upper m.0.upper
 
 -- what a seat knows whose pin changed, and what it remembers since then
-abbrev pub moved : MyTree → Pin → History → List Note → List Way → MyTree
-moved m pin since notes ways = (
+abbrev pub moved : MyTree → Pin → History → List Note → List Way → KnownRanges → MyTree
+moved m pin since notes ways ranges = (
   record m.0 {
     pin = pin;
-    upper = record m.0.upper { since = since; notes = notes; ways = ways };
+    upper = record m.0.upper { since = since; notes = notes; ways = ways; ranges = ranges };
   },
   m.1,
 )
 
 -- It met nothing by that.
 pub moved_quiet : (m m' : MyTree) (pin : Pin) (since : History) (notes : List Note)
-    (ways : List Way) → m' ≡ moved m pin since notes ways → IsQuiet m m'
-moved_quiet m m' pin since notes ways is = subst (IsQuiet m) (sym is) record {
+    (ways : List Way) (ranges : KnownRanges) → m' ≡ moved m pin since notes ways ranges → IsQuiet m m'
+moved_quiet m m' pin since notes ways ranges is = subst (IsQuiet m) (sym is) record {
   lost = refl;
   met = none_met m;
   most = refl;
@@ -69,8 +69,8 @@ moved_quiet m m' pin since notes ways is = subst (IsQuiet m) (sym is) record {
 }
 
 pub moved_further : (m m' : MyTree) (pin : Pin) (since : History) (notes : List Note)
-    (ways : List Way) → m' ≡ moved m pin since notes ways → IsFurther m.0.upper m'.0.upper
-moved_further m m' pin since notes ways is = subst
+    (ways : List Way) (ranges : KnownRanges) → m' ≡ moved m pin since notes ways ranges → IsFurther m.0.upper m'.0.upper
+moved_further m m' pin since notes ways ranges is = subst
     (λ (x : MyTree). IsFurther m.0.upper x.0.upper) (sym is)
     record { number = refl; seen = starts_whole m.0.upper.seen; log = refl; counts = refl }
 
@@ -172,7 +172,7 @@ pub turn_unpinned : {T : Type 0} (edits : T → Bool) (z : Sizes) (adds : Option
     → IsTurn edits adds z t a b n.0.pin.left r k n
 turn_unpinned edits z adds t a b r k m n i is = let u = k.0.upper in let w = m.0.upper in
     let v = n.0.upper in let same = ap (λ (x : MyTree). x.0.upper) is in
-    let q = moved_quiet m n _ w.since [] [] is in record {
+    let q = moved_quiet m n _ w.since [] [] (unpinned w).ranges is in record {
       met_as = subst (λ (x : MyTree).
           IsCauseMetInAttempts edits b.adapting.last r x.0.pin.left x.0.upper) (sym is) i.met_as;
       gone_on = gone_unpinned edits z t a.adapting b.adapting r u w v same i.gone_on;

@@ -10,8 +10,8 @@ use crate::rule::RowRule;
 use crate::space::{Pass, Space};
 
 impl<R: RowRule> Space<R> {
-    // The first of the words that a pass has for itself.
-    pub(crate) fn own_word(&self, pass: u32) -> usize
+    /// The first of the words that a pass has for itself, which is its announcement. The second one says how far its last range is.
+    pub fn own_word(&self, pass: u32) -> usize
         requires { (0 < pass) × (pass ≤ 64) }
         ensures { result + pass_words ≡ row_words * (sizes self.now).rows + row_words + pass_words * pass }
     {

@@ -1,5 +1,5 @@
 -- What active ranges marked stays a run through each step that leaves it alone.
-use Rattle.std.proofs.Common.{◌≡◌, ℕ, List, [], ◌∷◌, sym, refl, ap, ◌∙◌, subst, inl, inr, ⊎_elim}
+use Rattle.std.proofs.Common.{◌≡◌, ◌≢◌, ℕ, List, [], ◌∷◌, sym, refl, ap, ◌∙◌, subst, inl, inr, ⊎_elim}
 use Rattle.ca_model.specs.Edges.{is_from}
 use Rattle.ca_runs.specs.Runs.{IsAmong, Mark, Span, Scene, IsMarked, Range, IsOfRange, IsRun, Ends, range_of, AreRuns}
 use Rattle.ca_runs.specs.Scenes.{Stays, Replaces}
@@ -64,11 +64,9 @@ pub replaced_stays : (s s' : Scene) (ends : ℕ → Ends) (old new : ℕ) → Ar
     → ((pass number : ℕ) → IsMarked s' new pass number → s.has_begun pass number × ¬ s.is_active pass number) → Stays s s'
 replaced_stays s s' ends old new runs t over = record {
   alike = t.alike;
-  stay = λ pass number row now base marked. (
-    t.others row base (λ e. t.free pass number now (subst (λ (x : ℕ). IsMarked s x pass number) e marked)),
-    t.keys row base,
-    t.marks row base,
-  );
+  stay = λ pass number row now base marked.
+      let other : row ≢ old = λ e. t.free pass number now (subst (λ (x : ℕ). IsMarked s x pass number) e marked) in
+      (t.others row base other, t.keys row base other, t.marks row base);
   begun = λ pass number row base marked. t.alike.begun pass number (⊎_elim
       (λ e. (over pass number (subst (λ (x : ℕ). IsMarked s' x pass number) e marked)).0)
       (λ w. runs.begun pass number row w.0 (marked_alike s' s row pass number (sym (t.marks row w.0)) marked))

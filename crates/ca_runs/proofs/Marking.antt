@@ -61,12 +61,9 @@ module _ (s s' : Scene) (ends : ℕ → Ends) (pass number old new : ℕ) (runs 
   old_run : (p n : ℕ) → s.is_active p n → (range : Range) → range.pass ≡ p → range.number ≡ n → (rows : List ℕ) → IsRun s range rows
       → IsRun s' range rows
   old_run p n now range is_pass is_number rows run = run_still s s' range rows
-      (λ row i o. (
-        t.others row o.is_base (λ e. t.free p n now (subst (λ (x : ℕ). IsMarked s x p n) e
-            (o.marked.0, o.marked.1 ∙ is_pass, o.marked.2 ∙ is_number))),
-        t.keys row o.is_base,
-        t.marks row o.is_base,
-      ))
+      (λ row i o. let other : row ≢ old = λ e. t.free p n now (subst (λ (x : ℕ). IsMarked s x p n) e
+      (o.marked.0, o.marked.1 ∙ is_pass, o.marked.2 ∙ is_number)) in
+      (t.others row o.is_base other, t.keys row o.is_base other, t.marks row o.is_base))
       run
 
   module _ (now : s.is_active pass number) where
@@ -105,7 +102,8 @@ module _ (s s' : Scene) (ends : ℕ → Ends) (pass number old new : ℕ) (runs 
           next.back,
           (
             next.beside.0,
-            ap (λ (x : Span). x.high) (t.keys left o.is_base) ∙ next.beside.1,
+            ap (λ (x : Span). x.high) (t.keys left o.is_base
+                (λ e. t.free pass number now (subst (λ (x : ℕ). IsMarked s x pass number) e next.marked))) ∙ next.beside.1,
             ap (λ (x : Span). x.low) t.same_keys ∙ next.beside.2,
           ),
           old_run pass number now this refl refl (left ∷ rest) was,

@@ -27,7 +27,7 @@ pub record Replaces (s s' : Scene) (old new : ℕ) : Type 0 where
   pub others : (row : ℕ) → s.is_base row → row ≢ old → s'.is_base row
   pub from_where : (row : ℕ) → s'.is_base row → (row ≡ new) ⊎ (s.is_base row × (row ≢ old))
   pub same_keys : s'.keys new ≡ s.keys old
-  pub keys : (row : ℕ) → s.is_base row → s'.keys row ≡ s.keys row
+  pub keys : (row : ℕ) → s.is_base row → row ≢ old → s'.keys row ≡ s.keys row
   pub marks : (row : ℕ) → s.is_base row → s'.mark row ≡ s.mark row
   pub free : (pass number : ℕ) → s.is_active pass number → ¬ IsMarked s old pass number
 
@@ -36,7 +36,7 @@ pub record Turns (s s' : Scene) (pass : ℕ) : Type 0 where
   pub bases : (row : ℕ) → s.is_base row → s'.is_base row
   pub were : (row : ℕ) → s'.is_base row → s.is_base row
   pub keys : (row : ℕ) → s'.keys row ≡ s.keys row
-  pub marks : (row : ℕ) → s'.mark row ≡ s.mark row
+  pub marks : (row : ℕ) → s.is_base row → s'.mark row ≡ s.mark row
   pub others : (other number : ℕ) → other ≢ pass → s'.is_active other number → s.is_active other number
   pub begun : (other number : ℕ) → s.has_begun other number → s'.has_begun other number
 

@@ -1,9 +1,9 @@
 //! A tree's words at the start, and its first base.
-ghost use Rattle.std.specs.Prelude.{◌≡◌, false};
+ghost use Rattle.std.specs.Prelude.{◌≡◌, ◌<◌, ◌≤◌, false};
 ghost use Rattle.ca_rows.specs.Calls.{IsOf, IsNumbered};
 
 use crate::trees::ZERO;
-use ca_node::{Spot, TreePass, TreeSpace, load_word, walk};
+use ca_node::{RangeState, Spot, TreePass, TreeSpace, load_status, load_word, walk};
 use ca_rows::Starts;
 
 // The root's base, and its first word.
@@ -28,6 +28,41 @@ fn begins_with_one_empty_base(rt: HostRuntime) {
         panic!(rt; "no pass")
     };
     assert_eq!(rt; first_word(&space, &mut pass), (1, 2 << 56));
+}
+
+// The number of the last range of this pass, where none is active and none was decided.
+fn idle_number(space: &TreeSpace, pass: &mut TreePass, owner: u32) -> Option<u64>
+    requires own { IsOf space.now.table.shared.table_id space.now.table.shared.key pass.old.seat }
+    requires number { IsNumbered pass.old.number pass.old.seat.me.0.pin }
+    requires unpinned { pass.old.seat.me.0.pin.pinned ≡ false }
+    requires owner { (0 < owner) × (owner ≤ 64) }
+{
+    space.pin(pass);
+    let state = load_status(space, pass, owner);
+    space.unpin(pass);
+    match state {
+        RangeState::Idle(number) => Some(number),
+        RangeState::Active(_) | RangeState::Decided(_, _) => None,
+    }
+}
+
+#[test]
+fn begins_with_no_range(rt: HostRuntime) {
+    let starts = Starts {
+        sequence: (1 << 38) - 1,
+        ..ZERO
+    };
+    let Ok(mut space) = TreeSpace::new(rt.alloc(), 384, 2, 1, 120, 0, starts) else {
+        panic!(rt; "no memory")
+    };
+    let Ok(mut pass) = space.enroll(rt.alloc()) else {
+        panic!(rt; "no pass")
+    };
+    assert_eq!(rt; idle_number(&space, &mut pass, 1), Some((1 << 38) - 1));
+    let Ok(mut pass) = space.enroll(rt.alloc()) else {
+        panic!(rt; "no pass")
+    };
+    assert_eq!(rt; idle_number(&space, &mut pass, 64), Some((1 << 38) - 1));
 }
 
 #[test]

@@ -3,7 +3,7 @@ use mathlib.Core.Option.{none}
 use prog.Atomic.{either}
 use Rattle.atomic_table.specs.Table.{step, Allows}
 use Rattle.ca_rows.specs.Calls.{Relinks}
-use Rattle.ca_node.specs.Told.{MaySwap}
+use Rattle.ca_node.specs.May.{MaySwap}
 use Rattle.ca_node.proofs.Looking.{R}
 use Rattle.ca_node.proofs.steps.divide_link.Goals as goal
 

@@ -17,6 +17,7 @@ loop-course-init g c = let z = c.args.tree.now.space.table.shared.key in
     let k = c.args.pass.now.seat.me in let m = c.pin.new.pass.seat.me in
     let is = c.pin.ensures.pinned.3 in
     let pin = (announced c.pin.ensures.pinned.0 c.pin.ensures.pinned.1 k).0.pin in
+    let ranges = (announced c.pin.ensures.pinned.0 c.pin.ensures.pinned.1 k).0.upper.ranges in
     let u = k.0.upper in record {
       same = c.pin.ensures.frame.same;
       number = c.pin.ensures.frame.number;
@@ -25,16 +26,16 @@ loop-course-init g c = let z = c.args.tree.now.space.table.shared.key in
       may = may_first c.args.tree.now.space c.args.pass.now c.pin.new.pass (g.A.Attempt.about c.args.order.now.what.now) c.pin.ensures.pinned.0
           c.pin.ensures.pinned.1 c.requires.resting c.pin.ensures.frame.same
           c.pin.ensures.frame.number c.pin.ensures.frame.kept c.pin.ensures.frame.tally is;
-      since = first_since k m pin u.notes u.ways is;
+      since = first_since k m pin u.notes u.ways ranges is;
       pinned = pinned_once k m (ap (λ (x : MyTree). x.0.pin.lags) is)
           (ap (λ (x : MyTree). x.0.pin.looks) is)
           (ap (λ (x : MyTree). x.0.pin.entered.lags) is)
           (ap (λ (x : MyTree). x.0.pin.begun_at) is) (ap (λ (x : MyTree). x.0.pin.begun) is);
       unspent = c.requires.unspent;
       waiting = waits_none z (g.A.Attempt.adds c.args.order.now.what.now) _ _ k m (refl, refl)
-          (moved_quiet k m pin u.seen u.notes u.ways is)
+          (moved_quiet k m pin u.seen u.notes u.ways ranges is)
           (ap (λ (x : MyTree). x.0.upper.seen) is)
-          (moved_further k m pin u.seen u.notes u.ways is);
+          (moved_further k m pin u.seen u.notes u.ways ranges is);
     }
 
 pub attempt-tried-requires-clause-ready : goal.attempt-tried-requires-clause-ready

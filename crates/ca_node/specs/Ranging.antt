@@ -1,0 +1,92 @@
+-- What holds of ranges between any two steps: what active ones marked is one run each, and what each seat knows of ranges is so.
+use Rattle.std.specs.Prelude.{◌≡◌, ◌==◌, ◌⊎◌, cond, ℕ, ◌<◌, ◌≤◌, true, List, [], ◌∷◌, ◌++◌, length, map}
+use mathlib.Core.Option.{some}
+use lib.ListN.{get_elem?}
+use Rattle.ca_model.specs.Edges.{Bound, Unbounded, Included, Excluded, is_up_to, within}
+use Rattle.ca_model.specs.History.{History, state}
+use Rattle.ca_model.specs.StoreMap.{StoreMap}
+use Rattle.ca_rows.specs.declared.sizes.Sizes.{Sizes}
+use Rattle.ca_runs.specs.Runs.{BeginsBefore, Ends, AreRuns}
+use Rattle.ca_node.specs.Links.{IsIn, IsActive, HasBegun, IsDecided}
+use Rattle.ca_node.specs.Row.{row_at, IsBorderRow, IsMarkedBy, mark_back, edge_form, route_key, pair}
+use Rattle.ca_node.specs.Scenes.{IsBase, scene_of}
+use Rattle.ca_node.specs.Shape.{Role}
+use Rattle.ca_node.specs.True.{IsTrue}
+use Rattle.ca_node.specs.TreeView.{Note, Over, Border, Begun, Ranging, Quiet, Unmarked, Marking, Left, KnownRanges, TreeView}
+
+-- These ranges were begun, and are over.
+abbrev pub IsOver : List ℕ → Over → Type 0
+IsOver words x = (number : ℕ) → number < x.below → HasBegun words x.pass number × ¬ IsActive words x.pass number
+
+-- The row has these words, and says up to where a range goes.
+pub record IsTrueBorder (rows : ℕ) (words : List ℕ) (border : Border) : Type 0 where
+  pub some_row : 0 < border.row
+  pub in_range : border.row ≤ rows
+  pub spells : row_at words border.row ≡ border.its
+  pub is_border : IsBorderRow border.its
+
+-- up to where the range goes, by the row that says so
+abbrev pub top_of : List ℕ → Bound
+top_of its = cond (edge_form its == 0) Unbounded (cond (edge_form its == 1) (Included (route_key its)) (Excluded (route_key its)))
+
+-- What goes up to this bound has all keys up to there.
+abbrev pub Reaches : List ℕ → Bound → Type 0
+Reaches its high = (key : List ℕ) → is_up_to (top_of its) key ≡ true → is_up_to high key ≡ true
+
+-- The notes are on the bases of the chain that leads from this row to the left.
+abbrev pub AreChained : ℕ → List Note → Type 0
+AreChained last [] = last ≡ 0
+AreChained last (note ∷ notes) = (note.row ≡ last) × (0 < last) × AreChained (mark_back note.its) notes
+
+-- what these bases have together, from the last one on
+abbrev pub objects_of : List Note → StoreMap
+objects_of [] = []
+objects_of (note ∷ notes) = objects_of notes ++ map pair note.objects
+
+-- The bases of the run that ends with this one have together what a state of the history has, one no older than this one: from the edge on, up to where the
+-- last of them ends. Below the edge there may be more of the first one.
+pub record IsRunShown (since history : History) (edge : Bound) (last : ℕ) (notes : List Note) : Type 0 where
+  pub chained : AreChained last notes
+  pub at : ℕ
+  pub later : length since ≤ at
+  pub seen : at ≤ length history
+  pub low : Bound
+  pub high : Bound
+  pub before : BeginsBefore low edge
+  pub ends : (note : Note) → get_elem? notes 0 ≡ some note → note.place.span.high ≡ high
+  pub shown : objects_of notes ≡ within low high (state history at)
+
+-- The seat's range is active, and its run goes from the edge on up to what that row says.
+abbrev pub GoesOn : List ℕ → Ends → ℕ → Begun → Type 0
+GoesOn words ends pass begun = IsActive words pass begun.number × (ends.edge ≡ begun.edge) × (ends.top ≡ begun.top)
+
+-- It was decided: its run is shown, and has all keys up to where the range goes.
+pub record WasDecided (rows : ℕ) (words : List ℕ) (role : ℕ → Role) (since history : History) (pass : ℕ) (begun : Begun) (its : List ℕ) : Type 0 where
+  pub last : ℕ
+  pub decided : IsDecided words pass begun.number last
+  pub notes : List Note
+  pub trues : (note : Note) → IsIn note notes → IsTrue rows words role note
+  pub run : IsRunShown since history begun.edge last notes
+  pub whole : Reaches its run.high
+
+-- how far the seat's own range is, by what it knows of it
+abbrev pub IsSoFar : ℕ → List ℕ → (ℕ → Role) → Ends → History → History → ℕ → List Border → Ranging → Type 0
+IsSoFar rows words role ends since history pass borders Quiet = (number : ℕ) → ¬ IsActive words pass number
+IsSoFar rows words role ends since history pass borders (Unmarked begun) = GoesOn words ends pass begun
+    × ((row : ℕ) → IsBase role row → ¬ IsMarkedBy (row_at words row) pass begun.number)
+IsSoFar rows words role ends since history pass borders (Marking begun border) = IsIn border borders × (border.row ≡ begun.top)
+    × (GoesOn words ends pass begun ⊎ WasDecided rows words role since history pass begun border.its)
+IsSoFar rows words role ends since history pass borders Left = Unit {0}
+
+-- What a seat knows of ranges is so.
+pub record IsRanging (rows : ℕ) (words : List ℕ) (role : ℕ → Role) (ends : Ends) (since history : History) (pass : ℕ) (ranges : KnownRanges) : Type 0 where
+  pub over : (x : Over) → IsIn x ranges.over → IsOver words x
+  pub borders : (border : Border) → IsIn border ranges.borders → IsTrueBorder rows words border
+  pub own : 0 < pass → IsSoFar rows words role ends since history pass ranges.borders ranges.own
+
+-- What active ranges marked is one run each, an active range is that of a pass that was made, and what each seat knows of ranges is so.
+pub record AreRanged (z : Sizes) (made : ℕ) (words : List ℕ) (role : ℕ → Role) (uppers : List TreeView) (history : History) : Type 0 where
+  pub ends : ℕ → Ends
+  pub runs : AreRuns (scene_of words role) ends
+  pub made_before : (pass number : ℕ) → IsActive words pass number → pass ≤ made
+  pub each : (j : ℕ) (u : TreeView) → get_elem? uppers j ≡ some u → IsRanging z.rows words role (ends u.number) u.since history u.number u.ranges
