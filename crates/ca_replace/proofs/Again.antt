@@ -22,7 +22,7 @@ use Rattle.ca_replace.specs.Attempting.{BeginsAt, HasNext, HasSeenAlike, HasTrie
 use Rattle.ca_replace.specs.Between.{MayBegin}
 use Rattle.ca_replace.specs.Turning.{course_after}
 use Rattle.ca_replace.proofs.Meeting.{done_on, further_on}
-use Rattle.ca_replace.proofs.Numbering.{numbered_as}
+use Rattle.ca_replace.proofs.Ready.{ready_after}
 use Rattle.ca_replace.proofs.Settling.{IsSettling}
 use Rattle.ca_replace.proofs.Showing.{stopped_same}
 use Rattle.ca_replace.proofs.States.{none_since}
@@ -30,7 +30,6 @@ use Rattle.ca_replace.proofs.Turns.{tried_unpinned}
 use Rattle.ca_rows.specs.declared.sizes.Sizes.{Sizes}
 use Rattle.ca_rows.specs.declared.space.Pass.{Pass}
 use Rattle.ca_rows.specs.declared.space.Space.{Space}
-use Rattle.ca_rows.specs.declared.view.Pin.{Pin}
 
 -- Where a walk may begin depends on the routes that the pass remembers alone.
 begin_as : (z : Sizes) (u v : TreeView) (span : Span) (cursor : Cursor) → v.ways ≡ u.ways
@@ -198,18 +197,6 @@ next_since z key tells (Err why) k u v again next f tried h = record {
 }
 
 module _ {R : Type 0} {space : Space R TreeView} {pass new : Pass R TreeView} where
-  -- A pass that was ready is ready still.
-  pub ready_after : IsReady space pass → StaysReady space pass new
-      → new.seat.me.0.upper.number ≡ pass.seat.me.0.upper.number → IsReady space new
-  ready_after ready s same = record {
-    own = (s.same.0 ∙ ready.own.0, s.pin.0 ∙ ready.own.1);
-    numbered = numbered_as pass.number new.number pass.seat.me.0.pin new.seat.me.0.pin s.number
-        (ap (λ (p : Pin). p.number) s.pin.1) ready.numbered;
-    pinned = ap (λ (p : Pin). p.pinned) s.pin.1 ∙ ready.pinned;
-    number = subst (λ n. 0 < n) (sym same) ready.number;
-    none = s.none;
-  }
-
   -- Another attempt may begin behind one that it may follow.
   pub may_follow : {T : Type 0} (tells : T → Event → Type 0) (key : List ℕ) (r : Result T Halt)
       (before again : Option Cursor) → MayBegin space key before pass
@@ -222,7 +209,7 @@ module _ {R : Type 0} {space : Space R TreeView} {pass new : Pass R TreeView} wh
       let z = space.table.shared.key in let u = pass.seat.me.0.upper in
       let v = new.seat.me.0.upper in
       let next = next_stays z key r u v again next stays in record {
-        ready = ready_after may.ready s f.number;
+        ready = ready_after may.ready s (subst (λ n. 0 < n) (sym f.number) may.ready.number);
         known = (known_since tells z r u v tried).0;
         asking = asking_still u v may.asking f next.0;
         begins = next.1;

@@ -10,7 +10,7 @@ use Rattle.ca_node.specs.Told.{MyTree, with_upper}
 use Rattle.ca_node.specs.TreeView.{TreeView}
 use Rattle.ca_model.specs.declared.outcome.Counter.TheVariants as counter
 use Rattle.ca_model.specs.declared.outcome.Cause.{Cause}
-use Rattle.ca_model.specs.declared.outcome.Cause.TheVariants as refusal
+use Rattle.ca_model.specs.declared.outcome.Cause.TheVariants as cause
 use Rattle.std.specs.declared.option.Option.{Option}
 use Rattle.std.specs.declared.option.Option.TheVariants.{None as Nothing, Some as Just}
 use Rattle.ca_base.specs.Counting.{losses}
@@ -130,7 +130,7 @@ pub refill_caused : (z : Sizes) (number budget begun : ℕ) (adds : Option (List
     → HasSpentInAll now m m' → HasBegun z.rows begun (vec_len kept) m m'
     → m.0.pin.looks ≤ n.0.pin.looks → IsRefill z.passes number budget begun now why n m' kept'
     → IsCaused z number budget adds why m kept m' kept'
-refill_caused z number budget begun adds (refusal.Busy s) now m n m' kept kept' paid first before
+refill_caused z number budget begun adds (cause.Busy s) now m n m' kept kept' paid first before
     h =
     subst (λ (x : Spent). (budget ≤ total x) × (x.lost ≡ min 4294967295 (losses m' - losses m))
     × (x.helped ≡ min 4294967295 (helps m' - helps m))
@@ -143,19 +143,19 @@ refill_caused z number budget begun adds (refusal.Busy s) now m n m' kept kept' 
       (let sum = counted.helped (omega arith) in omega arith),
       (let sum = counted.passed (omega arith) in omega arith),
     ))
-refill_caused z number budget begun adds (refusal.Full cause) now m n m' kept kept' paid first
+refill_caused z number budget begun adds (cause.Full full) now m n m' kept kept' paid first
     before h = (
       subst (λ k. HasBegun z.rows k (vec_len kept) m m') (sym h.0) first,
-      ⊎_elim (λ (e : begun ≡ 0). inl (h.0 ∙ e)) (λ (l : cause.lag ≢ Nothing). inr l) h.1,
+      ⊎_elim (λ (e : begun ≡ 0). inl (h.0 ∙ e)) (λ (l : full.lag ≢ Nothing). inr l) h.1,
       (let more = h.2 in omega arith),
       h.3,
       unspent budget now m m' paid h.4,
     )
-refill_caused z number budget begun adds (refusal.Deep level) now m n m' kept kept' paid first
+refill_caused z number budget begun adds (cause.Deep level) now m n m' kept kept' paid first
     before h = absurd h
-refill_caused z number budget begun adds (refusal.Worn counter.PoolTag) now m n m' kept kept' paid
+refill_caused z number budget begun adds (cause.Worn counter.PoolTag) now m n m' kept kept' paid
     first before h = absurd h
-refill_caused z number budget begun adds (refusal.Worn counter.Epoch) now m n m' kept kept' paid
+refill_caused z number budget begun adds (cause.Worn counter.Epoch) now m n m' kept kept' paid
     first before h = (
       (begun, h.4, first),
       (let more = h.0 in omega arith),
@@ -164,7 +164,7 @@ refill_caused z number budget begun adds (refusal.Worn counter.Epoch) now m n m'
       h.5,
       unspent budget now m m' paid h.3,
     )
-refill_caused z number budget begun adds (refusal.Worn counter.Sequence) now m n m' kept kept' paid
+refill_caused z number budget begun adds (cause.Worn counter.Sequence) now m n m' kept kept' paid
     first before h = absurd h
 
 -- What is known of a refusal is so still once it is counted.
@@ -187,17 +187,17 @@ module _ (m m' m'' : MyTree) (counts : Counts) (kept kept' kept'' : Vec Kept Glo
       by : (why : Cause) → IsCaused z number budget adds why m kept m' kept'
           → IfCaused {T = T} (outcome_by why)
           (λ y. IsCaused z number budget adds y m kept m'' kept'')
-      by (refusal.Busy spent) h = as_counted
-          (λ x k. IsCaused z number budget adds (refusal.Busy spent) m kept x k) h
-      by (refusal.Full cause) h = as_counted
-          (λ x k. IsCaused z number budget adds (refusal.Full cause) m kept x k) h
-      by (refusal.Deep level) h = as_counted
-          (λ x k. IsCaused z number budget adds (refusal.Deep level) m kept x k) h
-      by (refusal.Worn counter.PoolTag) h = as_counted
-          (λ x k. IsCaused z number budget adds (refusal.Worn counter.PoolTag) m kept x k) h
-      by (refusal.Worn counter.Epoch) h = as_counted
-          (λ x k. IsCaused z number budget adds (refusal.Worn counter.Epoch) m kept x k) h
-      by (refusal.Worn counter.Sequence) h = absurd h
+      by (cause.Busy spent) h = as_counted
+          (λ x k. IsCaused z number budget adds (cause.Busy spent) m kept x k) h
+      by (cause.Full full) h = as_counted
+          (λ x k. IsCaused z number budget adds (cause.Full full) m kept x k) h
+      by (cause.Deep level) h = as_counted
+          (λ x k. IsCaused z number budget adds (cause.Deep level) m kept x k) h
+      by (cause.Worn counter.PoolTag) h = as_counted
+          (λ x k. IsCaused z number budget adds (cause.Worn counter.PoolTag) m kept x k) h
+      by (cause.Worn counter.Epoch) h = as_counted
+          (λ x k. IsCaused z number budget adds (cause.Worn counter.Epoch) m kept x k) h
+      by (cause.Worn counter.Sequence) h = absurd h
 
   pub few_still : KeepsFew m m' kept' → KeepsFew m m'' kept''
   few_still h = as_counted (λ x k. KeepsFew m x k) h
@@ -216,10 +216,10 @@ deep_adds {T} z number budget adds why o m m' kept kept' is h = subst
 
     by : (why : Cause) → IsCaused z number budget adds why m kept m' kept'
         → IfDeep {T = T} (outcome_by why) (adds ≢ Nothing)
-    by (refusal.Busy spent) h = tt
-    by (refusal.Full cause) h = tt
-    by (refusal.Deep level) h = adds_one adds h.1
-    by (refusal.Worn counter) h = tt
+    by (cause.Busy spent) h = tt
+    by (cause.Full full) h = tt
+    by (cause.Deep level) h = adds_one adds h.1
+    by (cause.Worn counter) h = tt
 
 -- Few rows are kept, as seen from a moment before.
 pub few_from : (k m m' : MyTree) (kept : Vec Kept Global) → k.0.pin.looks ≤ m.0.pin.looks

@@ -32,7 +32,7 @@ use Rattle.ca_node.proofs.Listing.{in_either}
 use Rattle.ca_node.proofs.Looking.{in_more}
 use Rattle.ca_replace.specs.declared.adapting.Adapting.{Adapting}
 use Rattle.ca_model.specs.declared.outcome.Cause.{Cause}
-use Rattle.ca_model.specs.declared.outcome.Cause.TheVariants as refusal
+use Rattle.ca_model.specs.declared.outcome.Cause.TheVariants as cause
 use Rattle.ca_replace.specs.Adapting.{IsNew}
 use Rattle.ca_replace.specs.Attempting.{HasNext, IsLooking, IsQuiet, come_to, refused_as, split_to}
 use Rattle.ca_replace.specs.Cutting.{AreCutFull, HasCutForEdit, HasCut, HasCutInCall, HasCutDue, HasCutFull, HasCutBehind, HasCutInAttempts, IsCutInTwo, IsFullFor}
@@ -309,7 +309,7 @@ refused_cuts {T} edits z adds counts why o u m m' h come is = subst
   where
     by : (why : Cause) → HasCutFull z adds u m'.0.upper
         → HasCutInCall edits z adds (outcome_by {T = T} why) u m'.0.upper
-    by (refusal.Busy spent) h = h
-    by (refusal.Full cause) h = h
-    by (refusal.Deep level) h = h
-    by (refusal.Worn counter) h = h
+    by (cause.Busy spent) h = h
+    by (cause.Full full) h = h
+    by (cause.Deep level) h = h
+    by (cause.Worn counter) h = h

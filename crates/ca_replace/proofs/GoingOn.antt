@@ -33,7 +33,7 @@ use Rattle.ca_replace.specs.declared.adapting.Adapting.{Adapting}
 use Rattle.ca_replace.specs.declared.adapting.Last.{Last}
 use Rattle.ca_model.specs.declared.outcome.Outcome.{Outcome}
 use Rattle.ca_model.specs.declared.outcome.Cause.{Cause}
-use Rattle.ca_model.specs.declared.outcome.Cause.TheVariants as refusal
+use Rattle.ca_model.specs.declared.outcome.Cause.TheVariants as cause
 use Rattle.ca_replace.specs.Refusals.{outcome_by}
 use Rattle.ca_replace.specs.Adapting.{Adapts, Goes, HasGoneOn, HasLookedAgain, HasLostSince, IsCauseMetInCall, HasSettled, HasTriedOnce, IsAdapted, IsMoved, IsNew, IsReason, Leaves, LeavesInCall, Waits, noted}
 use Rattle.ca_replace.specs.Attempting.{HasNext, HasStopped, HasTriedTo, IsPaid, IsQuiet, come_to, refused_as}
@@ -582,10 +582,10 @@ none_met_as {T} edits last why o m is = subst
     (λ (x : Outcome T). IsCauseMetInCall edits last x m) (sym is) (by why)
   where
     by : (why : Cause) → IsCauseMetInCall edits last (outcome_by {T = T} why) m
-    by (refusal.Busy spent) = tt
-    by (refusal.Full cause) = tt
-    by (refusal.Deep level) = tt
-    by (refusal.Worn counter) = tt
+    by (cause.Busy spent) = tt
+    by (cause.Full full) = tt
+    by (cause.Deep level) = tt
+    by (cause.Worn counter) = tt
 
 pub leaves_refused : {T : Type 0} (edits : T → Bool) (z : Sizes) (t : Tuning) (last : Last)
     (why : Cause) (o : Outcome T) (u v : TreeView)
@@ -594,7 +594,7 @@ leaves_refused {T} edits z t last why o u v is same = subst
     (λ (x : Outcome T). LeavesInCall edits z t last last x u v) (sym is) (by why)
   where
     by : (why : Cause) → LeavesInCall edits z t last last (outcome_by {T = T} why) u v
-    by (refusal.Busy spent) = (refl, same)
-    by (refusal.Full cause) = (refl, same)
-    by (refusal.Deep level) = (refl, same)
-    by (refusal.Worn counter) = (refl, same)
+    by (cause.Busy spent) = (refl, same)
+    by (cause.Full full) = (refl, same)
+    by (cause.Deep level) = (refl, same)
+    by (cause.Worn counter) = (refl, same)

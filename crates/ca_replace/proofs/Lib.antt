@@ -15,6 +15,7 @@ pub mod Meeting
 pub mod Numbering
 pub mod OneHand
 pub mod Pinning
+pub mod Ready
 pub mod Reclaiming
 pub mod Settling
 pub mod Showing

@@ -24,7 +24,7 @@ use Rattle.ca_base.specs.Putting.{HasRenewed, HasTried, first_note, stopped}
 use Rattle.ca_base.specs.Splitting.{HasSplit}
 use Rattle.ca_replace.specs.declared.adapting.Adapting.{Adapting}
 use Rattle.ca_model.specs.declared.outcome.Cause.{Cause}
-use Rattle.ca_model.specs.declared.outcome.Cause.TheVariants as refusal
+use Rattle.ca_model.specs.declared.outcome.Cause.TheVariants as cause
 use Rattle.ca_replace.specs.Adapting.{HasSettled, IsNew}
 use Rattle.ca_replace.specs.Attempting.{HasNext, come_to, refused_as, split_to}
 use Rattle.ca_replace.specs.Refusals.{outcome_by}
@@ -202,7 +202,7 @@ refused_wins {T} edits why o u v is same = subst
     (λ (x : Outcome T). HasWonInCall edits x u v) (sym is) (by why)
   where
     by : (why : Cause) → HasWonInCall edits (outcome_by {T = T} why) u v
-    by (refusal.Busy spent) = same
-    by (refusal.Full cause) = same
-    by (refusal.Deep level) = same
-    by (refusal.Worn counter) = same
+    by (cause.Busy spent) = same
+    by (cause.Full full) = same
+    by (cause.Deep level) = same
+    by (cause.Worn counter) = same

@@ -20,7 +20,7 @@ use Rattle.ca_node.specs.Told.{IsKnown, MyTree}
 use Rattle.ca_node.specs.States.{HasState, IsAlone, IsUnanswered, OfSomeState}
 use Rattle.ca_node.specs.TreeView.{TreeView}
 use Rattle.ca_model.specs.declared.outcome.Cause.{Cause}
-use Rattle.ca_model.specs.declared.outcome.Cause.TheVariants as refusal
+use Rattle.ca_model.specs.declared.outcome.Cause.TheVariants as cause
 use Rattle.ca_base.specs.Finding.{IsReadable, IsAtCursor}
 use Rattle.ca_base.specs.Progress.{IsFurther, HasDone}
 use Rattle.ca_base.specs.Putting.{first_note, object_at}
@@ -98,11 +98,11 @@ HasAttempted tells (Err why) u v = IsFurther u v
 
 -- why a call is refused whose last attempt came to this, given what was spent and how many levels there are
 abbrev pub refusal_of : Halt → Spent → ℕ → Cause
-refusal_of (halt.Stopped (stop.Lost exchange)) spent levels = refusal.Busy spent
-refusal_of (halt.Stopped stop.Empty) spent levels = refusal.Busy spent
-refusal_of (halt.Stopped stop.Worn) spent levels = refusal.Worn counter.PoolTag
-refusal_of halt.Deep spent levels = refusal.Deep levels
-refusal_of halt.Split spent levels = refusal.Busy spent
+refusal_of (halt.Stopped (stop.Lost exchange)) spent levels = cause.Busy spent
+refusal_of (halt.Stopped stop.Empty) spent levels = cause.Busy spent
+refusal_of (halt.Stopped stop.Worn) spent levels = cause.Worn counter.PoolTag
+refusal_of halt.Deep spent levels = cause.Deep levels
+refusal_of halt.Split spent levels = cause.Busy spent
 
 -- what a call comes to by its last attempt, which found the rows that it wanted
 abbrev pub refused_as : {T : Type 0} → Result T Halt → Spent → ℕ → Result T Cause

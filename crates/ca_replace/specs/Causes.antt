@@ -16,7 +16,7 @@ use Rattle.ca_node.specs.TreeView.{Note, TreeView}
 use Rattle.ca_replace.specs.Attempting.{helps, passes, total}
 use Rattle.ca_replace.specs.Resting.{StoreView}
 use Rattle.ca_model.specs.declared.outcome.Cause.{Cause}
-use Rattle.ca_model.specs.declared.outcome.Cause.TheVariants as refusal
+use Rattle.ca_model.specs.declared.outcome.Cause.TheVariants as cause
 use Rattle.ca_rows.specs.declared.kept.Kept.{Kept}
 use Rattle.ca_rows.specs.declared.sizes.Sizes.{Sizes}
 use Rattle.ca_rows.specs.declared.view.Claimed.{Claimed}
@@ -31,16 +31,16 @@ HasLooked m m' = m.0.pin.looks < m'.0.pin.looks
 -- A call with this budget whose attempt began with so many rows kept is refused so, once rows were given back and these turns were spent.
 abbrev pub IsRefill : ℕ → ℕ → ℕ → ℕ → Spent → Cause → MyTree → MyTree → Vec Kept Global → Type 0
 -- Its turns were lost.
-IsRefill passes number budget begun spent (refusal.Busy s) m m' kept' = (s ≡ spent) × (budget ≤ total s)
+IsRefill passes number budget begun spent (cause.Busy s) m m' kept' = (s ≡ spent) × (budget ≤ total s)
 -- The budget isn't spent. The attempt began with no row kept, or another pass lagged.
-IsRefill passes number budget begun spent (refusal.Full cause) m m' kept' = (cause.kept ≡ begun) × ((begun ≡ 0) ⊎ (cause.lag ≢ None))
-    × HasLooked m m' × IsLag passes number cause.lag m'.0.pin × (total spent < budget)
-IsRefill passes number budget begun spent (refusal.Deep level) m m' kept' = ⊥
+IsRefill passes number budget begun spent (cause.Full full) m m' kept' = (full.kept ≡ begun) × ((begun ≡ 0) ⊎ (full.lag ≢ None))
+    × HasLooked m m' × IsLag passes number full.lag m'.0.pin × (total spent < budget)
+IsRefill passes number budget begun spent (cause.Deep level) m m' kept' = ⊥
 -- Neither is the budget spent, nor did the attempt begin with no row kept, nor does a pass lag. The epoch was at its last value, and rows are kept.
-IsRefill passes number budget begun spent (refusal.Worn counter.Epoch) m m' kept' = HasLooked m m' × (4611686018427387904 ≤ m'.0.pin.scan)
+IsRefill passes number budget begun spent (cause.Worn counter.Epoch) m m' kept' = HasLooked m m' × (4611686018427387904 ≤ m'.0.pin.scan)
     × (0 < vec_len kept') × (total spent < budget) × (0 < begun) × (m'.0.pin.lag ≡ 0)
-IsRefill passes number budget begun spent (refusal.Worn counter.PoolTag) m m' kept' = ⊥
-IsRefill passes number budget begun spent (refusal.Worn counter.Sequence) m m' kept' = ⊥
+IsRefill passes number budget begun spent (cause.Worn counter.PoolTag) m m' kept' = ⊥
+IsRefill passes number budget begun spent (cause.Worn counter.Sequence) m m' kept' = ⊥
 
 -- Of the rows that are noted so, a seat kept so many.
 abbrev pub HasKept : ℕ → List Claimed → ℕ → Type 0
@@ -71,28 +71,28 @@ IsFullSince z adds u = OfSomeState u (λ map. IsFull z adds u.last map)
 -- A call with this budget that may add this key, if any, may be refused so, given what its pass knew and kept before it and what it knows and keeps behind it.
 abbrev pub IsCaused : Sizes → ℕ → ℕ → Option (List ℕ) → Cause → MyTree → Vec Kept Global → MyTree → Vec Kept Global → Type 0
 -- So many exchanges were lost in this call, so many operations of others were helped, and so many turns were other ones.
-IsCaused z number budget adds (refusal.Busy spent) m kept m' kept' = (budget ≤ total spent) × (spent.lost ≡ min 4294967295 (losses m' - losses m))
+IsCaused z number budget adds (cause.Busy spent) m kept m' kept' = (budget ≤ total spent) × (spent.lost ≡ min 4294967295 (losses m' - losses m))
     × (spent.helped ≡ min 4294967295 (helps m' - helps m)) × (spent.passed ≡ min 4294967295 (passes m' - passes m))
 -- The last attempt found the head empty, and the budget isn't spent. It began with no row kept, or another pass lagged as rows were given back in this call.
-IsCaused z number budget adds (refusal.Full cause) m kept m' kept' = HasBegun z.rows cause.kept (vec_len kept) m m' × ((cause.kept ≡ 0) ⊎ (cause.lag ≢ None))
-    × HasLooked m m' × IsLag z.passes number cause.lag m'.0.pin × IsUnspent budget m m'
+IsCaused z number budget adds (cause.Full full) m kept m' kept' = HasBegun z.rows full.kept (vec_len kept) m m' × ((full.kept ≡ 0) ⊎ (full.lag ≢ None))
+    × HasLooked m m' × IsLag z.passes number full.lag m'.0.pin × IsUnspent budget m m'
 -- By a state since the last pin the key is a new one, and there is no room for it in the base that was shown last, at the last level.
-IsCaused z number budget adds (refusal.Deep level) m kept m' kept' = (level ≡ z.levels) × IsFullSince z adds m'.0.upper
+IsCaused z number budget adds (cause.Deep level) m kept m' kept' = (level ≡ z.levels) × IsFullSince z adds m'.0.upper
 -- The head's tag was at its last value as a row was to be taken.
-IsCaused z number budget adds (refusal.Worn counter.PoolTag) m kept m' kept' = m'.0.worn ≡ m.0.worn + 1
+IsCaused z number budget adds (cause.Worn counter.PoolTag) m kept m' kept' = m'.0.worn ≡ m.0.worn + 1
 -- The last attempt found the head empty, and neither is the budget spent, nor did it begin with no row kept, nor does a pass lag. The epoch was at its
 -- last value as rows were given back in this call, and rows are kept.
-IsCaused z number budget adds (refusal.Worn counter.Epoch) m kept m' kept' = ((begun : ℕ) × (0 < begun) × HasBegun z.rows begun (vec_len kept) m m')
+IsCaused z number budget adds (cause.Worn counter.Epoch) m kept m' kept' = ((begun : ℕ) × (0 < begun) × HasBegun z.rows begun (vec_len kept) m m')
     × HasLooked m m' × (4611686018427387904 ≤ m'.0.pin.scan) × (0 < vec_len kept') × (m'.0.pin.lag ≡ 0) × IsUnspent budget m m'
-IsCaused z number budget adds (refusal.Worn counter.Sequence) m kept m' kept' = ⊥
+IsCaused z number budget adds (cause.Worn counter.Sequence) m kept m' kept' = ⊥
 
 -- Where the call is refused, this holds of the refusal.
 abbrev pub IfCaused : {T : Type 0} → Outcome T → (Cause → Type 0) → Type 0
 IfCaused (outcome.Done x) P = Unit {0}
-IfCaused (outcome.Busy spent) P = P (refusal.Busy spent)
-IfCaused (outcome.Full cause) P = P (refusal.Full cause)
-IfCaused (outcome.Deep level) P = P (refusal.Deep level)
-IfCaused (outcome.Worn counter) P = P (refusal.Worn counter)
+IfCaused (outcome.Busy spent) P = P (cause.Busy spent)
+IfCaused (outcome.Full full) P = P (cause.Full full)
+IfCaused (outcome.Deep level) P = P (cause.Deep level)
+IfCaused (outcome.Worn counter) P = P (cause.Worn counter)
 
 -- The pass keeps at most 64 rows; or else, as it last gave rows back in this call, which it did once it had unpinned, another pass lagged, or an
 -- exchange was lost, or the epoch was at its last value.

@@ -16,7 +16,7 @@ ghost use Rattle.ca_rows.specs.Passes.{OnlyReads, IsReading, sizes, known};
 ghost use Rattle.ca_node.specs.TreePasses.{tree_of};
 ghost use Rattle.ca_base.specs.Readiness.{IsReady, StaysReady};
 
-use crate::attempting::{Halt, outcome_of};
+use crate::attempting::Halt;
 use crate::tree::Tree;
 use ca_adapt::{Adapted, Due, statistic_of, try_split};
 use ca_base::{Exchange, Stop, statistic_word};
@@ -48,7 +48,7 @@ pub(crate) struct Course {
 
 /// A base that an update was to put in place: the update's key, and the base's row.
 #[derive(Clone, Copy)]
-pub(crate) struct Placed<'a> {
+pub(crate) struct NewBase<'a> {
     pub(crate) key: &'a [u8],
     pub(crate) row: u32,
 }
@@ -70,7 +70,7 @@ pub(crate) fn next_statistic(tree: &Tree, pass: &mut TreePass, base: u32, lost: 
 pub(crate) fn settle(
     tree: &Tree,
     pass: &mut TreePass,
-    placed: &Placed<'_>,
+    placed: &NewBase<'_>,
     statistic: i32,
     tried: Result<(), Stop>,
     course: &mut Course,
@@ -98,7 +98,7 @@ pub(crate) fn settle(
         }
         Err(why) => note_stop(&mut course.adapting, why),
     }
-    outcome_of(tried)
+    tried.map_err(Halt::Stopped)
 }
 
 /// Notes why a try came to nothing: whether an exchange of a link was lost.
@@ -114,7 +114,7 @@ pub(crate) fn note_stop(adapting: &mut Adapting, why: Stop)
 fn adapt(
     tree: &Tree,
     pass: &mut TreePass,
-    placed: &Placed<'_>,
+    placed: &NewBase<'_>,
     statistic: i32,
     spent: &mut Spent,
 ) -> Adapted
@@ -138,7 +138,7 @@ fn adapt(
 }
 
 // Walks to the key anew, and tries to split the base that it comes to, where that is the one which was just put in place.
-fn split_again(tree: &Tree, pass: &mut TreePass, placed: &Placed<'_>, spent: &mut Spent) -> Adapted
+fn split_again(tree: &Tree, pass: &mut TreePass, placed: &NewBase<'_>, spent: &mut Spent) -> Adapted
     requires ready { IsReady tree.now.space pass.old }
     requires placed { IsNew placed.now.row placed.now.key.now (met_of (known pass.old)) (tree_of pass.old) }
     ensures frame { StaysReady tree.now.space pass.old pass.new }

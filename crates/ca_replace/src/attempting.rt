@@ -7,7 +7,7 @@ ghost use Rattle.ca_node.specs.Row.{pair};
 ghost use Rattle.ca_replace.specs.declared.attempting.Halt.TheVariants.{Deep as IsDeep, Split as IsSplit};
 ghost use Rattle.ca_replace.specs.Causes.{IsFullSince};
 ghost use Rattle.ca_replace.specs.Cutting.{IsFullFor};
-ghost use Rattle.ca_replace.specs.Attempting.{BeginsAt, IsAsking, IsLooking, HasFetched, HasSeenAlike, HasTriedSince, HasTriedTo, StaysAt, come_to, split_to};
+ghost use Rattle.ca_replace.specs.Attempting.{BeginsAt, IsAsking, IsLooking, HasFetched, HasSeenAlike, HasTriedSince, HasTriedTo, StaysAt, split_to};
 ghost use Rattle.ca_node.specs.Told.{IsKnown};
 ghost use Rattle.ca_node.specs.Walking.{IsWalked};
 ghost use Rattle.ca_node.specs.declared.cursor.Spot.TheVariants.{At as IsAt};
@@ -23,7 +23,7 @@ ghost use Rattle.ca_rows.specs.Passes.{IsReading, KeepsList, sizes, known};
 ghost use Rattle.ca_node.specs.TreePasses.{tree_of};
 ghost use Rattle.ca_base.specs.Readiness.{IsReady, StaysReady, shown_last};
 
-use crate::adapting::{Course, Placed, next_statistic, note_stop, settle};
+use crate::adapting::{Course, NewBase, next_statistic, note_stop, settle};
 use crate::looking::copy_at;
 use crate::tree::Tree;
 use ca_adapt::{first_attempt, word_of};
@@ -188,7 +188,7 @@ pub(crate) fn put_there(
     let tried = put_at(space, pass, &target, insertion, &mut row, spent);
     let keyed = insertion.keyed;
     let key = &keyed.object[keyed.key_at..keyed.key_end];
-    settle(tree, pass, &Placed { key, row }, statistic, tried, course)
+    settle(tree, pass, &NewBase { key, row }, statistic, tried, course)
 }
 
 // What an attempt comes to that met a full base: it splits the base, if that isn't at the last level.
@@ -276,15 +276,7 @@ pub(crate) fn remove_there(
     let spent = &mut course.spent;
     let tried = remove_at(space, pass, &target, removal, &mut row, spent);
     let key = removal.key;
-    settle(tree, pass, &Placed { key, row }, statistic, tried, course)
-}
-
-/// What an attempt comes to, by what became of its exchange.
-pub(crate) fn outcome_of(tried: Result<(), Stop>) -> Result<(), Halt>
-    ensures value { result ≡ come_to tried }
-    ensures deep { result ≢ Err IsDeep }
-{
-    tried.map_err(Halt::Stopped)
+    settle(tree, pass, &NewBase { key, row }, statistic, tried, course)
 }
 
 // Whether there is room for one item more beside so many, where it isn't put in the place of another one.

@@ -16,7 +16,6 @@ use Rattle.ca_replace.proofs.Tuning.{tuned_on}
 use Rattle.ca_replace.proofs.Settling.{IsSettling}
 use Rattle.ca_replace.proofs.GoingOn.{is_new, known_then, settled_found, settled_on, settled_paid, settled_tried, tried_turns}
 use Rattle.ca_replace.proofs.Showing.{shown_last, full_there}
-use Rattle.ca_base.proofs.Tallies.{tallied_as}
 use Rattle.ca_rows.specs.Told.{met_of}
 use Rattle.ca_replace.proofs.DueCauses.{settled_met}
 use Rattle.ca_replace.proofs.Growing.{come_unsplit, settled_grown}
@@ -28,9 +27,7 @@ use Rattle.ca_node.specs.Row.{pair}
 use Rattle.ca_base.specs.Progress.{IsFurther}
 use Rattle.ca_model.specs.Places.{IsPlace}
 use Rattle.ca_replace.specs.Attempting.{IsLooking, StaysAt}
-use Rattle.ca_rows.specs.declared.view.Pin.{Pin}
-use Rattle.ca_replace.proofs.Entries.{held_looked}
-use Rattle.ca_replace.proofs.Numbering.{numbered_as}
+use Rattle.ca_replace.proofs.Ready.{ready_after, ready_read, reads_both, stays_both, stays_read}
 use Rattle.ca_replace.proofs.attempting.put_there.Goals as goal
 
 no_room : (b : Bool) → b ≡ false → b ≡ true → ⊥
@@ -146,58 +143,13 @@ returns-then-not-has_room-clause-full c =
     c.requires.looking.readable)
 
 pub returns-then-not-has_room-clause-frame : goal.returns-then-not-has_room-clause-frame
-returns-then-not-has_room-clause-frame c = record {
-  same = (
-    c.make_room.ensures.frame.same.0 ∙ c.count-many.ensures.frame.same.0,
-    c.make_room.ensures.frame.same.1 ∙ c.count-many.ensures.frame.same.1,
-  );
-  number = c.make_room.ensures.frame.number ∙ c.count-many.ensures.frame.number;
-  tally = λ h.
-      c.make_room.ensures.frame.tally (tallied_as c.args.pass.now.tally c.count-many.new.pass.tally
-      c.args.pass.now.seat.me.0.upper c.count-many.new.pass.seat.me.0.upper
-      c.count-many.ensures.frame.tally
-      (ap (λ (m : MyTree). m.0.upper) c.count-many.ensures.frame.still) h);
-  pin = (
-    c.make_room.ensures.frame.pin.0
-        ∙ ap (λ (m : MyTree). m.0.sizes) c.count-many.ensures.frame.still,
-    c.make_room.ensures.frame.pin.1 ∙ ap (λ (m : MyTree). m.0.pin) c.count-many.ensures.frame.still,
-  );
-  none = c.make_room.ensures.frame.none;
-}
+returns-then-not-has_room-clause-frame c =
+    stays_read c.count-many.ensures.frame c.make_room.ensures.frame
 
 pub returns-clause-frame : goal.returns-clause-frame
-returns-clause-frame c = record {
-  same = (
-    c.settle.ensures.frame.same.0
-        ∙ (c.put_at-tried.ensures.frame.same.0
-        ∙ (c.next_statistic-statistic.ensures.frame.same.0 ∙ c.count-many.ensures.frame.same.0)),
-    c.settle.ensures.frame.same.1
-        ∙ (c.put_at-tried.ensures.frame.same.1
-        ∙ (c.next_statistic-statistic.ensures.frame.same.1 ∙ c.count-many.ensures.frame.same.1)),
-  );
-  number = c.settle.ensures.frame.number
-      ∙ (c.put_at-tried.ensures.frame.number ∙ (c.next_statistic-statistic.ensures.frame.number
-      ∙ c.count-many.ensures.frame.number));
-  tally = λ h.
-      c.settle.ensures.frame.tally
-      (c.put_at-tried.ensures.frame.tally
-      (tallied_as c.args.pass.now.tally c.next_statistic-statistic.new.pass.tally
-      c.args.pass.now.seat.me.0.upper c.next_statistic-statistic.new.pass.seat.me.0.upper
-      (c.next_statistic-statistic.ensures.frame.tally ∙ c.count-many.ensures.frame.tally)
-      (ap (λ (m : MyTree). m.0.upper) (c.next_statistic-statistic.ensures.frame.still
-      ∙ c.count-many.ensures.frame.still)) h));
-  pin = (
-    c.settle.ensures.frame.pin.0
-        ∙ (c.put_at-tried.ensures.frame.pin.0
-        ∙ ap (λ (m : MyTree). m.0.sizes) (c.next_statistic-statistic.ensures.frame.still
-        ∙ c.count-many.ensures.frame.still)),
-    c.settle.ensures.frame.pin.1
-        ∙ (c.put_at-tried.ensures.frame.pin.1
-        ∙ ap (λ (m : MyTree). m.0.pin) (c.next_statistic-statistic.ensures.frame.still
-        ∙ c.count-many.ensures.frame.still)),
-  );
-  none = c.settle.ensures.frame.none;
-}
+returns-clause-frame c = stays_read (reads_both c.count-many.ensures.frame
+    c.next_statistic-statistic.ensures.frame)
+    (stays_both c.put_at-tried.ensures.frame c.settle.ensures.frame)
 
 on_ok : (r : Result ℕ ℕ) {P : Type 0} → P → OnOk r P
 on_ok (Ok at) p = p
@@ -223,34 +175,8 @@ next_statistic-statistic-requires-clause-reading c = record {
 }
 
 pub put_at-tried-requires-clause-ready : goal.put_at-tried-requires-clause-ready
-put_at-tried-requires-clause-ready c = record {
-  own = (
-    c.next_statistic-statistic.ensures.frame.same.0
-        ∙ (c.count-many.ensures.frame.same.0 ∙ c.requires.ready.own.0),
-    ap (λ (m : MyTree). m.0.sizes) (c.next_statistic-statistic.ensures.frame.still
-        ∙ c.count-many.ensures.frame.still) ∙ c.requires.ready.own.1,
-  );
-  numbered = numbered_as c.args.pass.now.number c.next_statistic-statistic.new.pass.number
-      c.args.pass.now.seat.me.0.pin c.next_statistic-statistic.new.pass.seat.me.0.pin
-      (c.next_statistic-statistic.ensures.frame.number ∙ c.count-many.ensures.frame.number)
-      (ap (λ (m : MyTree). m.0.pin.number) (c.next_statistic-statistic.ensures.frame.still
-      ∙ c.count-many.ensures.frame.still)) c.requires.ready.numbered;
-  pinned = ap (λ (m : MyTree). m.0.pin.pinned) (c.next_statistic-statistic.ensures.frame.still
-      ∙ c.count-many.ensures.frame.still)
-      ∙ c.requires.ready.pinned;
-  number = subst
-      (λ (m : MyTree). 0 < m.0.upper.number) (sym (c.next_statistic-statistic.ensures.frame.still
-      ∙ c.count-many.ensures.frame.still)) c.requires.ready.number;
-  none = held_looked c.args.tree.now.space.table.shared.key.rows c.args.pass.now.kept
-      c.next_statistic-statistic.new.pass.kept
-      c.args.pass.now.seat.me
-      c.next_statistic-statistic.new.pass.seat.me [] c.requires.ready.none
-      (c.next_statistic-statistic.ensures.frame.kept ∙ c.count-many.ensures.frame.kept)
-      (ap (λ (m : MyTree). m.0.claims) (c.next_statistic-statistic.ensures.frame.still
-      ∙ c.count-many.ensures.frame.still))
-      (ap (λ (m : MyTree). m.0.most) (c.next_statistic-statistic.ensures.frame.still
-      ∙ c.count-many.ensures.frame.still));
-}
+put_at-tried-requires-clause-ready c = ready_read (reads_both c.count-many.ensures.frame
+    c.next_statistic-statistic.ensures.frame) c.requires.ready
 
 pub put_at-tried-requires-clause-place : goal.put_at-tried-requires-clause-place
 put_at-tried-requires-clause-place c = subst
@@ -273,55 +199,16 @@ put_at-tried-requires-clause-room c = subst
     (c.has_room.ensures.0 c.if-not-has_room.false)
 
 pub settle-requires-clause-ready : goal.settle-requires-clause-ready
-settle-requires-clause-ready c = record {
-  own = (
-    c.put_at-tried.ensures.frame.same.0
-        ∙ (c.next_statistic-statistic.ensures.frame.same.0
-        ∙ (c.count-many.ensures.frame.same.0 ∙ c.requires.ready.own.0)),
-    c.put_at-tried.ensures.frame.pin.0
-        ∙ (ap (λ (m : MyTree). m.0.sizes) (c.next_statistic-statistic.ensures.frame.still
-        ∙ c.count-many.ensures.frame.still) ∙ c.requires.ready.own.1),
-  );
-  numbered = numbered_as c.args.pass.now.number c.put_at-tried.new.pass.number
-      c.args.pass.now.seat.me.0.pin c.put_at-tried.new.pass.seat.me.0.pin
-      (c.put_at-tried.ensures.frame.number
-      ∙ (c.next_statistic-statistic.ensures.frame.number ∙ c.count-many.ensures.frame.number))
-      (ap (λ (p : Pin). p.number) c.put_at-tried.ensures.frame.pin.1
-      ∙ ap (λ (m : MyTree). m.0.pin.number) (c.next_statistic-statistic.ensures.frame.still
-      ∙ c.count-many.ensures.frame.still)) c.requires.ready.numbered;
-  pinned = ap (λ (p : Pin). p.pinned) c.put_at-tried.ensures.frame.pin.1
-      ∙ (ap (λ (m : MyTree). m.0.pin.pinned) (c.next_statistic-statistic.ensures.frame.still
-      ∙ c.count-many.ensures.frame.still) ∙ c.requires.ready.pinned);
-  number = search rules;
-  none = c.put_at-tried.ensures.frame.none;
-}
+settle-requires-clause-ready c = ready_after
+    (ready_read (reads_both c.count-many.ensures.frame
+    c.next_statistic-statistic.ensures.frame) c.requires.ready)
+    c.put_at-tried.ensures.frame (search rules)
 
 pub returns-clause-full : goal.returns-clause-full
 returns-clause-full c = λ e. absurd (c.settle.ensures.deep e)
 
 pub make_room-requires-clause-ready : goal.make_room-requires-clause-ready
-make_room-requires-clause-ready c = record {
-  own = (
-    c.count-many.ensures.frame.same.0 ∙ c.requires.ready.own.0,
-    ap (λ (m : MyTree). m.0.sizes) c.count-many.ensures.frame.still
-        ∙ c.requires.ready.own.1,
-  );
-  numbered = numbered_as c.args.pass.now.number c.count-many.new.pass.number
-      c.args.pass.now.seat.me.0.pin c.count-many.new.pass.seat.me.0.pin
-      c.count-many.ensures.frame.number
-      (ap (λ (m : MyTree). m.0.pin.number) c.count-many.ensures.frame.still)
-      c.requires.ready.numbered;
-  pinned = ap (λ (m : MyTree). m.0.pin.pinned) c.count-many.ensures.frame.still
-      ∙ c.requires.ready.pinned;
-  number = subst
-      (λ (m : MyTree). 0 < m.0.upper.number) (sym c.count-many.ensures.frame.still)
-      c.requires.ready.number;
-  none = held_looked c.args.tree.now.space.table.shared.key.rows c.args.pass.now.kept
-      c.count-many.new.pass.kept c.args.pass.now.seat.me
-      c.count-many.new.pass.seat.me [] c.requires.ready.none c.count-many.ensures.frame.kept (ap
-      (λ (m : MyTree). m.0.claims) c.count-many.ensures.frame.still)
-      (ap (λ (m : MyTree). m.0.most) c.count-many.ensures.frame.still);
-}
+make_room-requires-clause-ready c = ready_read c.count-many.ensures.frame c.requires.ready
 
 pub make_room-requires-clause-looking : goal.make_room-requires-clause-looking
 make_room-requires-clause-looking c = (

@@ -15,7 +15,6 @@ use Rattle.ca_replace.proofs.Tuning.{tuned_on}
 use Rattle.ca_replace.proofs.Settling.{IsSettling}
 use Rattle.ca_replace.proofs.GoingOn.{is_new, known_then, settled_found, settled_on, settled_paid, settled_tried, tried_turns}
 use Rattle.ca_replace.proofs.Showing.{shown_last}
-use Rattle.ca_base.proofs.Tallies.{tallied_as}
 use Rattle.ca_rows.specs.Told.{met_of}
 use Rattle.ca_replace.proofs.DueCauses.{settled_met}
 use Rattle.ca_replace.proofs.Growing.{settled_grown}
@@ -23,9 +22,7 @@ use Rattle.ca_replace.proofs.Cutting.{settled_cut}
 use Rattle.ca_replace.proofs.Winning.{settled_won}
 use Rattle.ca_node.specs.Row.{pair}
 use Rattle.ca_model.specs.Places.{IsPlace}
-use Rattle.ca_rows.specs.declared.view.Pin.{Pin}
-use Rattle.ca_replace.proofs.Entries.{held_looked}
-use Rattle.ca_replace.proofs.Numbering.{numbered_as}
+use Rattle.ca_replace.proofs.Ready.{ready_after, ready_read, reads_both, stays_both, stays_read}
 use Rattle.ca_replace.proofs.attempting.remove_there.Goals as goal
 
 pub count-many-requires-clause-readable : goal.count-many-requires-clause-readable
@@ -99,38 +96,9 @@ settling c = record {
 }
 
 pub returns-clause-frame : goal.returns-clause-frame
-returns-clause-frame c = record {
-  same = (
-    c.settle.ensures.frame.same.0
-        ∙ (c.remove_at-tried.ensures.frame.same.0
-        ∙ (c.next_statistic-statistic.ensures.frame.same.0 ∙ c.count-many.ensures.frame.same.0)),
-    c.settle.ensures.frame.same.1
-        ∙ (c.remove_at-tried.ensures.frame.same.1
-        ∙ (c.next_statistic-statistic.ensures.frame.same.1 ∙ c.count-many.ensures.frame.same.1)),
-  );
-  number = c.settle.ensures.frame.number
-      ∙ (c.remove_at-tried.ensures.frame.number ∙ (c.next_statistic-statistic.ensures.frame.number
-      ∙ c.count-many.ensures.frame.number));
-  tally = λ h.
-      c.settle.ensures.frame.tally
-      (c.remove_at-tried.ensures.frame.tally
-      (tallied_as c.args.pass.now.tally c.next_statistic-statistic.new.pass.tally
-      c.args.pass.now.seat.me.0.upper c.next_statistic-statistic.new.pass.seat.me.0.upper
-      (c.next_statistic-statistic.ensures.frame.tally ∙ c.count-many.ensures.frame.tally)
-      (ap (λ (m : MyTree). m.0.upper) (c.next_statistic-statistic.ensures.frame.still
-      ∙ c.count-many.ensures.frame.still)) h));
-  pin = (
-    c.settle.ensures.frame.pin.0
-        ∙ (c.remove_at-tried.ensures.frame.pin.0
-        ∙ ap (λ (m : MyTree). m.0.sizes) (c.next_statistic-statistic.ensures.frame.still
-        ∙ c.count-many.ensures.frame.still)),
-    c.settle.ensures.frame.pin.1
-        ∙ (c.remove_at-tried.ensures.frame.pin.1
-        ∙ ap (λ (m : MyTree). m.0.pin) (c.next_statistic-statistic.ensures.frame.still
-        ∙ c.count-many.ensures.frame.still)),
-  );
-  none = c.settle.ensures.frame.none;
-}
+returns-clause-frame c = stays_read (reads_both c.count-many.ensures.frame
+    c.next_statistic-statistic.ensures.frame)
+    (stays_both c.remove_at-tried.ensures.frame c.settle.ensures.frame)
 
 pub next_statistic-statistic-requires-clause-reading : goal.next_statistic-statistic-requires-clause-reading
 next_statistic-statistic-requires-clause-reading c = record {
@@ -144,34 +112,8 @@ next_statistic-statistic-requires-clause-reading c = record {
 }
 
 pub remove_at-tried-requires-clause-ready : goal.remove_at-tried-requires-clause-ready
-remove_at-tried-requires-clause-ready c = record {
-  own = (
-    c.next_statistic-statistic.ensures.frame.same.0
-        ∙ (c.count-many.ensures.frame.same.0 ∙ c.requires.ready.own.0),
-    ap (λ (m : MyTree). m.0.sizes) (c.next_statistic-statistic.ensures.frame.still
-        ∙ c.count-many.ensures.frame.still) ∙ c.requires.ready.own.1,
-  );
-  numbered = numbered_as c.args.pass.now.number c.next_statistic-statistic.new.pass.number
-      c.args.pass.now.seat.me.0.pin c.next_statistic-statistic.new.pass.seat.me.0.pin
-      (c.next_statistic-statistic.ensures.frame.number ∙ c.count-many.ensures.frame.number)
-      (ap (λ (m : MyTree). m.0.pin.number) (c.next_statistic-statistic.ensures.frame.still
-      ∙ c.count-many.ensures.frame.still)) c.requires.ready.numbered;
-  pinned = ap (λ (m : MyTree). m.0.pin.pinned) (c.next_statistic-statistic.ensures.frame.still
-      ∙ c.count-many.ensures.frame.still)
-      ∙ c.requires.ready.pinned;
-  number = subst
-      (λ (m : MyTree). 0 < m.0.upper.number) (sym (c.next_statistic-statistic.ensures.frame.still
-      ∙ c.count-many.ensures.frame.still)) c.requires.ready.number;
-  none = held_looked c.args.tree.now.space.table.shared.key.rows c.args.pass.now.kept
-      c.next_statistic-statistic.new.pass.kept
-      c.args.pass.now.seat.me
-      c.next_statistic-statistic.new.pass.seat.me [] c.requires.ready.none
-      (c.next_statistic-statistic.ensures.frame.kept ∙ c.count-many.ensures.frame.kept)
-      (ap (λ (m : MyTree). m.0.claims) (c.next_statistic-statistic.ensures.frame.still
-      ∙ c.count-many.ensures.frame.still))
-      (ap (λ (m : MyTree). m.0.most) (c.next_statistic-statistic.ensures.frame.still
-      ∙ c.count-many.ensures.frame.still));
-}
+remove_at-tried-requires-clause-ready c = ready_read (reads_both c.count-many.ensures.frame
+    c.next_statistic-statistic.ensures.frame) c.requires.ready
 
 pub remove_at-tried-requires-clause-place : goal.remove_at-tried-requires-clause-place
 remove_at-tried-requires-clause-place c = subst
@@ -188,29 +130,10 @@ remove_at-tried-requires-clause-about c = subst
     c.requires.looking.about
 
 pub settle-requires-clause-ready : goal.settle-requires-clause-ready
-settle-requires-clause-ready c = record {
-  own = (
-    c.remove_at-tried.ensures.frame.same.0
-        ∙ (c.next_statistic-statistic.ensures.frame.same.0
-        ∙ (c.count-many.ensures.frame.same.0 ∙ c.requires.ready.own.0)),
-    c.remove_at-tried.ensures.frame.pin.0
-        ∙ (ap (λ (m : MyTree). m.0.sizes) (c.next_statistic-statistic.ensures.frame.still
-        ∙ c.count-many.ensures.frame.still)
-        ∙ c.requires.ready.own.1),
-  );
-  numbered = numbered_as c.args.pass.now.number c.remove_at-tried.new.pass.number
-      c.args.pass.now.seat.me.0.pin c.remove_at-tried.new.pass.seat.me.0.pin
-      (c.remove_at-tried.ensures.frame.number
-      ∙ (c.next_statistic-statistic.ensures.frame.number ∙ c.count-many.ensures.frame.number))
-      (ap (λ (p : Pin). p.number) c.remove_at-tried.ensures.frame.pin.1
-      ∙ ap (λ (m : MyTree). m.0.pin.number) (c.next_statistic-statistic.ensures.frame.still
-      ∙ c.count-many.ensures.frame.still)) c.requires.ready.numbered;
-  pinned = ap (λ (p : Pin). p.pinned) c.remove_at-tried.ensures.frame.pin.1
-      ∙ (ap (λ (m : MyTree). m.0.pin.pinned) (c.next_statistic-statistic.ensures.frame.still
-      ∙ c.count-many.ensures.frame.still) ∙ c.requires.ready.pinned);
-  number = search rules;
-  none = c.remove_at-tried.ensures.frame.none;
-}
+settle-requires-clause-ready c = ready_after
+    (ready_read (reads_both c.count-many.ensures.frame
+    c.next_statistic-statistic.ensures.frame) c.requires.ready)
+    c.remove_at-tried.ensures.frame (search rules)
 
 pub remove_at-tried-requires-clause-target : goal.remove_at-tried-requires-clause-target
 remove_at-tried-requires-clause-target c = let z = c.args.tree.now.space.table.shared.key in
