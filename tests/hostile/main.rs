@@ -132,6 +132,7 @@ fn complete(program: &mut Answers, inputs: &[&[u8]], wanted: &[Answer]) {
     }
 }
 
+/// Plays inputs for so long, and on a slow or busy machine until each sort of answer came, twenty times as long at most.
 fn run(program: &mut Answers, time: Duration, seed: u64) -> Counts {
     let mut random = Random::new(seed);
     let mut counts = Counts::default();
@@ -141,7 +142,7 @@ fn run(program: &mut Answers, time: Duration, seed: u64) -> Counts {
         let batch: Vec<Input> = short.by_ref().take(BATCH).collect();
         compare(program, &batch, &mut counts);
     }
-    while start.elapsed() < time {
+    while start.elapsed() < time || (!counts.are_full() && start.elapsed() < 20 * time) {
         let batch: Vec<Input> = (0..BATCH).map(|_| inputs::input(&mut random)).collect();
         compare(program, &batch, &mut counts);
     }

@@ -1,5 +1,5 @@
 #!/bin/sh
-# Feeds the proved reader of term texts hostile bytes for so many seconds, and compares each answer with that of the grammar.
+# Feeds the proved reader of term texts hostile bytes for so many seconds, or until each sort of answer came, and compares them with those of the grammar.
 #   tests/hostile/run.sh [SECONDS [SEED]]     the same seed gives the same inputs
 #   tests/hostile/run.sh one HEXADECIMAL      tells both answers to one input
 # KIT is the kit's folder. Where there is no rustc it says so and passes.

@@ -4,7 +4,7 @@ use Rattle.ca_adapt.specs.declared.tuning.Tuning.{Tuning}
 use Rattle.ca_base.specs.declared.stop.Stop.{Stop}
 use Rattle.ca_base.specs.Progress.{IsFurther}
 use Rattle.ca_base.specs.Putting.{first_note, stopped}
-use Rattle.ca_base.specs.Readiness.{IsReady, StaysReady}
+use Rattle.ca_base.specs.Readiness.{StaysReady}
 use Rattle.ca_base.specs.Splitting.{HasSplit}
 use Rattle.ca_model.specs.Event.{Event, Entry}
 use Rattle.ca_model.specs.History.{History}

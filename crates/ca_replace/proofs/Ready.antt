@@ -1,5 +1,5 @@
 -- Passes that are ready for an operation on a base stay so behind what they do.
-use Rattle.std.proofs.Common.{◌≡◌, ◌<◌, [], sym, ap, ◌∙◌, subst}
+use Rattle.std.proofs.Common.{◌<◌, [], sym, ap, ◌∙◌, subst}
 use Rattle.ca_base.specs.Readiness.{IsReady, StaysReady}
 use Rattle.ca_base.proofs.Tallies.{tallied_as}
 use Rattle.ca_node.specs.Told.{MyTree}
