@@ -14,7 +14,8 @@ use Rattle.ca_node.specs.Inventory.{AreOnce, row_itself}
 use Rattle.ca_node.specs.Links.{IsIn}
 use Rattle.ca_node.specs.Place.{HasKey, edit_key}
 use Rattle.ca_node.specs.Row.{items, pair, row_in, IsHeaded}
-use Rattle.ca_node.specs.Told.{MyTree, Update, IsBaseNote, IsObjectOf, IsLastThere, IsUpdate}
+use Rattle.ca_node.specs.Notes.{IsBaseNote}
+use Rattle.ca_node.specs.Told.{MyTree, Update, IsObjectOf, IsLastThere, IsUpdate}
 use Rattle.ca_node.specs.TreeView.{Note, TreeView}
 use Rattle.ca_node.proofs.Looking.{in_more}
 use Rattle.ca_base.specs.Putting.{gone, object_at, IsShownLast, first_note, words_of}

@@ -8,7 +8,8 @@ use Rattle.ca_node.specs.Links.{IsIn}
 use Rattle.ca_node.specs.Place.{edit_key}
 use Rattle.ca_node.specs.Row.{IsObjectRow, items, pair}
 use Rattle.ca_rows.specs.Told.{met_of}
-use Rattle.ca_node.specs.Told.{MyTree, Update, IsBaseNote, IsUpdate, IsUpdated, updated}
+use Rattle.ca_node.specs.Notes.{IsBaseNote}
+use Rattle.ca_node.specs.Told.{MyTree, Update, IsUpdate, IsUpdated, updated}
 use Rattle.ca_node.specs.TreeView.{Note, TreeView}
 use Rattle.ca_node.proofs.Members.{in_first, in_rest}
 use Rattle.ca_base.specs.Counting.{losses, HasMet}

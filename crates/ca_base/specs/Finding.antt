@@ -7,7 +7,8 @@ use Rattle.ca_model.specs.Places.{IsPlace}
 use Rattle.ca_node.specs.declared.cursor.Cursor.{Cursor}
 use Rattle.ca_node.specs.Links.{IsIn}
 use Rattle.ca_node.specs.Row.{bytes_in, count, items, pair, code_words, head_of, prefix_length}
-use Rattle.ca_node.specs.Told.{IsBaseNote, IsShown, link_word}
+use Rattle.ca_node.specs.Notes.{IsBaseNote}
+use Rattle.ca_node.specs.Told.{IsShown, link_word}
 use Rattle.ca_node.specs.TreeView.{Note, TreeView}
 use Rattle.ca_rows.specs.declared.sizes.Sizes.{Sizes}
 use Rattle.ca_rows.specs.Layout.{row_words}

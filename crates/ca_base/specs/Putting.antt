@@ -7,7 +7,8 @@ use Rattle.ca_model.specs.History.{Edit, Put, after_edit}
 use Rattle.ca_node.specs.Links.{IsIn}
 use Rattle.ca_node.specs.Place.{edit_key}
 use Rattle.ca_node.specs.Row.{items, object, key, pair, item_words}
-use Rattle.ca_node.specs.Told.{MyTree, IsBaseNote, IsKnown, Update, one_more_lost, updated_inventory}
+use Rattle.ca_node.specs.Notes.{IsBaseNote}
+use Rattle.ca_node.specs.Told.{MyTree, IsKnown, Update, one_more_lost, updated_inventory}
 use Rattle.ca_node.specs.TreeView.{Note, Renewal, TreeView, no_note}
 use Rattle.ca_base.specs.declared.stop.Exchange.TheVariants as exchange
 use Rattle.ca_base.specs.declared.stop.Stop.{Stop}

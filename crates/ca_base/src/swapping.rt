@@ -2,7 +2,8 @@
 ghost use Rattle.std.specs.Prelude.{◌≡◌, ◌≢◌, ◌<◌, ◌≤◌, ℕ, List, [], ◌∷◌, length, Err, slice_index};
 ghost use Rattle.ca_node.specs.Inventory.{IsListed};
 ghost use Rattle.ca_node.specs.Links.{IsIn, AreApart};
-ghost use Rattle.ca_node.specs.Told.{IsBaseNote, IsUpdate};
+ghost use Rattle.ca_node.specs.Notes.{IsBaseNote};
+ghost use Rattle.ca_node.specs.Told.{IsUpdate};
 ghost use Rattle.ca_node.specs.States.{IsAlone};
 ghost use Rattle.ca_base.specs.Counting.{losses, IsSpent, HasCleared, HasFound, HasMet, KeepsMore, PutsBack};
 ghost use Rattle.ca_base.specs.Finding.{IsAtCursor};

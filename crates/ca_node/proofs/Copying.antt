@@ -33,7 +33,7 @@ use Rattle.ca_node.specs.Shape.{Role, Base}
 use Rattle.ca_node.specs.Told.{MyTree, taken_out, given, lent_out}
 use Rattle.ca_node.specs.Tree.{IsTrue, IsLinkOfView, Knows, IsTree}
 use Rattle.ca_node.specs.TreeView.{Note, Border, KnownRanges, TreeView}
-use Rattle.ca_node.proofs.Exchanging.{IsExchange, settled_over, old_map, new_its, out_linked, out_unlent, note_keeps, way_keeps, ranging_keeps, replaced, served_lent, new_true, own_notes, exchange_step}
+use Rattle.ca_node.proofs.Exchanging.{IsExchange, settled_over, old_map, new_its, out_linked, out_unlent, note_keeps, shown_keeps, way_keeps, ranging_keeps, replaced, served_lent, new_true, own_notes, exchange_step}
 use Rattle.ca_node.proofs.Holding.{unclaimed_row}
 use Rattle.ca_node.proofs.Looking.{R, of_map, knows_upper, in_more}
 use Rattle.ca_node.proofs.Members.{in_notes}
@@ -170,11 +170,17 @@ module _ (z : Sizes) (s : State (Unit {0}) (View TreeView)) (r : R z s) (id : �
         → ((number : ℕ) → IsActive s.words y.upper.number number
         → ((b : ℕ) → IsBase r.above.role b → ¬ IsMarkedBy (row_at s.words b) y.upper.number number)
         → ¬ IsMarkedBy x.its y.upper.number number)
-        → IsRanging z.rows words' role' (r.above.ranged.ends y.upper.number) y.upper.since
+        → IsRanging z words' role' (r.above.ranged.ends y.upper.number) y.upper.since
         r.above.history y.upper.number y.upper.ranges
     ranging_still j y here unmarked = ranging_keeps z s r id me at new (update_of x) ex hit over
         r.above.history mark bounded has_now others_have served serve served_once new_end j y here longer
         unmarked
+
+    -- What it was shown of a run says what is so still.
+    pub run_keeps : (note : Note) → IsIn note me.0.upper.ranges.run
+        → IsTrue z.rows words' role' note
+    run_keeps = shown_keeps z s r id me at new (update_of x) ex hit over r.above.history mark bounded
+        has_now others_have served serve served_once new_end id me.0 at
 
     -- The seat knows this of ranges then.
     module _ (ranges : KnownRanges)
@@ -183,7 +189,7 @@ module _ (z : Sizes) (s : State (Unit {0}) (View TreeView)) (r : R z s) (id : �
         x.number x.old.row new
         ⊎ ((left : ℕ) × IsNext (scene_of s.words r.above.role) (scene_of words' role') x.pass x.number
         x.old.row new left))
-        (own : IsRanging z.rows words' role' (r.above.ranged.ends me.0.upper.number) me.0.upper.since
+        (own : IsRanging z words' role' (r.above.ranged.ends me.0.upper.number) me.0.upper.since
         r.above.history me.0.upper.number ranges)
         (unmarked : (j : ℕ) (y : View TreeView) → j ≢ id → get_elem? s.views j ≡ some y
         → (number : ℕ) → IsActive s.words y.upper.number number
@@ -193,7 +199,8 @@ module _ (z : Sizes) (s : State (Unit {0}) (View TreeView)) (r : R z s) (id : �
         → IsIn border me.0.upper.ranges.borders ⊎ IsLinked (set s.words x.old.place.link new) border.row)
         (run : (row : ℕ) → IsOfOwnRun (set s.words x.old.place.link new)
         (copied served ranges new x me.0.upper) row
-        → IsOfOwnRun (set s.words x.old.place.link new) me.0.upper row) where
+        → IsOfOwnRun (set s.words x.old.place.link new) me.0.upper row)
+        (shown : ranges.run ≡ me.0.upper.ranges.run) where
       abbrev u' : TreeView
       u' = copied served ranges new x me.0.upper
 
@@ -238,7 +245,7 @@ module _ (z : Sizes) (s : State (Unit {0}) (View TreeView)) (r : R z s) (id : �
 
       others_know : (j : ℕ) (v : TreeView) → j ≢ id → get_elem? (map upper_of s.views) j ≡ some v
           → Knows z.rows r.made words' role' (set (map upper_of s.views) id u') r.above.history j v
-          × IsRanging z.rows words' role' (r.above.ranged.ends v.number) v.since r.above.history
+          × IsRanging z words' role' (r.above.ranged.ends v.number) v.since r.above.history
           v.number v.ranges
       others_know j v ne here = let y = of_map upper_of s.views j v here in
           let k = relisted z.rows r.made s.words role (map upper_of s.views)
@@ -260,7 +267,7 @@ module _ (z : Sizes) (s : State (Unit {0}) (View TreeView)) (r : R z s) (id : �
                   (subst (λ (w : TreeView). IsIn way w.ways) (sym y.2) i);
               ended = k.ended;
             },
-            subst (λ (w : TreeView). IsRanging z.rows words' role' (r.above.ranged.ends w.number) w.since
+            subst (λ (w : TreeView). IsRanging z words' role' (r.above.ranged.ends w.number) w.since
                 r.above.history w.number w.ranges) y.2
                 (ranging_still j y.0 y.1 (unmarked j y.0 ne y.1)),
           )
@@ -270,7 +277,7 @@ module _ (z : Sizes) (s : State (Unit {0}) (View TreeView)) (r : R z s) (id : �
       copy_step = exchange_step z s r id me at new (update_of x) ex hit over r.above.history mark bounded
           has_now others_have served serve served_once new_end u'
           (own_notes z s r id me at new (update_of x) ex hit over r.above.history mark bounded has_now
-          others_have served serve served_once new_end u' refl refl borders run)
+          others_have served serve served_once new_end u' refl refl borders run shown)
           refl f.edits f.by_passes f.quiet (runs_now fits) own_knows own others_know
 
       pub copied_now : IsCopied served ranges new x me (d', me.1)

@@ -446,7 +446,7 @@ module _ (z : Sizes) (s : State (Unit {0}) (View TreeView)) (r : R z s) (id : �
             (t.3.0, refl, refl) t.3.1,
         subst (λ its. (mark its ≡ 1) × IsActive words' (mark_owner its) (mark_number its)
             × (mark_bound its ≡ row)) (sym same)
-            (t.3.0, active_on z.rows s.words words' role role' same_ranges _ _ t.3.1, t.3.2),
+            (t.3.0, active_on z s.words words' role role' same_ranges _ _ t.3.1, t.3.2),
       )
 
   lent_back : (row : ℕ) → IsLent words' row → IsLent s.words row
@@ -458,7 +458,7 @@ module _ (z : Sizes) (s : State (Unit {0}) (View TreeView)) (r : R z s) (id : �
         t.0,
         t.1,
         b.0,
-        (c.0, active_back z.rows s.words words' role role' same_ranges _ _ c.1, c.2),
+        (c.0, active_back z s.words words' role role' same_ranges _ _ c.1, c.2),
       )
 
   stays_back : (row : ℕ) → ¬ Coming row → IsLinked words' row → IsLinked s.words row
@@ -630,7 +630,7 @@ module _ (z : Sizes) (s : State (Unit {0}) (View TreeView)) (r : R z s) (id : �
 
   -- A seat knows of ranges what it knew.
   ranging_still : (j : ℕ) (y : View TreeView) → get_elem? s.views j ≡ some y
-      → IsRanging z.rows words' role' (r.above.ranged.ends y.upper.number) y.upper.since
+      → IsRanging z words' role' (r.above.ranged.ends y.upper.number) y.upper.since
       r.above.history y.upper.number y.upper.ranges
   ranging_still j y here =
       ranges_stay z s.words role last shape x.old.row place is_old x.route role' last shape' Coming
@@ -645,9 +645,9 @@ module _ (z : Sizes) (s : State (Unit {0}) (View TreeView)) (r : R z s) (id : �
   runs_now : AreRuns (scene_of words' role') r.above.ranged.ends
   runs_now = runs_still (scene_of s.words role) (scene_of words' role') f.ranged.ends f.ranged.runs record {
     alike = record {
-      active = active_on z.rows s.words words' role role' same_ranges;
-      was_active = active_back z.rows s.words words' role role' same_ranges;
-      begun = begun_on z.rows s.words words' role role' same_ranges;
+      active = active_on z s.words words' role role' same_ranges;
+      was_active = active_back z s.words words' role role' same_ranges;
+      begun = begun_on z s.words words' role role' same_ranges;
     };
     stay = λ pass number row now base m. let e = marked_stay row base.0 pass number base.1 m now in (
       (base.0, e),
@@ -655,7 +655,7 @@ module _ (z : Sizes) (s : State (Unit {0}) (View TreeView)) (r : R z s) (id : �
       ap mark_of (base_stays row base.0 base.1),
     );
     begun = λ pass number row base m. let b = was_marked row base.0 base.1 m.0 in
-        begun_on z.rows s.words words' role role' same_ranges pass number
+        begun_on z s.words words' role role' same_ranges pass number
         (f.ranged.runs.begun pass number row (base.0, b.0)
         (subst (λ its. IsMarkedBy its pass number) (base_stays row base.0 b.0) m));
     were = λ pass number row base m now. let b = was_marked row base.0 base.1 m.0 in
@@ -824,16 +824,16 @@ module _ (z : Sizes) (s : State (Unit {0}) (View TreeView)) (r : R z s) (id : �
       ends = f.ranged.ends;
       runs = runs_now;
       made_before = λ pass number now. f.ranged.made_before pass number
-          (active_back z.rows s.words words' role role' same_ranges pass number now);
+          (active_back z s.words words' role role' same_ranges pass number now);
       each =
-          all_seats (λ j v. IsRanging z.rows words' role' (f.ranged.ends v.number) v.since f.history
+          all_seats (λ j v. IsRanging z words' role' (f.ranged.ends v.number) v.since f.history
           v.number v.ranges) (map upper_of s.views) id u' (ranging_still id d at)
           (λ j v n here. let y = of_map upper_of s.views j v here in
-          subst (λ (w : TreeView). IsRanging z.rows words' role' (f.ranged.ends w.number) w.since
+          subst (λ (w : TreeView). IsRanging z words' role' (f.ranged.ends w.number) w.since
           f.history w.number w.ranges) y.2 (ranging_still j y.0 y.1));
     };
     quiet = λ pass number now. f.quiet pass number
-        (active_back z.rows s.words words' role role' same_ranges pass number now);
+        (active_back z s.words words' role role' same_ranges pass number now);
     each_seat =
         all_seats (Knows z.rows r.made words' role' (set (map upper_of s.views) id u') f.history)
         (map upper_of s.views) id u' own_knows
@@ -893,7 +893,7 @@ module _ (z : Sizes) (s : State (Unit {0}) (View TreeView)) (r : R z s) (id : �
                   ∙ l.1,
             ))
             (notes_keep id d at c (noted_alike words' d.upper u'
-            (λ y m. absurd (in_nothing y [] refl m)) (λ y m. m) (λ y m. m) (λ y m. m) c (subst
+            (λ y m. absurd (in_nothing y [] refl m)) (λ y m. m) (λ y m. m) (λ y m. m) (λ y m. m) c (subst
             (λ (w : View TreeView). IsNoted words' w.upper c) (sym t.1) n))))
             (λ (t : (j ≢ id) × (get_elem? s.views j ≡ some y)). ⊎_elim (λ w. inl (y, t.1, w))
             (λ l. inr l) (notes_keep j y t.1 c n))

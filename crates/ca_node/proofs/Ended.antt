@@ -1,36 +1,36 @@
 -- An active range ends: the word of its pass says from then on that it was decided, or given up. What changes in the words, and what of the tree stands.
-use Rattle.std.proofs.Common.{◌≡◌, ◌≢◌, ℕ, ◌+◌, ◌*◌, ◌/◌, ◌%◌, ◌<◌, ◌≤◌, List, [], map, get_or, set, sym, refl, ap, ◌∙◌, subst, inl, inr, ⊎_elim, arith, length-set, get_or-set_other, get_or-set_same}
+use Rattle.std.proofs.Common.{◌≡◌, ◌≢◌, ℕ, ◌+◌, ◌*◌, ◌/◌, ◌%◌, ◌<◌, ◌≤◌, List, [], map, get_or, set, sym, refl, ap, ◌∙◌, subst, ⊎_elim, arith}
 use mathlib.Core.Logic.{dite}
 use mathlib.Core.Option.{some, some-ne-none}
 use native.Mathlib.Decide.{ℕ_discrete}
 use lib.ListN.{get_elem?}
 use Rattle.atomic_table.specs.Table.{State}
-use Rattle.ca_model.specs.History.{History, after}
+use Rattle.ca_model.specs.History.{after}
 use Rattle.ca_model.specs.StoreMap.{StoreMap}
-use Rattle.ca_rows.specs.Layout.{row_words, pass_words, row_limit}
+use Rattle.ca_rows.specs.Layout.{row_words, row_limit}
 use Rattle.ca_rows.specs.Rule.{upper_of}
-use Rattle.ca_rows.specs.Words.{IsWide, own_word, announced, result_of}
+use Rattle.ca_rows.specs.Words.{own_word, result_of}
 use Rattle.ca_rows.specs.declared.sizes.Sizes.{Sizes}
 use Rattle.ca_rows.specs.declared.view.View.{View}
-use Rattle.ca_rows.proofs.OwnWords.{own_is, own_same, announced_else, result_else}
-use Rattle.ca_runs.specs.Runs.{Ends, AreRuns, range_of}
+use Rattle.ca_runs.specs.Runs.{AreRuns, range_of}
 use Rattle.ca_runs.proofs.Keeping.{of_run}
 use Rattle.ca_runs.proofs.Turning.{ends_one}
 use Rattle.ca_node.specs.Inventory.{but, row_itself, IsInventory}
 use Rattle.ca_node.specs.Layout.{root_word, sequence_unit}
 use Rattle.ca_node.specs.Links.{IsIn, IsActive, HasBegun, IsBoundOf, IsLinked, by_range, IsLent}
 use Rattle.ca_node.specs.Place.{Place}
-use Rattle.ca_node.specs.Ranging.{IsOver, IsTrueBorder, WasDecided, IsSoFar, IsRanging}
+use Rattle.ca_node.specs.Ranging.{IsOver, HasSequence, IsRanging}
 use Rattle.ca_node.specs.Reached.{base_at, placed_linked, item_linked, item_at, reached, linked_range, lent_end, end_lent, end_at, end_out}
 use Rattle.ca_node.specs.Row.{row_at, form, IsObjectRow, items, mark, mark_owner, mark_number, mark_bound, IsMarkedBy}
 use Rattle.ca_node.specs.Scenes.{IsBase, mark_of, scene_of}
 use Rattle.ca_node.specs.Shape.{Role, Base, place_of, IsShape}
 use Rattle.ca_node.specs.Standing.{shape_stands}
-use Rattle.ca_node.specs.Stays.{row_same, map_same}
+use Rattle.ca_node.specs.Stays.{map_same}
 use Rattle.ca_node.specs.Tree.{IsTrue, IsTree}
-use Rattle.ca_node.specs.TreeView.{Note, Over, Border, Ranging, Quiet, Unmarked, Marking, Left, Inventory, TreeView}
+use Rattle.ca_node.specs.TreeView.{Note, Over, Inventory, TreeView}
 use Rattle.ca_node.proofs.Listing.{in_but, of_but, but_once}
 use Rattle.ca_node.proofs.Looking.{R}
+use Rattle.ca_node.proofs.OwnWord.{else_word, result_same, result_here, wide', row_stays, base_stays, begun_then, ranging_else}
 
 module _ (z : Sizes) (s : State (Unit {0}) (View TreeView)) (r : R z s) (pass number word' : ℕ) (lo : 0 < pass) (hi : pass ≤ 64)
     (hit : result_of s.words pass ≡ sequence_unit * number + row_limit)
@@ -51,69 +51,33 @@ module _ (z : Sizes) (s : State (Unit {0}) (View TreeView)) (r : R z s) (pass nu
   was_active : IsActive s.words pass number
   was_active = (lo, hi, hit)
 
-  far : own_word s.words pass + pass_words ≡ row_words * z.rows + row_words + pass_words * pass
-  far = own_is z.rows pass s.words f.shape.wide lo
-
-  -- No other word changes.
-  pub else_word : (i : ℕ) → i < row_words * z.rows + row_words → get_or words' i 0 ≡ get_or s.words i 0
-  else_word i l = let w = far in get_or-set_other s.words (own_word s.words pass + 1) i word' 0 (λ e. omega arith)
-
-  pub told_same : (p : ℕ) → 0 < p → p ≤ 64 → announced words' p ≡ announced s.words p
-  told_same p lo' hi' = let w = far in let w' = own_is z.rows p s.words f.shape.wide lo' in
-      announced_else s.words (own_word s.words pass + 1) word' p (λ e. omega arith)
-
-  pub result_same : (p : ℕ) → 0 < p → p ≤ 64 → p ≢ pass → result_of words' p ≡ result_of s.words p
-  result_same p lo' hi' ne = let w = far in let w' = own_is z.rows p s.words f.shape.wide lo' in
-      result_else s.words (own_word s.words pass + 1) word' p (λ e. ne (omega arith))
-
-  pub result_here : result_of words' pass ≡ word'
-  result_here = let w = far in let wide = f.shape.wide in
-      ap (λ (n : ℕ). get_or words' (n + 1) 0) (own_same s.words words' pass (length-set s.words (own_word s.words pass + 1) word'))
-      ∙ get_or-set_same s.words (own_word s.words pass + 1) word' 0 (omega arith)
-
-  pub wide' : IsWide z.rows words'
-  wide' = length-set s.words (own_word s.words pass + 1) word' ∙ f.shape.wide
-
-  -- Each row has the same words.
-  pub row_stays : (row : ℕ) → row ≤ z.rows → row_at words' row ≡ row_at s.words row
-  row_stays row inside = row_same s.words words' z.rows row f.shape.wide wide' inside
-      (λ k l. else_word (row_words * row + k) (omega arith))
-
   -- The range isn't active any more, others are as they were.
   pub not_active : (n : ℕ) → ¬ IsActive words' pass n
-  not_active n now = let here = sym result_here ∙ now.2 in is_over (omega arith)
+  not_active n now = let here = sym (result_here z s r pass word' lo hi) ∙ now.2 in is_over (omega arith)
 
   pub active_before : (p n : ℕ) → IsActive words' p n → IsActive s.words p n × (p ≢ pass)
   active_before p n now = dite (ℕ_discrete p pass)
       (λ (e : p ≡ pass). absurd (not_active n (subst (λ q. IsActive words' q n) e now)))
-      (λ ne. ((now.0, now.1, sym (result_same p now.0 now.1 ne) ∙ now.2), ne))
+      (λ ne. ((now.0, now.1, sym (result_same z s r pass word' lo hi p now.0 now.1 ne) ∙ now.2), ne))
 
   pub active_then : (p n : ℕ) → p ≢ pass → IsActive s.words p n → IsActive words' p n
-  active_then p n ne now = (now.0, now.1, result_same p now.0 now.1 ne ∙ now.2)
+  active_then p n ne now = (now.0, now.1, result_same z s r pass word' lo hi p now.0 now.1 ne ∙ now.2)
 
-  pub begun_then : (p n : ℕ) → HasBegun s.words p n → HasBegun words' p n
-  begun_then p n b = dite (ℕ_discrete p pass)
-      (λ (e : p ≡ pass). (
-        b.0,
-        b.1,
-        subst (λ q. n ≤ result_of words' q / sequence_unit) (sym e)
-            (let here = result_here in let was : n ≤ result_of s.words pass / sequence_unit = subst (λ q. n ≤ result_of s.words q / sequence_unit) e b.2 in
-            let is = hit in let same = same_number in subst (λ v. n ≤ v / sequence_unit) (sym result_here) (omega arith)),
-      ))
-      (λ ne. (b.0, b.1, subst (λ v. n ≤ v / sequence_unit) (sym (result_same p b.0 b.1 ne)) b.2))
+  rises : result_of s.words pass / sequence_unit ≤ word' / sequence_unit
+  rises = let here = hit in let same = same_number in omega arith
+
+  pub began : (p n : ℕ) → HasBegun s.words p n → HasBegun words' p n
+  began = begun_then z s r pass word' lo hi rises
 
   pub shape' : IsShape z words' r.above.role (after r.above.history [])
-  shape' = shape_stands z s.words words' role last f.shape wide' (else_word root_word (omega arith))
-      (λ p lo' hi'. (begun_then p (result_of s.words p / sequence_unit) (lo', hi', omega arith)).2)
-      (λ p n now. (active_before p n now).0)
-      (λ row l k inside. let hi' = (linked_range z s.words role last f.shape row l).1 in else_word (row_words * row + k) (omega arith))
+  shape' = shape_stands z s.words words' role last f.shape (wide' z s r pass word' lo hi) (else_word z s r pass word' lo hi root_word (omega arith))
+      (λ p lo' hi'. (began p (result_of s.words p / sequence_unit) (lo', hi', omega arith)).2)
+      (λ b place is p n m now. (active_before p n now).0)
+      (λ row l k inside. let hi' = (linked_range z s.words role last f.shape row l).1 in else_word z s r pass word' lo hi (row_words * row + k) (omega arith))
 
   -- The row says up to where the range went.
   abbrev pub border : ℕ
   border = mark_bound (row_at s.words base)
-
-  base_stays : (b : ℕ) (p : Place) → role b ≡ Base p → row_at words' b ≡ row_at s.words b
-  base_stays b p e = row_stays b (base_at z s.words role last f.shape b p e).in_range
 
   border_bound : IsBoundOf s.words base border
   border_bound = (marked.0, subst (λ (y : ℕ × ℕ). IsActive s.words y.0 y.1) (λ i. (sym marked.1 i, sym marked.2 i)) was_active, refl)
@@ -150,14 +114,14 @@ module _ (z : Sizes) (s : State (Unit {0}) (View TreeView)) (r : R z s) (pass nu
         t.1,
         t.2,
         subst (λ its. (mark its ≡ 1)
-            × IsActive words' (mark_owner its) (mark_number its) × (mark_bound its ≡ row)) (sym (base_stays t.0 t.1 t.2))
+            × IsActive words' (mark_owner its) (mark_number its) × (mark_bound its ≡ row)) (sym (base_stays z s r pass word' lo hi t.0 t.1 t.2))
             (t.3.0, active_then (mark_owner (row_at s.words t.0)) (mark_number (row_at s.words t.0)) other t.3.1, t.3.2),
       ))
 
   end_before : (row : ℕ) (b : ℕ) (p : Place) → role b ≡ Base p → IsBoundOf words' b row
       → IsBoundOf s.words b row × (mark_owner (row_at s.words b) ≢ pass)
   end_before row b p e x = let k = subst (λ its. (mark its ≡ 1) × IsActive words' (mark_owner its) (mark_number its) × (mark_bound its ≡ row))
-      (base_stays b p e) x in let a = active_before (mark_owner (row_at s.words b)) (mark_number (row_at s.words b)) k.1 in
+      (base_stays z s r pass word' lo hi b p e) x in let a = active_before (mark_owner (row_at s.words b)) (mark_number (row_at s.words b)) k.1 in
       ((k.0, a.0, k.2), a.1)
 
   pub lent_before : (row : ℕ) → IsLent words' row → IsLent s.words row
@@ -171,7 +135,7 @@ module _ (z : Sizes) (s : State (Unit {0}) (View TreeView)) (r : R z s) (pass nu
       ∙ ap place_of (end_out z s.words role last f.shape border (base, base_is.0, base_is.1, border_bound))))
       (λ y. ⊎_elim
       (λ (t : (b : ℕ) × (p : Place) × (role b ≡ Base p) × IsIn border (items (row_at words' b))).
-      let o = (item_at z s.words role last f.shape t.0 t.1 t.2 border (subst (λ its. IsIn border (items its)) (base_stays t.0 t.1 t.2) t.3)).2.0 in
+      let o = (item_at z s.words role last f.shape t.0 t.1 t.2 border (subst (λ its. IsIn border (items its)) (base_stays z s r pass word' lo hi t.0 t.1 t.2) t.3)).2.0 in
       let four = border_form in omega arith)
       (λ (t : (b : ℕ) × (p : Place) × (role b ≡ Base p) × IsBoundOf words' b border).
       let x = end_before border t.0 t.1 t.2 t.3 in
@@ -184,7 +148,7 @@ module _ (z : Sizes) (s : State (Unit {0}) (View TreeView)) (r : R z s) (pass nu
       (λ (t : (p : Place) × (place_of (role row) ≡ some p)). placed_linked z s.words role last f.shape row t.0 t.1)
       (λ y. ⊎_elim
       (λ (t : (b : ℕ) × (p : Place) × (role b ≡ Base p) × IsIn row (items (row_at words' b))).
-      item_linked z s.words role last f.shape t.0 t.1 t.2 row (subst (λ its. IsIn row (items its)) (base_stays t.0 t.1 t.2) t.3))
+      item_linked z s.words role last f.shape t.0 t.1 t.2 row (subst (λ its. IsIn row (items its)) (base_stays z s r pass word' lo hi t.0 t.1 t.2) t.3))
       (λ (t : (b : ℕ) × (p : Place) × (role b ≡ Base p) × IsBoundOf words' b row).
       let k = end_lent z s.words role last f.shape row (t.0, t.1, t.2, (end_before row t.0 t.1 t.2 t.3).0) in by_range k.0 row k.1 k.2 k.3)
       y)
@@ -195,7 +159,7 @@ module _ (z : Sizes) (s : State (Unit {0}) (View TreeView)) (r : R z s) (pass nu
       (λ (t : (p : Place) × (place_of (role row) ≡ some p)). placed_linked z words' role last shape' row t.0 t.1)
       (λ y. ⊎_elim
       (λ (t : (b : ℕ) × (p : Place) × (role b ≡ Base p) × IsIn row (items (row_at s.words b))).
-      item_linked z words' role last shape' t.0 t.1 t.2 row (subst (λ its. IsIn row (items its)) (sym (base_stays t.0 t.1 t.2)) t.3))
+      item_linked z words' role last shape' t.0 t.1 t.2 row (subst (λ its. IsIn row (items its)) (sym (base_stays z s r pass word' lo hi t.0 t.1 t.2)) t.3))
       (λ (t : (b : ℕ) × (p : Place) × (role b ≡ Base p) × IsBoundOf s.words b row).
       let k = lent_then row ne (end_lent z s.words role last f.shape row t) in by_range k.0 row k.1 k.2 k.3)
       y)
@@ -207,9 +171,9 @@ module _ (z : Sizes) (s : State (Unit {0}) (View TreeView)) (r : R z s) (pass nu
     bases = λ row b. b;
     were = λ row b. b;
     keys = λ row. refl;
-    marks = λ row b. ap mark_of (base_stays row b.0 b.1);
+    marks = λ row b. ap mark_of (base_stays z s r pass word' lo hi row b.0 b.1);
     others = λ p n ne now. (active_before p n now).0;
-    begun = begun_then;
+    begun = began;
   } not_active
 
   -- What a note says is so still.
@@ -217,51 +181,30 @@ module _ (z : Sizes) (s : State (Unit {0}) (View TreeView)) (r : R z s) (pass nu
   true_then note t = record {
     some_row = t.some_row;
     in_range = t.in_range;
-    spells = row_stays note.row t.in_range ∙ t.spells;
-    named = λ b c i. let o = t.named b c i in (o.0, o.1, subst IsObjectRow (sym (row_stays c o.1)) o.2);
+    spells = row_stays z s r pass word' lo hi note.row t.in_range ∙ t.spells;
+    named = λ b c i. let o = t.named b c i in (o.0, o.1, subst IsObjectRow (sym (row_stays z s r pass word' lo hi c o.1)) o.2);
     objects_are = λ b. map_same (λ c. row_at words' c) (λ c. row_at s.words c) (items note.its)
-        (λ c i. row_stays c (t.named b c i).1) ∙ t.objects_are b;
+        (λ c i. row_stays z s r pass word' lo hi c (t.named b c i).1) ∙ t.objects_are b;
     stands = t.stands;
-    marks = λ p n m. let was = t.marks p n m in (begun_then p n was.0, λ now. was.1 (active_before p n now).0);
+    marks = λ p n m. let was = t.marks p n m in (began p n was.0, λ now. was.1 (active_before p n now).0);
   }
 
   -- What a seat knows of ranges is so, if its own one is as far, and not this one.
   pub over_then : (x : Over) → IsOver s.words x → IsOver words' x
-  over_then x o n less = let was = o n less in (begun_then x.pass n was.0, λ now. was.1 (active_before x.pass n now).0)
+  over_then x o n less = let was = o n less in (began x.pass n was.0, λ now. was.1 (active_before x.pass n now).0)
 
-  pub border_then : (b : Border) → IsTrueBorder z.rows s.words b → IsTrueBorder z.rows words' b
-  border_then b t = record { some_row = t.some_row; in_range = t.in_range; spells = row_stays b.row t.in_range ∙ t.spells; is_border = t.is_border }
-
-  so_far : (ends : Ends) (since : History) (p : ℕ) (borders : List Border) (own : Ranging) → p ≢ pass
-      → IsSoFar z.rows s.words r.above.role ends since r.above.history p borders own
-      → IsSoFar z.rows words' r.above.role ends since r.above.history p borders own
-  so_far ends since p borders Quiet ne k = λ n now. k n (active_before p n now).0
-  so_far ends since p borders (Unmarked begun) ne k = (
-    (active_then p begun.number ne k.0.0, k.0.1, k.0.2),
-    λ row b m. k.1 row b (subst (λ its. IsMarkedBy its p begun.number) (base_stays row b.0 b.1) m),
+  pub sequence_then : (p n : ℕ) → 0 < p → HasSequence s.words p n → HasSequence words' p n
+  sequence_then p n lo' q = (
+    q.0,
+    dite (ℕ_discrete p pass)
+        (λ (e : p ≡ pass). let was : result_of s.words pass / sequence_unit ≡ n = subst (λ k. result_of s.words k / sequence_unit ≡ n) e q.1 in
+        let here = hit in subst (λ k. result_of words' k / sequence_unit ≡ n) (sym e) (ap (λ v. v / sequence_unit) (result_here z s r pass word' lo hi) ∙ (same_number ∙ omega arith)))
+        (λ ne. ap (λ v. v / sequence_unit) (result_same z s r pass word' lo hi p lo' q.0 ne) ∙ q.1),
   )
-  so_far ends since p borders (Marking begun b) ne k = (
-    k.0,
-    k.1,
-    ⊎_elim (λ on. inl (active_then p begun.number ne on.0, on.1, on.2))
-        (λ (was : WasDecided z.rows s.words role since r.above.history p begun b.its). inr record {
-          last = was.last;
-          decided = let d = was.decided in (d.0, d.1, d.2, d.3, result_same p d.0 d.1 ne ∙ d.4);
-          notes = was.notes;
-          trues = λ note i. true_then note (was.trues note i);
-          run = was.run;
-          whole = was.whole;
-        }) k.2,
-  )
-  so_far ends since p borders Left ne k = tt
 
   pub ranging_then : (j : ℕ) (v : TreeView) → get_elem? (map upper_of s.views) j ≡ some v → v.number ≢ pass
-      → IsRanging z.rows words' r.above.role (r.above.ranged.ends v.number) v.since r.above.history v.number v.ranges
-  ranging_then j v here ne = let known = f.ranged.each j v here in record {
-    over = λ x i. over_then x (known.over x i);
-    borders = λ b i. border_then b (known.borders b i);
-    own = λ some_pass. so_far (f.ranged.ends v.number) v.since v.number v.ranges.borders v.ranges.own ne (known.own some_pass);
-  }
+      → IsRanging z words' r.above.role (r.above.ranged.ends v.number) v.since r.above.history v.number v.ranges
+  ranging_then j v here ne = ranging_else z s r pass word' lo hi true_then over_then (f.ranged.ends v.number) v ne (f.ranged.each j v here)
 
   -- The border isn't listed any more.
   abbrev pub less_by_border : Inventory → Inventory

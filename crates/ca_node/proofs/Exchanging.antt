@@ -26,7 +26,7 @@ use Rattle.ca_rows.proofs.Rules.{all_seats}
 use Rattle.ca_node.specs.Copies.{IsSettled}
 use Rattle.ca_node.specs.Inventory.{AreOnce, row_itself, IsInventory}
 use Rattle.ca_node.specs.Laws.{tree_lends, in_nothing}
-use Rattle.ca_node.specs.Links.{IsIn, IsActive, HasBegun, IsBoundOf, IsLinked, by_range, IsLent, IsOfOwnRun, IsNoted, by_note, by_item, by_way, by_link, by_link_item, by_border, by_run, by_run_item}
+use Rattle.ca_node.specs.Links.{IsIn, IsActive, HasBegun, IsBoundOf, IsLinked, by_range, IsLent, IsOfOwnRun, IsNoted, by_note, by_item, by_way, by_link, by_link_item, by_border, by_run, by_run_item, by_shown, by_shown_item}
 use Rattle.ca_node.specs.Marks.{IsOfRange, IsOfJoin, IsMarkIn, IsBorder}
 use Rattle.ca_node.specs.Place.{part, Place}
 use Rattle.ca_node.specs.Ranging.{IsRanging}
@@ -77,7 +77,7 @@ pub record IsExchange (z : Sizes) (m : MyTree) (new : ℕ) (x : Update) : Type 0
 -- What the seat knows of ranges is so.
 pub own_ranging : (z : Sizes) (s : State (Unit {0}) (View TreeView)) (r : R z s) (id : ℕ)
     (d : View TreeView) → get_elem? s.views id ≡ some d
-    → IsRanging z.rows s.words r.above.role (r.above.ranged.ends d.upper.number) d.upper.since
+    → IsRanging z s.words r.above.role (r.above.ranged.ends d.upper.number) d.upper.since
     r.above.history d.upper.number d.upper.ranges
 own_ranging z s r id d at = r.above.ranged.each id d.upper (at_map upper_of s.views id d at)
 
@@ -331,13 +331,13 @@ module _ (z : Sizes) (s : State (Unit {0}) (View TreeView)) (r : R z s) (id : �
           → IsBoundOf s.words base border → IsBoundOf words' base border
       bound_on base border e b = subst (λ its. (mark_kind its ≡ 1)
           × IsActive words' (mark_owner its) (mark_number its) × (mark_bound its ≡ border)) (sym e)
-          (b.0, active_on z.rows s.words words' role role' same_ranges _ _ b.1, b.2)
+          (b.0, active_on z s.words words' role role' same_ranges _ _ b.1, b.2)
 
       bound_back : (base border : ℕ) → row_at words' base ≡ row_at s.words base
           → IsBoundOf words' base border → IsBoundOf s.words base border
       bound_back base border e b = let c = subst (λ its. (mark_kind its ≡ 1)
           × IsActive words' (mark_owner its) (mark_number its) × (mark_bound its ≡ border)) e b in
-          (c.0, active_back z.rows s.words words' role role' same_ranges _ _ c.1, c.2)
+          (c.0, active_back z s.words words' role role' same_ranges _ _ c.1, c.2)
 
       new_words : row_at words' new ≡ row_at s.words new
       new_words = new_its ∙ sym new_row.2
@@ -563,6 +563,14 @@ module _ (z : Sizes) (s : State (Unit {0}) (View TreeView)) (r : R z s) (id : �
           y.upper (unnoted j y here) note (by_note note note.row i refl)
           ((knows_upper z s r j y here).notes note i)
 
+      pub shown_keeps : (j : ℕ) (y : View TreeView) → get_elem? s.views j ≡ some y → (note : Note)
+          → IsIn note y.upper.ranges.run → IsTrue z.rows words' role' note
+      shown_keeps j y here note i =
+          note_stays z s.words role last shape x.old.row place is_old new role' last' shape' Coming
+          routes_stay bases_stay outs_stay marked_stay
+          y.upper (unnoted j y here) note (by_shown note note.row i refl)
+          ((f.ranged.each j y.upper (at_map upper_of s.views j y here)).run note i)
+
       pub way_keeps : (j : ℕ) (y : View TreeView) → get_elem? s.views j ≡ some y → (way : Way)
           → IsIn way y.upper.ways → IsTrueWay words' role' way
       way_keeps j y here way i =
@@ -589,7 +597,7 @@ module _ (z : Sizes) (s : State (Unit {0}) (View TreeView)) (r : R z s) (id : �
           → ((number : ℕ) → IsActive s.words y.upper.number number
           → ((c : ℕ) → IsBase r.above.role c → ¬ IsMarkedBy (row_at s.words c) y.upper.number number)
           → ¬ IsMarkedBy x.its y.upper.number number)
-          → IsRanging z.rows words' role' (r.above.ranged.ends y.upper.number) y.upper.since next
+          → IsRanging z words' role' (r.above.ranged.ends y.upper.number) y.upper.since next
           y.upper.number y.upper.ranges
       ranging_keeps j y here longer unmarked =
           ranges_stay z s.words role last shape x.old.row place is_old new role' last' shape' Coming
@@ -607,9 +615,9 @@ module _ (z : Sizes) (s : State (Unit {0}) (View TreeView)) (r : R z s) (id : �
       pub replaced : Replaces (scene_of s.words r.above.role) (scene_of words' role') x.old.row new
       replaced = record {
         alike = record {
-          active = active_on z.rows s.words words' role role' same_ranges;
-          was_active = active_back z.rows s.words words' role role' same_ranges;
-          begun = begun_on z.rows s.words words' role role' same_ranges;
+          active = active_on z s.words words' role role' same_ranges;
+          was_active = active_back z s.words words' role role' same_ranges;
+          begun = begun_on z s.words words' role role' same_ranges;
         };
         was = (place, is_old);
         is = (place, is_new);
@@ -659,7 +667,7 @@ module _ (z : Sizes) (s : State (Unit {0}) (View TreeView)) (r : R z s) (id : �
             (λ row. row_at s.words row) (items x.its) object_keeps ∙ objects_now;
         stands = inl is_new;
         marks = λ pass number k. (
-          begun_on z.rows s.words words' role role' same_ranges pass number (new_begun pass number k),
+          begun_on z s.words words' role role' same_ranges pass number (new_begun pass number k),
           λ _. is_new,
         );
       }
@@ -716,31 +724,36 @@ module _ (z : Sizes) (s : State (Unit {0}) (View TreeView)) (r : R z s) (id : �
           → ((border : Border) → IsIn border v.ranges.borders → IsIn border d.upper.ranges.borders
           ⊎ IsLinked words' border.row)
           → ((c : ℕ) → IsOfOwnRun words' v c → IsOfOwnRun words' d.upper c)
+          → v.ranges.run ≡ d.upper.ranges.run
           → (row : ℕ) → IsNoted words' v row
           → IsNoted words' d.upper row ⊎ IsLinked words' row
-      own_notes v same ways borders run _ (by_note n row i e) = ⊎_elim
+      own_notes v same ways borders run shown _ (by_note n row i e) = ⊎_elim
           (λ (new_one : new_note ≡ n).
           inr (subst (IsLinked words') (ap (λ (y : Note). y.row) new_one ∙ e) new_linked))
           (λ (o : IsIn n d.upper.notes). inl (by_note n row o e))
           (in_more new_note n d.upper.notes (subst (IsIn n) same i))
-      own_notes v same ways borders run _ (by_item n row i b k) = ⊎_elim
+      own_notes v same ways borders run shown _ (by_item n row i b k) = ⊎_elim
           (λ (new_one : new_note ≡ n).
           inr (item_now row (subst (λ (y : Note). IsIn row (items y.its)) (sym new_one) k)))
           (λ (o : IsIn n d.upper.notes). inl (by_item n row o b k))
           (in_more new_note n d.upper.notes (subst (IsIn n) same i))
-      own_notes v same ways borders run _ (by_way way row i e) =
+      own_notes v same ways borders run shown _ (by_way way row i e) =
           inl (by_way way row (subst (IsIn way) ways i) e)
-      own_notes v same ways borders run _ (by_link way row i e) =
+      own_notes v same ways borders run shown _ (by_link way row i e) =
           inl (by_link way row (subst (IsIn way) ways i) e)
-      own_notes v same ways borders run _ (by_link_item way base row i e g k) =
+      own_notes v same ways borders run shown _ (by_link_item way base row i e g k) =
           inl (by_link_item way base row (subst (IsIn way) ways i) e g k)
-      own_notes v same ways borders run _ (by_border border row i e) = ⊎_elim
+      own_notes v same ways borders run shown _ (by_border border row i e) = ⊎_elim
           (λ o. inl (by_border border row o e))
           (λ l. inr (subst (IsLinked words') e l))
           (borders border i)
-      own_notes v same ways borders run _ (by_run row o) = inl (by_run row (run row o))
-      own_notes v same ways borders run _ (by_run_item base row o k) =
+      own_notes v same ways borders run shown _ (by_run row o) = inl (by_run row (run row o))
+      own_notes v same ways borders run shown _ (by_run_item base row o k) =
           inl (by_run_item base row (run base o) k)
+      own_notes v same ways borders run shown _ (by_shown n row i e) =
+          inl (by_shown n row (subst (IsIn n) shown i) e)
+      own_notes v same ways borders run shown _ (by_shown_item n row i b k) =
+          inl (by_shown_item n row (subst (IsIn n) shown i) b k)
 
       -- the claims of the seat then
       abbrev pub claims' : List Claimed
@@ -782,13 +795,13 @@ module _ (z : Sizes) (s : State (Unit {0}) (View TreeView)) (r : R z s) (id : �
           (runs : AreRuns (scene_of (set s.words x.old.place.link new) role') r.above.ranged.ends)
           (own_knows : Knows z.rows r.made (set s.words x.old.place.link new) role'
           (set (map upper_of s.views) id u') next id u')
-          (own_ranging : IsRanging z.rows (set s.words x.old.place.link new) role'
+          (own_ranging : IsRanging z (set s.words x.old.place.link new) role'
           (r.above.ranged.ends u'.number) u'.since next u'.number u'.ranges)
           (others_know : (j : ℕ) (v : TreeView) → j ≢ id
           → get_elem? (map upper_of s.views) j ≡ some v
           → Knows z.rows r.made (set s.words x.old.place.link new) role'
           (set (map upper_of s.views) id u') next j v
-          × IsRanging z.rows (set s.words x.old.place.link new) role'
+          × IsRanging z (set s.words x.old.place.link new) role'
           (r.above.ranged.ends v.number) v.since next v.number v.ranges) where
         abbrev d' : View TreeView
         d' = (relinked me claims' u').0
@@ -875,14 +888,14 @@ module _ (z : Sizes) (s : State (Unit {0}) (View TreeView)) (r : R z s) (id : �
             ends = f.ranged.ends;
             runs = runs;
             made_before = λ pass number now. f.ranged.made_before pass number
-                (active_back z.rows s.words words' role role' same_ranges pass number now);
+                (active_back z s.words words' role role' same_ranges pass number now);
             each =
-                all_seats (λ j v. IsRanging z.rows words' role' (f.ranged.ends v.number) v.since next
+                all_seats (λ j v. IsRanging z words' role' (f.ranged.ends v.number) v.since next
                 v.number v.ranges) (map upper_of s.views) id u' own_ranging
                 (λ j v ne here. (others_know j v ne here).1);
           };
           quiet = λ pass number now.
-              quiet pass number (active_back z.rows s.words words' role role' same_ranges pass number now);
+              quiet pass number (active_back z s.words words' role role' same_ranges pass number now);
           each_seat =
               all_seats (Knows z.rows r.made words' role' (set (map upper_of s.views) id u') next)
               (map upper_of s.views) id u' own_knows (λ j v ne here. (others_know j v ne here).0);

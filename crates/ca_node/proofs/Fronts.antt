@@ -88,9 +88,9 @@ tree_learning = record {
       (knows_nothing z.rows made words g.role (set us j (blank 0)) g.history j 0 (omega arith)
       (λ lo. absurd (omega arith))
       (none_made made 0 g.history g.by_passes (inl refl)))
-      (no_ranging z.rows words g.role (g.ranged.ends 0) g.history);
+      (no_ranging z words g.role (g.ranged.ends 0) g.history);
   closing_notes = λ words v w r n. inl (noted_alike words v (learnt v w) (λ x i. i) (λ x i. i)
-      (λ x i. i) (λ x i. i) r n);
+      (λ x i. i) (λ x i. i) (λ x i. i) r n);
   spent_notes = λ words r. no_blank_notes words 0 r;
 }
 
@@ -116,9 +116,9 @@ front_more z made words uppers id u f at = let next : List TreeView = uppers ++ 
         each = λ j v here. ⊎_elim
             (λ (was : get_elem? uppers j ≡ some v). f.ranged.each j v was)
             (λ (t : (j ≡ length uppers) × (front_of u ≡ v)).
-            subst (λ (y : TreeView). IsRanging z.rows words f.role (f.ranged.ends y.number) y.since
+            subst (λ (y : TreeView). IsRanging z words f.role (f.ranged.ends y.number) y.since
             f.history y.number y.ranges) t.1
-            (no_ranging z.rows words f.role (f.ranged.ends 0) f.history))
+            (no_ranging z words f.role (f.ranged.ends 0) f.history))
             (at_place uppers (front_of u) v j here);
       };
       quiet = f.quiet;
@@ -185,7 +185,7 @@ module _ (z : Sizes) where
       → Splits (R z) id v v (fresh no_sizes 0 (front_of v.upper))
   fronts id v s r at = forks IsLinked IsLent IsNoted IsTree z s r id v at (front_of v.upper)
       (λ q n. no_blank_notes s.words 0 q (noted_alike s.words (blank 0) (front_of v.upper)
-      (λ x i. i) (λ x i. i) (λ x i. i) (λ x i. i) q n))
+      (λ x i. i) (λ x i. i) (λ x i. i) (λ x i. i) (λ x i. i) q n))
       (front_more z r.made s.words (map upper_of s.views) id v.upper r.above
       (at_map upper_of s.views id v at))
 

@@ -1,5 +1,5 @@
 -- A pass helps another one's range to its end: it decides it with a base that has all keys up to where the range goes.
-use Rattle.std.proofs.Common.{◌≡◌, ◌≢◌, ℕ, ◌+◌, ◌*◌, ◌/◌, ◌%◌, ◌<◌, ◌≤◌, Bool, eqb, List, [], length, map, get_or, set, sym, refl, ap, ◌∙◌, subst, inl, inr, ⊎_elim, arith, eq-eqb, ne_eqb}
+use Rattle.std.proofs.Common.{◌≡◌, ◌≢◌, ℕ, ◌+◌, ◌*◌, ◌/◌, ◌%◌, ◌<◌, ◌≤◌, Bool, eqb, List, length, map, get_or, set, sym, refl, ap, ◌∙◌, subst, inl, inr, ⊎_elim, arith, eq-eqb, ne_eqb}
 use mathlib.Core.Logic.{dite}
 use mathlib.Core.Option.{some, none}
 use native.Mathlib.Decide.{ℕ_discrete}
@@ -19,12 +19,12 @@ use Rattle.ca_rows.proofs.OwnWords.{own_is}
 use Rattle.ca_runs.specs.Runs.{range_of}
 use Rattle.ca_runs.proofs.Keeping.{of_run}
 use Rattle.ca_node.specs.Endings.{active_word, decided_word, IsHelping, over_up_to, without, helped, too_late, Helps, HasHelped}
-use Rattle.ca_node.specs.Laws.{noted_alike, numbered, relisted, seat_changed}
+use Rattle.ca_node.specs.Laws.{noted_alike}
 use Rattle.ca_node.specs.Layout.{sequence_unit}
 use Rattle.ca_node.specs.Links.{IsIn, IsActive, HasBegun, IsDecided, IsOnChain, IsOfOwnRun, IsNoted, by_border}
 use Rattle.ca_node.specs.May.{MaySwap}
-use Rattle.ca_node.specs.Ranging.{IsOver, IsRunShown, GoesOn, IsSoFar, IsRanging, Reaches}
-use Rattle.ca_node.specs.RangesStay.{chain_note, active_undecided}
+use Rattle.ca_node.specs.Ranging.{IsOver, IsRunShown, GoesOn, IsSomeMarked, IsSoFar, IsRanging, Reaches}
+use Rattle.ca_node.specs.RangesStay.{active_undecided}
 use Rattle.ca_node.specs.Row.{row_at, mark_bound, IsMarkedBy}
 use Rattle.ca_node.specs.Scenes.{IsBase, span_of, scene_of}
 use Rattle.ca_node.specs.Shape.{Role, Base}
@@ -32,13 +32,14 @@ use Rattle.ca_node.specs.Told.{MyTree, status_word}
 use Rattle.ca_node.specs.Tree.{IsTrue, Knows, IsTree}
 use Rattle.ca_node.specs.TreeView.{Note, Border, Ranging, Quiet, Unmarked, Marking, Left, TreeView}
 use Rattle.ca_node.proofs.Copying.{one_active}
-use Rattle.ca_node.proofs.Deciding.{noted_before, run_before, knows_then, ends_step}
-use Rattle.ca_node.proofs.Ended.{result_here, not_active, begun_then, over_then, border_then, true_then, ranging_then}
-use Rattle.ca_node.proofs.Looking.{R, looked, knows_upper, starts_shorter, in_more}
-use Rattle.ca_node.proofs.Runs.{run, run_trues, run_shown}
+use Rattle.ca_node.proofs.Deciding.{ends_step}
+use Rattle.ca_node.proofs.Ended.{not_active, began, over_then, true_then, sequence_then, ranging_then}
+use Rattle.ca_node.proofs.Looking.{R, knows_upper, knows_ranges, starts_shorter, in_more}
+use Rattle.ca_node.proofs.OwnWord.{result_here, border_stays, run_before, noted_same, knows_then}
+use Rattle.ca_node.proofs.Runs.{run, run_trues, run_bases, run_shown, on_chain}
 
 -- A range that was begun and isn't active is over, and so are those before.
-over_behind : (words : List ℕ) (pass number : ℕ) → HasBegun words pass number → ¬ IsActive words pass number → IsOver words (over_up_to pass number)
+pub over_behind : (words : List ℕ) (pass number : ℕ) → HasBegun words pass number → ¬ IsActive words pass number → IsOver words (over_up_to pass number)
 over_behind words pass number begun ended n less = let b = begun.2 in (
   (begun.0, begun.1, omega arith),
   λ now. dite (ℕ_discrete n number)
@@ -99,12 +100,12 @@ module _ (z : Sizes) (s : State (Unit {0}) (View TreeView)) (r : R z s) (id : �
     border_same = ap mark_bound last_true.spells
 
     own_run_before : (row : ℕ) → IsOfOwnRun words' me.0.upper row → IsOfOwnRun s.words me.0.upper row
-    own_run_before = run_before z s r id me at pass number word' begun.0 begun.1 hit same_number is_over last.row base_is marked id me.0 at
+    own_run_before = run_before z s r pass word' begun.0 begun.1 id me.0 at
         (λ e. k.other (sym e))
 
     over_now : IsOver words' (over_up_to pass number)
     over_now = over_behind words' pass number
-        (begun_then z s r pass number word' begun.0 begun.1 hit same_number is_over last.row base_is marked pass number begun)
+        (began z s r pass number word' begun.0 begun.1 hit same_number is_over last.row base_is marked pass number begun)
         (not_active z s r pass number word' begun.0 begun.1 hit same_number is_over last.row base_is marked number)
 
     -- The run, which its pass is shown from now on.
@@ -121,19 +122,16 @@ module _ (z : Sizes) (s : State (Unit {0}) (View TreeView)) (r : R z s) (id : �
       begun.1,
       last_true.some_row,
       small,
-      result_here z s r pass number word' begun.0 begun.1 hit same_number is_over last.row base_is marked,
+      result_here z s r pass word' begun.0 begun.1,
     )
 
     -- Each row of the run is a base.
     run_base : (row : ℕ) → IsOnChain words' last.row row → IsBase r.above.role row
-    run_base row on = let shown = (run_shown z r.made s.words (map upper_of s.views) r.above pass number last.row now base_is marked [] (omega arith)).0 in
-        let note = chain_note z.rows words' role last.row the_run run_true shown.chained last_true.some_row row on in
-        let is = (run_trues z r.made s.words (map upper_of s.views) r.above pass number last.row now base_is marked note.0 note.1).1 in
-        (note.0.place, sym (ap role note.2) ∙ is)
+    run_base = on_chain z r.made s.words (map upper_of s.views) r.above pass number last.row now base_is marked words' run_true last_true.some_row
 
     -- The seat whose range it is goes on to know how far it is.
     module _ (j : ℕ) (y : View TreeView) (here : get_elem? s.views j ≡ some y) (mine : y.upper.number ≡ pass) where
-      known : IsRanging z.rows s.words r.above.role (r.above.ranged.ends y.upper.number) y.upper.since r.above.history y.upper.number y.upper.ranges
+      known : IsRanging z s.words r.above.role (r.above.ranged.ends y.upper.number) y.upper.since r.above.history y.upper.number y.upper.ranges
       known = f.ranged.each j y.upper (at_map upper_of s.views j y here)
 
       active_mine : (n : ℕ) → IsActive s.words y.upper.number n → n ≡ number
@@ -157,12 +155,13 @@ module _ (z : Sizes) (s : State (Unit {0}) (View TreeView)) (r : R z s) (id : �
           ∙ ((f.ranged.each id me.0.upper first).borders border k.border_shown).spells)
 
       so_far : (own : Ranging) → y.upper.ranges.own ≡ own
-          → IsSoFar z.rows s.words r.above.role (r.above.ranged.ends y.upper.number) y.upper.since r.above.history y.upper.number y.upper.ranges.borders own
-          → IsSoFar z.rows words' r.above.role (r.above.ranged.ends y.upper.number) y.upper.since r.above.history y.upper.number y.upper.ranges.borders own
+          → IsSoFar z s.words r.above.role (r.above.ranged.ends y.upper.number) y.upper.since r.above.history y.upper.number y.upper.ranges.borders own
+          → IsSoFar z words' r.above.role (r.above.ranged.ends y.upper.number) y.upper.since r.above.history y.upper.number y.upper.ranges.borders own
       so_far Quiet is so = absurd (so number now_mine)
       so_far (Unmarked b) is so = absurd (so.1 last.row base_is (marked.0, marked.1 ∙ sym mine, marked.2 ∙ sym (active_mine b.number so.0.0)))
       so_far (Marking b c) is so = ⊎_elim
-          (λ (on : GoesOn s.words (r.above.ranged.ends y.upper.number) y.upper.number b).
+          (λ (goes : GoesOn s.words (r.above.ranged.ends y.upper.number) y.upper.number b × IsSomeMarked s.words r.above.role y.upper.number b.number).
+          let on = goes.0 in
           let shown = run_shown z r.made s.words (map upper_of s.views) r.above pass number last.row now base_is marked y.upper.since shorter in
           let its = same_border c so.0 (so.1 ∙ (sym on.2 ∙ top_is)) in (
             so.0,
@@ -172,6 +171,7 @@ module _ (z : Sizes) (s : State (Unit {0}) (View TreeView)) (r : R z s) (id : �
               decided = subst (λ (q : ℕ × ℕ). IsDecided words' q.0 q.1 last.row) (λ i. (sym mine i, sym (active_mine b.number on.0) i)) decided_now;
               notes = the_run;
               trues = run_true;
+              bases = run_bases z r.made s.words (map upper_of s.views) r.above pass number last.row now base_is marked;
               run = subst (λ (e : Bound). IsRunShown y.upper.since r.above.history e last.row the_run)
                   (ap (λ p. (r.above.ranged.ends p).edge) (sym mine) ∙ on.1) shown.0;
               whole = whole_of c its (ap (λ p. (r.above.ranged.ends p).edge) (sym mine) ∙ on.1) shown.0 shown.1;
@@ -192,26 +192,29 @@ module _ (z : Sizes) (s : State (Unit {0}) (View TreeView)) (r : R z s) (id : �
               high_of same shown = refl
       so_far Left is so = tt
 
-      ranging_mine : IsRanging z.rows words' r.above.role (r.above.ranged.ends y.upper.number) y.upper.since r.above.history y.upper.number y.upper.ranges
+      ranging_mine : IsRanging z words' r.above.role (r.above.ranged.ends y.upper.number) y.upper.since r.above.history y.upper.number y.upper.ranges
       ranging_mine = record {
         over = λ x i. over_then z s r pass number word' begun.0 begun.1 hit same_number is_over last.row base_is marked x (known.over x i);
-        borders = λ b i. border_then z s r pass number word' begun.0 begun.1 hit same_number is_over last.row base_is marked b (known.borders b i);
+        borders = λ b i. border_stays z s r pass word' begun.0 begun.1 b (known.borders b i);
         own = λ some_pass. so_far y.upper.ranges.own refl (known.own some_pass);
+        sequence = λ n some_pass is. sequence_then z s r pass number word' begun.0 begun.1 hit same_number is_over last.row base_is marked y.upper.number n
+            some_pass (known.sequence n some_pass is);
+        run = λ note i. true_then z s r pass number word' begun.0 begun.1 hit same_number is_over last.row base_is marked note (known.run note i);
       }
 
       run_mine : (row : ℕ) → IsOfOwnRun words' y.upper row → IsBase r.above.role row × ((d : ℕ) × IsNoted s.words y.upper d)
       run_mine row o = let decided = subst (λ p. IsDecided words' p o.0 o.1) mine o.3 in
-          let here' = sym (result_here z s r pass number word' begun.0 begun.1 hit same_number is_over last.row base_is marked) ∙ decided.4 in
+          let here' = sym (result_here z s r pass word' begun.0 begun.1) ∙ decided.4 in
           let l = small in let l' = decided.3 in
           let same : o.1 ≡ last.row = omega arith in
-          let so = subst (IsSoFar z.rows s.words r.above.role (r.above.ranged.ends y.upper.number) y.upper.since r.above.history y.upper.number
+          let so = subst (IsSoFar z s.words r.above.role (r.above.ranged.ends y.upper.number) y.upper.since r.above.history y.upper.number
           y.upper.ranges.borders) o.2.2 (known.own (subst (λ p. 0 < p) (sym mine) begun.0)) in (
             run_base row (subst (λ c. IsOnChain words' c row) same o.4),
             (o.2.1.row, by_border o.2.1 o.2.1.row so.0 refl),
           )
 
     own_knows : Knows z.rows r.made words' r.above.role (set (map upper_of s.views) id u') r.above.history id u'
-    own_knows = let w = knows_then z s r id me at pass number word' begun.0 begun.1 hit same_number is_over last.row base_is marked id me.0 at u' (λ _. refl) in record {
+    own_knows = let w = knows_then z s r pass word' begun.0 begun.1 id me.0 at (true_then z s r pass number word' begun.0 begun.1 hit same_number is_over last.row base_is marked) id me.0 at u' (λ _. refl) in record {
       made_before = w.made_before;
       alone = w.alone;
       seen_first = w.seen_first;
@@ -224,25 +227,26 @@ module _ (z : Sizes) (s : State (Unit {0}) (View TreeView)) (r : R z s) (id : �
       ended = w.ended;
     }
 
-    own_ranging_now : IsRanging z.rows words' r.above.role (r.above.ranged.ends u'.number) u'.since r.above.history u'.number u'.ranges
+    own_ranging_now : IsRanging z words' r.above.role (r.above.ranged.ends u'.number) u'.since r.above.history u'.number u'.ranges
     own_ranging_now = let w = ranging_then z s r pass number word' begun.0 begun.1 hit same_number is_over last.row base_is marked id me.0.upper first
         (λ e. k.other (sym e)) in record {
           over = λ x i. ⊎_elim (λ (e : over_up_to pass number ≡ x). subst (IsOver words') e over_now)
               (λ o. w.over x o) (in_more (over_up_to pass number) x me.0.upper.ranges.over i);
           borders = w.borders;
           own = w.own;
+          sequence = w.sequence;
+          run = w.run;
         }
 
     pub help_step : R z record { words = words'; homes = s.homes; views = set s.views id (relinked me me.0.claims u').0 }
     help_step = ends_step z s r id me at pass number word' begun.0 begun.1 hit same_number is_over last.row base_is marked u' k.ending.is_pinned
         k.ending.is_pass (ap (λ b. without b me.0.upper.inventory) (sym border_same))
-        (λ row n. noted_before z s r id me at pass number word' begun.0 begun.1 hit same_number is_over last.row base_is marked id me.0 at
-        (λ c o. inl (own_run_before c o)) row
-        (noted_alike words' me.0.upper u' (λ x i. i) (λ x i. i) (λ x i. i) (λ x i. i) row n))
+        (λ row n. inl (noted_same z s r pass word' begun.0 begun.1 id me.0 at own_run_before row
+        (noted_alike words' me.0.upper u' (λ x i. i) (λ x i. i) (λ x i. i) (λ x i. i) (λ x i. i) row n)))
         own_knows own_ranging_now (λ _. refl)
         (λ j y ne here row o. dite (ℕ_discrete y.upper.number pass)
         (λ e. inr (run_mine j y here e row o))
-        (λ other. inl (run_before z s r id me at pass number word' begun.0 begun.1 hit same_number is_over last.row base_is marked j y here other row o)))
+        (λ other. inl (run_before z s r pass word' begun.0 begun.1 j y here other row o)))
         (λ j y ne here. dite (ℕ_discrete y.upper.number pass)
         (λ e. ranging_mine j y here e)
         (λ other. ranging_then z s r pass number word' begun.0 begun.1 hit same_number is_over last.row base_is marked j y.upper
@@ -254,29 +258,16 @@ module _ (z : Sizes) (s : State (Unit {0}) (View TreeView)) (r : R z s) (id : �
     late = too_late pass number me.0.upper
 
     pub late_step : R z record { words = set s.words i (get_or s.words i 0); homes = s.homes; views = set s.views id (record me.0 { upper = late }) }
-    late_step = let w = relisted z.rows r.made s.words role (map upper_of s.views) (set (map upper_of s.views) id late) f.history id me.0.upper
-        (numbered (map upper_of s.views) id me.0.upper late first (λ _. refl)) (knows_upper z s r id me.0 at) in
-        let known = f.ranged.each id me.0.upper first in
-        looked z s r i id me.0 late at
-        (λ row n. inl (noted_alike s.words me.0.upper late (λ x m. m) (λ x m. m) (λ x m. m) (λ x m. m) row n))
-        (seat_changed z r.made s.words (map upper_of s.views) id me.0.upper late f first (λ _. refl) (λ _. refl) record {
-          made_before = w.made_before;
-          alone = w.alone;
-          seen_first = w.seen_first;
-          since_first = w.since_first;
-          lawful = w.lawful;
-          past = w.past;
-          notes = w.notes;
-          links = w.links;
-          ways = w.ways;
-          ended = w.ended;
-        } record {
+    late_step = let known = f.ranged.each id me.0.upper first in knows_ranges z s r i id me.0 at late.ranges late.turns
+        (λ row n. inl (noted_alike s.words me.0.upper late (λ x m. m) (λ x m. m) (λ x m. m) (λ x m. m) (λ x m. m) row n)) record {
           over = λ x m. ⊎_elim (λ (e : over_up_to pass number ≡ x). subst (IsOver s.words) e
               (over_behind s.words pass number begun (λ now. miss now.2)))
               (λ o. known.over x o) (in_more (over_up_to pass number) x me.0.upper.ranges.over m);
           borders = known.borders;
           own = known.own;
-        })
+          sequence = known.sequence;
+          run = known.run;
+        }
 
 module _ (z : Sizes) where
   -- The exchange of the word of another pass's range, which decides it.
@@ -301,7 +292,7 @@ module _ (z : Sizes) where
             (sym (ap (λ b. either b (decided_word number last.row) n) (eq-eqb n (active_word number) hit)))
             (subst (λ (i : ℕ). R z record { words = set s.words i (decided_word number last.row); homes = s.homes; views = set s.views id d' }) there
             (help_step z s r id me at pass number last border k (same ∙ hit))),
-        ((λ _. refl), (λ miss. absurd (miss hit)), inr (inr (inr (pass, number, mark_bound last.its, won))), won),
+        ((λ _. refl), (λ miss. absurd (miss hit)), inr (inr (inr (inl (pass, number, mark_bound last.its, won)))), won),
       ))
       (λ miss. let late' : View TreeView = record me.0 { upper = too_late pass number me.0.upper } in
       let missed : Helps pass number (mark_bound last.its) (step slots word_at (active_word number) (decided_word number last.row) none) me n (late', me.1) =
@@ -312,7 +303,7 @@ module _ (z : Sizes) where
         subst (λ (y : ℕ). R z (stepped s word_at y id me.1 late' keeps))
             (sym (ap (λ b. either b (decided_word number last.row) n) (ne_eqb n (active_word number) miss)))
             (late_step z s r id me at pass number last border k (λ e. miss (sym same ∙ e)) word_at),
-        ((λ hit. absurd (miss hit)), (λ _. refl), inr (inr (inr (pass, number, mark_bound last.its, missed))), missed),
+        ((λ hit. absurd (miss hit)), (λ _. refl), inr (inr (inr (inl (pass, number, mark_bound last.its, missed)))), missed),
       ))
 
 -- The two ways that the exchange goes.

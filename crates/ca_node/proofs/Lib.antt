@@ -15,13 +15,21 @@ pub mod Looking
 pub mod Marks
 pub mod Members
 pub mod Named
+mod Neighbours
+pub mod OwnDeciding
+pub mod OwnEnding
+pub mod OwnLeaving
+pub mod OwnWatching
+pub mod OwnWord
 pub mod Parts
 pub mod Ranged
 pub mod Rebased
 pub mod Remembering
 pub mod RouteWords
 pub mod Runs
+mod SideBySide
 pub mod Tallies
+pub mod Turned
 pub mod Updating
 pub mod Walks
 pub mod Watching

@@ -16,21 +16,24 @@ use Rattle.ca_rows.specs.Calls.{Raises}
 use Rattle.ca_rows.specs.Words.{result_of}
 use Rattle.ca_rows.specs.Rule.{upper_of, Ruled}
 use Rattle.ca_rows.proofs.Relinking.{Stays, relinks}
+use Rattle.ca_runs.specs.Runs.{Ends}
 use Rattle.ca_node.specs.Inventory.{IsListed}
 use Rattle.ca_node.specs.Laws.{noted_alike, alive, tree_lends, numbered, relisted, seat_changed, starts_whole}
-use Rattle.ca_node.specs.Links.{IsIn, IsUnder, IsLinked, by_route, by_base, IsLent, HasBegun, IsNoted, by_note, by_item, by_way, by_link, by_link_item, by_border, by_run, by_run_item}
+use Rattle.ca_node.specs.Links.{IsIn, IsUnder, IsLinked, by_route, by_base, IsLent, HasBegun, IsNoted, by_note, by_item, by_way, by_link, by_link_item, by_border, by_run, by_run_item, by_shown, by_shown_item}
 use Rattle.ca_node.specs.Marks.{IsOfRange, IsOfJoin}
 use Rattle.ca_node.specs.Place.{Span, all_keys, left_of, right_of, HasKey, part, Place}
+use Rattle.ca_node.specs.Ranging.{IsRanging}
 use Rattle.ca_node.specs.Reached.{by_place, base_at, route_at, placed_linked, item_linked}
 use Rattle.ca_node.specs.Row.{row_at, IsObjectRow, IsBaseRow, IsRouteRow, items, mark_owner, mark_number, IsMarkedBy, IsUnmarked, route_key, pair}
 use Rattle.ca_node.specs.Shape.{Base, Route, place_of, LeadsTo, IsBaseAt, IsRouteAt}
 use Rattle.ca_node.specs.Standing.{mark_of}
 use Rattle.ca_node.specs.Stays.{word_at, row_long}
 use Rattle.ca_node.specs.May.{MayLoad}
-use Rattle.ca_node.specs.Told.{MyTree, with_upper, IsBaseNote, IsRouteNote, IsKnown, IsMissed, IsKnownLink, IsAnyLink, IsPlaceOf, come_to, come_at, led_to_base, led_to_route, IsLedToBase, IsLedToRoute, IsLed, Leads, IsShown, IsShownRoute, IsRead, Reads, entered, ReadsLast, Refuses, IsRise, one_more_lost}
+use Rattle.ca_node.specs.Notes.{IsBaseNote}
+use Rattle.ca_node.specs.Told.{MyTree, with_upper, IsRouteNote, IsKnown, IsMissed, IsKnownLink, IsAnyLink, IsPlaceOf, come_to, come_at, led_to_base, led_to_route, IsLedToBase, IsLedToRoute, IsLed, Leads, IsOfNote, IsShown, IsShownRoute, IsShownOfRange, IsRead, Reads, entered, ReadsLast, Refuses, IsRise, one_more_lost}
 use Rattle.ca_node.specs.States.{IsAlone, IsReadSince}
 use Rattle.ca_node.specs.Tree.{StartsWith, ArePast, IsLinkOfView, IsFixed, IsTrue, IsTrueWay, Knows, IsTree}
-use Rattle.ca_node.specs.TreeView.{Note, Way, Inventory, TreeView}
+use Rattle.ca_node.specs.TreeView.{Note, Way, Border, Inventory, KnownRanges, Turns, TreeView}
 use Rattle.ca_node.proofs.Logs.{last_state, state_stays, read_lawful, past_more}
 use Rattle.ca_rows.specs.Layout.{row_words}
 use Rattle.ca_node.specs.Layout.{root_word, sequence_unit}
@@ -87,6 +90,41 @@ module _ (z : Sizes) where
       → get_elem? s.views id ≡ some d
       → Knows z.rows r.made s.words r.above.role (map upper_of s.views) r.above.history id d.upper
   knows_upper s r id d at = r.above.each_seat id d.upper (at_map upper_of s.views id d at)
+
+-- A load, or an exchange that was lost, after which a seat knows more of ranges, and its turns are counted anew.
+module _ (z : Sizes) (s : State (Unit {0}) (View TreeView)) (r : R z s) (i id : ℕ) (d : View TreeView)
+    (at : get_elem? s.views id ≡ some d) (ranges : KnownRanges) (turns : Turns) where
+  abbrev with_ranges : TreeView
+  with_ranges = record d.upper { ranges = ranges; turns = turns }
+
+  pub knows_ranges : ((row : ℕ) → IsNoted s.words (record d.upper { ranges = ranges; turns = turns }) row
+      → IsNoted s.words d.upper row ⊎ (IsLinked s.words row × (d.pin.pinned ≡ true)))
+      → IsRanging z s.words r.above.role (r.above.ranged.ends d.upper.number) d.upper.since
+      r.above.history d.upper.number ranges
+      → R z record {
+        words = set s.words i (get_or s.words i 0);
+        homes = s.homes;
+        views = set s.views id (record d { upper = record d.upper { ranges = ranges; turns = turns } });
+      }
+  knows_ranges notes ranging = let us : List TreeView = map upper_of s.views in
+      let first = at_map upper_of s.views id d at in
+      let k = relisted z.rows r.made s.words r.above.role us (set us id with_ranges) r.above.history
+      id d.upper (numbered us id d.upper with_ranges first (λ _. refl)) (knows_upper z s r id d at) in
+      looked z s r i id d with_ranges at notes
+      (seat_changed z r.made s.words us id d.upper with_ranges r.above first (λ _. refl) (λ _. refl)
+      record {
+        made_before = k.made_before;
+        alone = k.alone;
+        seen_first = k.seen_first;
+        since_first = k.since_first;
+        lawful = k.lawful;
+        past = k.past;
+        notes = k.notes;
+        links = k.links;
+        ways = k.ways;
+        ended = k.ended;
+      }
+      ranging)
 
 -- A member of a list with one more in front.
 pub in_more : {A : Type 0} (x y : A) (xs : List A) → IsIn y (x ∷ xs) → (x ≡ y) ⊎ IsIn y xs
@@ -149,6 +187,9 @@ new_note words u more note last shown here named _ (by_border border row i e) =
 new_note words u more note last shown here named _ (by_run row o) = inl (by_run row o)
 new_note words u more note last shown here named _ (by_run_item base row o k) =
     inl (by_run_item base row o k)
+new_note words u more note last shown here named _ (by_shown n row i e) = inl (by_shown n row i e)
+new_note words u more note last shown here named _ (by_shown_item n row i b k) =
+    inl (by_shown_item n row i b k)
 
 -- A route more: one that is linked, and so is what its links name.
 pub new_way : (words : List ℕ) (u : TreeView) (more : History) (way : Way) → IsLinked words way.row
@@ -173,6 +214,8 @@ new_way words u more way here form _ (by_link_item w base row i under f m) = ⊎
 new_way words u more way here form _ (by_border border row i e) = inl (by_border border row i e)
 new_way words u more way here form _ (by_run row o) = inl (by_run row o)
 new_way words u more way here form _ (by_run_item base row o k) = inl (by_run_item base row o k)
+new_way words u more way here form _ (by_shown n row i e) = inl (by_shown n row i e)
+new_way words u more way here form _ (by_shown_item n row i b k) = inl (by_shown_item n row i b k)
 
 -- What a list of rows spells, one after another.
 pub in_turn : (words : List ℕ) (xs : List ℕ)
@@ -328,20 +371,40 @@ module _ (z : Sizes) (made : ℕ) (words : List ℕ) (uppers : List TreeView)
           ),
     )
 
-    -- Of a row that was shown, a load gives the word that was shown.
+    -- Of a row that a true note tells of, a load gives the word that the note says.
+    pub noted_word : (row index : ℕ) (its : List ℕ) (note : Note) → index < row_words
+        → IsTrue z.rows words f.role note → IsOfNote note row its
+        → get_or words (row_words * row + index) 0 ≡ get_or its index 0
+    noted_word row index its note inside t of = sym (word_at words row index inside)
+        ∙ ap (λ (x : List ℕ). get_or x index 0) (⊎_elim
+        (λ (e : (note.row ≡ row) × (note.its ≡ its)). ap (row_at words) (sym e.0)
+        ∙ (t.spells ∙ e.1))
+        (λ (e : IsBaseRow note.its × ((i : ℕ) × (get_elem? (items note.its) i ≡ some row)
+        × (get_elem? note.objects i ≡ some its))).
+        let named = at_map (λ r. row_at words r) (items note.its) e.1.0 row e.1.1 in
+        some-injective (row_at words row) its (sym named
+        ∙ (ap (λ xs. get_elem? xs e.1.0) (t.objects_are e.0) ∙ e.1.2)))
+        of)
+
+    -- So it is of a row that was shown,
     pub shown_word : (row index : ℕ) (its : List ℕ) → index < row_words → IsShown u row its
         → get_or words (row_words * row + index) 0 ≡ get_or its index 0
-    shown_word row index its inside shown = sym (word_at words row index inside)
-        ∙ ap (λ (x : List ℕ). get_or x index 0) (⊎_elim
-        (λ (t : (shown.0.row ≡ row) × (shown.0.its ≡ its)). ap (row_at words) (sym t.0)
-        ∙ ((k.notes shown.0 shown.1).spells ∙ t.1))
-        (λ (t : IsBaseRow shown.0.its
-        × ((i : ℕ) × (get_elem? (items shown.0.its) i ≡ some row)
-        × (get_elem? shown.0.objects i ≡ some its))).
-        let named = at_map (λ r. row_at words r) (items shown.0.its) t.1.0 row t.1.1 in
-        some-injective (row_at words row) its (sym named
-        ∙ (ap (λ xs. get_elem? xs t.1.0) ((k.notes shown.0 shown.1).objects_are t.0) ∙ t.1.2)))
-        shown.2)
+    shown_word row index its inside shown =
+        noted_word row index its shown.0 inside (k.notes shown.0 shown.1) shown.2
+
+    -- and of one that was shown of a range.
+    pub range_word : (ends : Ends)
+        → IsRanging z words f.role ends u.since f.history u.number u.ranges
+        → (row index : ℕ) (its : List ℕ) → index < row_words → IsShownOfRange u row its
+        → get_or words (row_words * row + index) 0 ≡ get_or its index 0
+    range_word ends known row index its inside shown = ⊎_elim
+        (λ (b : (border : Border) × IsIn border u.ranges.borders × (border.row ≡ row)
+        × (border.its ≡ its)). sym (word_at words row index inside)
+        ∙ ap (λ (x : List ℕ). get_or x index 0) (ap (row_at words) (sym b.2)
+        ∙ ((known.borders b.0 b.1).spells ∙ b.3)))
+        (λ (n : (note : Note) × IsIn note u.ranges.run × IsOfNote note row its).
+        noted_word row index its n.0 inside (known.run n.0 n.1) n.2)
+        shown
 
     -- So it is of a route, but for its links and its join word.
     pub shown_fixed : (row index : ℕ) (its : List ℕ) → IsFixed index → IsShownRoute u row its
@@ -351,13 +414,64 @@ module _ (z : Sizes) (made : ℕ) (words : List ℕ) (uppers : List TreeView)
         ∙ ((k.ways shown.0 shown.1).spells index fixed
         ∙ ap (λ (x : List ℕ). get_or x index 0) shown.3)
 
-    pub read_is : (place : ℕ) → IsRead u place (get_or words place 0)
-    read_is place row index word is inside shown = ap (λ (i : ℕ). get_or words i 0) is ∙ (⊎_elim
-        (λ (x : IsShown u row shown.0). shown_word row index shown.0 inside x)
-        (λ (x : IsShownRoute u row shown.0
-        × IsFixed index). shown_fixed row index shown.0 x.1 x.0) shown.1 ∙ sym shown.2)
+    pub read_is : (ends : Ends)
+        → IsRanging z words f.role ends u.since f.history u.number u.ranges
+        → (place : ℕ) → IsRead u place (get_or words place 0)
+    read_is ends known place row index word is inside shown = ap (λ (i : ℕ). get_or words i 0) is
+        ∙ (⊎_elim (λ (x : IsShown u row shown.0). shown_word row index shown.0 inside x)
+        (λ x. ⊎_elim
+        (λ (y : IsShownRoute u row shown.0 × IsFixed index).
+        shown_fixed row index shown.0 y.1 y.0)
+        (λ (y : IsShownOfRange u row shown.0). range_word ends known row index shown.0 inside y)
+        x) shown.1 ∙ sym shown.2)
 
 module _ (z : Sizes) where
+  -- A seat that has seen the whole history.
+  module _ (s : State (Unit {0}) (View TreeView)) (r : R z s) (id : ℕ) (me : MyTree)
+      (at : get_elem? s.views id ≡ some me.0) where
+    abbrev mine : Knows z.rows r.made s.words r.above.role (map upper_of s.views) r.above.history id
+        me.0.upper
+    mine = knows_upper z s r id me.0 at
+
+    abbrev before : TreeView
+    before = me.0.upper
+
+    -- The rest of the history is behind what it had seen.
+    pub whole : r.above.history ≡ me.0.upper.seen ++ (knows_upper z s r id me.0 at).seen_first.0
+    whole = mine.seen_first.1
+
+    pub long : length me.0.upper.seen ≤ length r.above.history
+    long = starts_shorter r.above.history before.seen mine.seen_first
+
+    pub since_whole : StartsWith r.above.history me.0.upper.since
+    since_whole = further r.above.history before.seen before.since mine.seen_first mine.since_first
+
+    pub past_whole : ArePast (length r.above.history) me.0.upper.log
+    past_whole = longer_past (length before.seen) (length r.above.history) before.log long mine.past
+
+    -- It knows a history as it may.
+    pub known_now : (u' : TreeView) → u'.number ≡ me.0.upper.number → u'.log ≡ me.0.upper.log
+        → u'.seen ≡ me.0.upper.seen ++ (knows_upper z s r id me.0 at).seen_first.0 → IsKnown z u'
+    known_now u' same_number same_log same_seen = let e : r.above.history ≡ u'.seen = whole
+        ∙ sym same_seen in let low = mine.made_before in
+        let within = r.within in record {
+          lawful = subst (λ (log : List Entry). IsLawful u'.number u'.seen log) (sym same_log)
+              (subst (λ (h : History). IsLawful u'.number h before.log) e (subst
+              (λ (m : ℕ). IsLawful m r.above.history before.log) (sym same_number) mine.lawful));
+          past = subst (ArePast (length u'.seen)) (sym same_log)
+              (subst (λ (h : History). ArePast (length h) before.log) e past_whole);
+          edits = subst (AreEdits z.keypos) e r.above.edits;
+          enrolled = omega arith;
+          by_passes = subst (AreByPasses z.passes) e
+              (fewer_passes r.made z.passes r.above.history r.within r.above.by_passes);
+        }
+
+    -- The seat knows the sizes, if it has any rows.
+    pub sized : (P : Sizes → Type 0) → P z → 0 < me.0.sizes.rows → P me.0.sizes
+    sized P p some_rows =
+        subst P (sym (⊎_elim (λ (e : me.0.sizes.rows ≡ 0). absurd (omega arith))
+        (λ (e : me.0.sizes ≡ z). e) (r.seat id me.0 at).sizes_are)) p
+
   -- A load of a link that the seat knows.
   module _ (s : State (Unit {0}) (View TreeView)) (r : R z s) (id : ℕ) (me : MyTree)
       (at : get_elem? s.views id ≡ some me.0) (is_pinned : me.0.pin.pinned ≡ true)
@@ -378,44 +492,12 @@ module _ (z : Sizes) where
     abbrev more : History
     more = k.seen_first.0
 
-    whole : f.history ≡ u.seen ++ k.seen_first.0
-    whole = k.seen_first.1
-
     first : get_elem? (map upper_of s.views) id ≡ some u
     first = at_map upper_of s.views id me.0 at
-
-    long : length u.seen ≤ length f.history
-    long = starts_shorter f.history u.seen k.seen_first
 
     abbrev leads_there : LeadsTo s.words f.role link any.0 any.1
     leads_there =
         known_leads z r.made s.words (map upper_of s.views) f id u k link any.0 any.1 any.2
-
-    -- What it has seen then is the whole history.
-    known_now : (u' : TreeView) → u'.number ≡ u.number → u'.log ≡ u.log
-        → u'.seen ≡ u.seen ++ k.seen_first.0 → IsKnown z u'
-    known_now u' same_number same_log same_seen = let e : f.history ≡ u'.seen = whole
-        ∙ sym same_seen in let low = k.made_before in
-        let within = r.within in record {
-          lawful = subst (λ (log : List Entry). IsLawful u'.number u'.seen log) (sym same_log)
-              (subst (λ (h : History). IsLawful u'.number h u.log) e (subst
-              (λ (m : ℕ). IsLawful m f.history u.log) (sym same_number) k.lawful));
-          past = subst (ArePast (length u'.seen)) (sym same_log)
-              (subst (λ (h : History).
-              ArePast (length h) u.log) e
-              (longer_past (length u.seen) (length f.history) u.log long k.past));
-          edits = subst (AreEdits z.keypos) e f.edits;
-          enrolled = omega arith;
-          by_passes =
-              subst (AreByPasses z.passes) e
-              (fewer_passes r.made z.passes f.history r.within f.by_passes);
-        }
-
-    -- The seat knows the sizes, if it has any rows.
-    sized : (P : Sizes → Type 0) → P z → 0 < me.0.sizes.rows → P me.0.sizes
-    sized P p some_rows =
-        subst P (sym (⊎_elim (λ (e : me.0.sizes.rows ≡ 0). absurd (omega arith))
-        (λ (e : me.0.sizes ≡ z). e) (r.seat id me.0 at).sizes_are)) p
 
     abbrev Next : TreeView → Type 0
     Next u' = R z record {
@@ -453,14 +535,14 @@ module _ (z : Sizes) where
           (λ _. refl) record {
             made_before = k'.made_before;
             alone = k'.alone;
-            seen_first = subst (StartsWith f.history) whole (starts_whole f.history);
+            seen_first = subst (StartsWith f.history) (whole s r id me at) (starts_whole f.history);
             since_first = subst
-                (λ (h : History). StartsWith h u.since) whole
-                (further f.history u.seen u.since k.seen_first k.since_first);
+                (λ (h : History). StartsWith h u.since) (whole s r id me at)
+                (since_whole s r id me at);
             lawful = k'.lawful;
             past = subst
-                (λ (h : History). ArePast (length h) u.log) whole
-                (longer_past (length u.seen) (length f.history) u.log long k.past);
+                (λ (h : History). ArePast (length h) u.log) (whole s r id me at)
+                (past_whole s r id me at);
             notes = λ m i. ⊎_elim (λ (e : note ≡ m). subst (IsTrue z.rows s.words f.role) e
                 (base_true z r.made s.words (map upper_of s.views) f (get_or s.words link 0) place
                 is))
@@ -505,16 +587,16 @@ module _ (z : Sizes) where
           );
           has = subst (λ (m : StoreMap). map pair note.objects ≡ part place.span m)
               (sym (last_state (u.seen ++ k.seen_first.0))) (subst
-              (λ (h : History). map pair note.objects ≡ part place.span (after h [])) whole
+              (λ (h : History). map pair note.objects ≡ part place.span (after h [])) (whole s r id me at)
               (base_has z r.made s.words (map upper_of s.views) f (get_or s.words link 0) place
               is));
           last = λ _. refl;
         };
-        known = sized (λ y. IsBaseNote y note × IsKnown y with_base) (
+        known = sized s r id me at (λ y. IsBaseNote y note × IsKnown y with_base) (
           base_is z r.made s.words (map upper_of s.views) f (get_or s.words link 0) place is,
-          known_now with_base refl refl refl,
+          known_now s r id me at with_base refl refl refl,
         );
-        listed = sized (λ y. IsAlone y u → IsListed u.inventory note) base_listed;
+        listed = sized s r id me at (λ y. IsAlone y u → IsListed u.inventory note) base_listed;
       }
 
     -- or a route.
@@ -549,14 +631,14 @@ module _ (z : Sizes) where
           (λ _. refl) record {
             made_before = k'.made_before;
             alone = k'.alone;
-            seen_first = subst (StartsWith f.history) whole (starts_whole f.history);
+            seen_first = subst (StartsWith f.history) (whole s r id me at) (starts_whole f.history);
             since_first = subst
-                (λ (h : History). StartsWith h u.since) whole
-                (further f.history u.seen u.since k.seen_first k.since_first);
+                (λ (h : History). StartsWith h u.since) (whole s r id me at)
+                (since_whole s r id me at);
             lawful = k'.lawful;
             past = subst
-                (λ (h : History). ArePast (length h) u.log) whole
-                (longer_past (length u.seen) (length f.history) u.log long k.past);
+                (λ (h : History). ArePast (length h) u.log) (whole s r id me at)
+                (past_whole s r id me at);
             notes = k.notes;
             links = λ m i. more_links m.place.link (k.links m i);
             ways = λ w i. ⊎_elim (λ (e : way ≡ w). subst (IsTrueWay s.words f.role) e
@@ -575,10 +657,10 @@ module _ (z : Sizes) where
         row_is = refl;
         place = place_known z r.made s.words (map upper_of s.views) f id u k link place here
             (ap place_of is);
-        known = sized (λ y. IsRouteNote y way × IsKnown y with_route) (
+        known = sized s r id me at (λ y. IsRouteNote y way × IsKnown y with_route) (
           route_is z r.made s.words (map upper_of s.views) f (get_or s.words link 0) place key
               is,
-          known_now with_route refl refl refl,
+          known_now s r id me at with_route refl refl refl,
         );
       }
 
@@ -625,8 +707,11 @@ module _ (z : Sizes) where
   reads slots id me i s r _ at _ = let f = r.above in let d = me.0 in
       let k = knows_upper z s r id d at in let us : List TreeView = map upper_of s.views in
       let first = at_map upper_of s.views id d at in
-      let read : Reads (step slots i 0 0 none) me (get_or s.words i 0) me =
-      (refl, read_is z r.made s.words us f id d.upper k i) in (
+      let read : Reads (step slots i 0 0 none) me (get_or s.words i 0) me = (
+        refl,
+        read_is z r.made s.words us f id d.upper k
+            (f.ranged.ends d.upper.number) (f.ranged.each id d.upper first) i,
+      ) in (
         d,
         keeps,
         tt,
@@ -655,13 +740,14 @@ module _ (z : Sizes) where
       let read : ReadsLast event (step slots i 0 0 none) me (get_or s.words i 0)
       (with_upper me u') = (
         record { at = p; is_read = now; now = refl },
-        read_is z r.made s.words us f id d.upper k i,
+        read_is z r.made s.words us f id d.upper k
+            (f.ranged.ends d.upper.number) (f.ranged.each id d.upper first) i,
       ) in (
         record d { upper = u' },
         keeps,
         tt,
         looked z s r i id d u' at (λ row n. inl (noted_alike s.words d.upper u'
-            (λ x m. m) (λ x m. m) (λ x m. m) (λ x m. m) row n))
+            (λ x m. m) (λ x m. m) (λ x m. m) (λ x m. m) (λ x m. m) row n))
             (seat_changed z r.made s.words us id d.upper u' f first (λ _. refl) (λ _. refl) record {
               made_before = k'.made_before;
               alone = k'.alone;
@@ -698,7 +784,7 @@ module _ (z : Sizes) where
       (numbered us id d.upper u' first (λ _. refl))
       (knows_upper z s r id d at) in
       looked z s r i id d u' at (λ row n. inl (noted_alike s.words d.upper u'
-      (λ x m. m) (λ x m. m) (λ x m. m) (λ x m. m) row n))
+      (λ x m. m) (λ x m. m) (λ x m. m) (λ x m. m) (λ x m. m) row n))
       (seat_changed z r.made s.words us id d.upper u' f first (λ _. refl) (λ _. refl) record {
         made_before = k.made_before;
         alone = k.alone;
@@ -727,7 +813,7 @@ module _ (z : Sizes) where
       (numbered us id d.upper u' first (λ _. refl))
       (knows_upper z s r id d at) in
       looked z s r i id d u' at (λ row n. inl (noted_alike s.words d.upper u'
-      (λ x m. absurd (some-ne-none x (sym m.1))) (λ x m. m) (λ x m. m) (λ x m. m) row n))
+      (λ x m. absurd (some-ne-none x (sym m.1))) (λ x m. m) (λ x m. m) (λ x m. m) (λ x m. m) row n))
       (seat_changed z r.made s.words us id d.upper u' f first (λ _. refl) (λ _. refl) record {
         made_before = k.made_before;
         alone = k.alone;

@@ -1,5 +1,5 @@
 -- The first base that is marked for a pass's own range, and each next one for any range.
-use Rattle.std.proofs.Common.{◌≡◌, ◌≢◌, ◌⊎◌, ℕ, ◌<◌, ◌≤◌, Bool, true, false, eqb, List, [], ◌∷◌, get_or, set, sym, refl, ap, ◌∙◌, subst, inl, inr, ⊎_elim, arith, eq-eqb, ne_eqb}
+use Rattle.std.proofs.Common.{◌≡◌, ◌≢◌, ◌⊎◌, ℕ, ◌/◌, ◌<◌, ◌≤◌, Bool, true, false, eqb, List, [], ◌∷◌, get_or, set, sym, refl, ap, ◌∙◌, subst, inl, inr, ⊎_elim, arith, eq-eqb, ne_eqb}
 use mathlib.Core.Logic.{dite}
 use mathlib.Core.Option.{some, none, some-ne-none}
 use native.Mathlib.Decide.{ℕ_discrete}
@@ -21,6 +21,7 @@ use Rattle.ca_runs.specs.Runs.{AreNeighbours, BeginsBefore, Span}
 use Rattle.ca_runs.specs.Scenes.{IsFirst, IsNext}
 use Rattle.ca_node.specs.Copies.{Copy, update_of, IsCopy, IsFirstCopy, IsNextCopy, copied, IsCopied, Copies, HasCopied, marking_now}
 use Rattle.ca_node.specs.Inventory.{AreOnce, row_itself}
+use Rattle.ca_node.specs.Layout.{sequence_unit}
 use Rattle.ca_node.specs.Links.{IsIn, IsActive, HasBegun, IsBoundOf, IsLinked, IsLent, IsOfOwnRun}
 use Rattle.ca_node.specs.Marks.{IsBorder}
 use Rattle.ca_node.specs.May.{MaySwap}
@@ -33,11 +34,12 @@ use Rattle.ca_node.specs.Shape.{Role, Base}
 use Rattle.ca_node.specs.Told.{MyTree, one_more_lost, IsMissed, taken_out, given, lent_out}
 use Rattle.ca_node.specs.Tree.{IsTrue}
 use Rattle.ca_node.specs.TreeView.{Note, Border, Begun, KnownRanges, TreeView}
-use Rattle.ca_node.proofs.Copying.{ex, over, knows, new_words, serve_linked, ranging_still, copy_step, copied_now}
+use Rattle.ca_node.proofs.Copying.{ex, over, knows, new_words, serve_linked, ranging_still, run_keeps, copy_step, copied_now}
 use Rattle.ca_node.proofs.Exchanging.{own_ranging, is_old, new_row, ins_once}
 use Rattle.ca_node.proofs.Holding.{held_row}
 use Rattle.ca_node.proofs.Looking.{R, loses, hangs_still, in_more}
-use Rattle.ca_node.proofs.Rebased.{with_base, relinked_ranges, relinked_border}
+use Rattle.ca_node.proofs.Neighbours.{begins_there}
+use Rattle.ca_node.proofs.Rebased.{with_base, with_base_new, relinked_ranges, relinked_border}
 
 -- A range that is active was begun.
 active_begun : (words : List ℕ) (pass number : ℕ) → IsActive words pass number → HasBegun words pass number
@@ -55,7 +57,7 @@ module _ (z : Sizes) (s : State (Unit {0}) (View TreeView)) (r : R z s) (id : �
   abbrev role' : ℕ → Role
   role' = with_base r.above.role x.old.place x.old.row new
 
-  ranging : IsRanging z.rows s.words r.above.role (r.above.ranged.ends me.0.upper.number)
+  ranging : IsRanging z s.words r.above.role (r.above.ranged.ends me.0.upper.number)
       me.0.upper.since r.above.history me.0.upper.number me.0.upper.ranges
   ranging = own_ranging z s r id me.0 at
 
@@ -95,7 +97,7 @@ module _ (z : Sizes) (s : State (Unit {0}) (View TreeView)) (r : R z s) (id : �
   module _ (begun : Begun) (its : List ℕ) (k : IsFirstCopy me x begun its) where
     so : GoesOn s.words (r.above.ranged.ends me.0.upper.number) me.0.upper.number begun
         × ((row : ℕ) → IsBase r.above.role row → ¬ IsMarkedBy (row_at s.words row) me.0.upper.number begun.number)
-    so = subst (IsSoFar z.rows s.words r.above.role (r.above.ranged.ends me.0.upper.number) me.0.upper.since
+    so = subst (IsSoFar z s.words r.above.role (r.above.ranged.ends me.0.upper.number) me.0.upper.since
         r.above.history me.0.upper.number me.0.upper.ranges.borders) k.own (ranging.own c.is_pass)
 
     now : IsActive s.words x.pass x.number
@@ -160,11 +162,17 @@ module _ (z : Sizes) (s : State (Unit {0}) (View TreeView)) (r : R z s) (id : �
         copy_words : row_at words' new ≡ x.its
         copy_words = new_words z s r id me at new x c hit has_begun bounded served serve served_once new_end
 
+    -- The copy has the mark of the range.
+    new_marked : IsMarkedBy (row_at words' new) me.0.upper.number begun.number
+    new_marked = let m = c.marked in subst (λ y. IsMarkedBy y me.0.upper.number begun.number)
+        (sym (new_words z s r id me at new x c hit has_begun bounded served serve served_once new_end))
+        (m.0, m.1 ∙ k.pass_is, m.2 ∙ k.number_is)
+
     -- The seat's range goes on, and it remembers its end.
-    own_now : IsRanging z.rows words' role' (r.above.ranged.ends me.0.upper.number) me.0.upper.since
+    own_now : IsRanging z words' role' (r.above.ranged.ends me.0.upper.number) me.0.upper.since
         r.above.history me.0.upper.number (marking_now me.0.upper.ranges begun its)
     own_now = record {
-      over = λ y i. over_on z.rows s.words words' role role' same_ranges y (ranging.over y i);
+      over = λ y i. over_on z s.words words' role role' same_ranges y (ranging.over y i);
       borders = λ b i. ⊎_elim
           (λ (e : record { row = begun.top; its = its } ≡ b). subst (λ (y : Border).
           IsTrueBorder z.rows words' y) e record {
@@ -174,14 +182,22 @@ module _ (z : Sizes) (s : State (Unit {0}) (View TreeView)) (r : R z s) (id : �
             is_border = k.is_border;
           })
           (λ (o : IsIn b me.0.upper.ranges.borders). let was = ranging.borders b o in
-          border_on z.rows s.words words' role role' same_ranges b
+          border_on z s.words words' role role' same_ranges b
           (stays b.row was.some_row was.in_range (ap form was.spells ∙ was.is_border)) was)
           (in_more (record { row = begun.top; its = its }) b me.0.upper.ranges.borders i);
       own = λ _. (
         (0, refl),
         refl,
-        inl (active_on z.rows s.words words' role role' same_ranges me.0.upper.number begun.number so.0.0, so.0.1, so.0.2),
+        inl (
+          (active_on z s.words words' role role' same_ranges me.0.upper.number begun.number so.0.0, so.0.1, so.0.2),
+          (new, (x.old.place, with_base_new r.above.role x.old.place x.old.row new), new_marked),
+        ),
       );
+      sequence = λ n lo is. let q = ranging.sequence n lo is in (
+        q.0,
+        ap (λ v. v / sequence_unit) (same_ranges me.0.upper.number lo q.0) ∙ q.1,
+      );
+      run = run_keeps z s r id me at new x c hit has_begun bounded served serve served_once new_end;
     }
       where
         stays : (row : ℕ) → 0 < row → row ≤ z.rows → form (row_at s.words row) ≡ 4 → row_at words' row ≡ row_at s.words row
@@ -208,7 +224,7 @@ module _ (z : Sizes) (s : State (Unit {0}) (View TreeView)) (r : R z s) (id : �
         (copied served (marking_now me.0.upper.ranges begun its) new x me.0.upper) row
         → IsOfOwnRun (set s.words x.old.place.link new) me.0.upper row
     run row o = absurd (active_undecided words' me.0.upper.number begun.number o.0 o.1
-        (active_on z.rows s.words words' role role' same_ranges me.0.upper.number begun.number so.0.0) o.3)
+        (active_on z s.words words' role role' same_ranges me.0.upper.number begun.number so.0.0) o.3)
 
     abbrev first_view : View TreeView
     first_view = (relinked me (lent_out served (taken_out (x.old.row ∷ []) (given (new ∷ []) me.0.claims)))
@@ -219,9 +235,9 @@ module _ (z : Sizes) (s : State (Unit {0}) (View TreeView)) (r : R z s) (id : �
         × IsCopied served (marking_now me.0.upper.ranges begun its) new x me (first_view, me.1)
     first_copied = (
       copy_step z s r id me at new x c hit has_begun bounded served serve served_once new_end
-          (marking_now me.0.upper.ranges begun its) fits own_now unmarked borders run,
+          (marking_now me.0.upper.ranges begun its) fits own_now unmarked borders run refl,
       copied_now z s r id me at new x c hit has_begun bounded served serve served_once new_end
-          (marking_now me.0.upper.ranges begun its) fits own_now unmarked borders run,
+          (marking_now me.0.upper.ranges begun its) fits own_now unmarked borders run refl,
     )
 
   -- The next base behind one that the range marked.
@@ -271,7 +287,12 @@ module _ (z : Sizes) (s : State (Unit {0}) (View TreeView)) (r : R z s) (id : �
         marked = left_marked;
         back = ap (λ y. mark_back y) copy_words ∙ k.back_is;
         beside = subst (λ (y : Span × Span). AreNeighbours y.0 y.1)
-            (λ i. (sym (ap span_of (left_is now)) i, sym (ap span_of old_is) i)) k.beside;
+            (λ i. (sym (ap span_of (left_is now)) i, sym (ap span_of old_is) i)) (
+              k.key,
+              k.ends,
+              begins_there z s.words role (after r.above.history []) r.above.shape left.row x.old.row left.place x.old.place k.key (left_is now) old_is
+                  k.ends k.has,
+            );
         top = ap mark_bound copy_words ∙ (k.bound_is ∙ sym (ap mark_bound left_true.spells));
       },
     )
@@ -294,7 +315,7 @@ module _ (z : Sizes) (s : State (Unit {0}) (View TreeView)) (r : R z s) (id : �
     next_view = (relinked me (taken_out (x.old.row ∷ []) (given (new ∷ []) me.0.claims))
         (copied [] me.0.upper.ranges new x me.0.upper)).0
 
-    own_still : IsRanging z.rows words' role' (r.above.ranged.ends me.0.upper.number) me.0.upper.since
+    own_still : IsRanging z words' role' (r.above.ranged.ends me.0.upper.number) me.0.upper.since
         r.above.history me.0.upper.number me.0.upper.ranges
     own_still = ranging_still z s r id me at new x c hit was_begun bounded_too [] serves_none once new_end_too id me.0 at
         (none_before id me.0 at)
@@ -304,9 +325,9 @@ module _ (z : Sizes) (s : State (Unit {0}) (View TreeView)) (r : R z s) (id : �
         × IsCopied [] me.0.upper.ranges new x me (next_view, me.1)
     next_copied = (
       copy_step z s r id me at new x c hit was_begun bounded_too [] serves_none once new_end_too
-          me.0.upper.ranges fits_next own_still (λ j y _ here. none_before j y here) (λ b i. inl i) (λ row o. o),
+          me.0.upper.ranges fits_next own_still (λ j y _ here. none_before j y here) (λ b i. inl i) (λ row o. o) refl,
       copied_now z s r id me at new x c hit was_begun bounded_too [] serves_none once new_end_too
-          me.0.upper.ranges fits_next own_still (λ j y _ here. none_before j y here) (λ b i. inl i) (λ row o. o),
+          me.0.upper.ranges fits_next own_still (λ j y _ here. none_before j y here) (λ b i. inl i) (λ row o. o) refl,
     )
 
 module _ (z : Sizes) where

@@ -85,7 +85,7 @@ pub both_hold : (a b : Bool) → a ≡ true → b ≡ true → cond a b false �
 both_hold a b d e = rw d e
 
 -- An ordering that is told to be less is.
-is_less : (o : Ordering) → is_lt o ≡ true → o ≡ Less
+pub is_less : (o : Ordering) → is_lt o ≡ true → o ≡ Less
 is_less Less e = refl
 is_less Equal e = cc
 is_less Greater e = cc

@@ -219,7 +219,7 @@ module _ (z : Sizes) (words : List ℕ) (role : ℕ → Role) (m : StoreMap)
         (λ r i. let o = s.are_objects r i in relinked_object r o.0 o.1 o.2.0)
         (relinked_else p.link (other_link c p (ap place_of e) d)
         ∙ s.under) (link_still p.link s.is_link) (parts c p e d)
-        (relinked_marks p (row_at words c)) relinked_active
+        (relinked_marks p (row_at words c)) (λ pass number _. relinked_active pass number)
         (λ border b. let end = s.bounded border b in
         relinked_border border end.some_row end.in_range end.is_border)
     row_still c d (Route p key) e s =
@@ -250,7 +250,7 @@ module _ (z : Sizes) (words : List ℕ) (role : ℕ → Role) (m : StoreMap)
           few = subst (λ its. count its ≤ z.leaf) (sym e) b.few;
           marked = subst (IsMarkIn (set words place.link row) p) (sym e)
               (relinked_marks p (row_at words c) b.marked);
-          bounded = bounded_stays z.rows words words' c e relinked_active
+          bounded = bounded_stays z.rows words words' c e (λ pass number _. relinked_active pass number)
               (λ border x. let end = b.bounded border x in
               relinked_border border end.some_row end.in_range end.is_border) b.bounded;
           are_objects = λ r i. let i' = subst (λ its. IsIn r (items its)) e i in

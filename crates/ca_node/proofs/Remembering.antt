@@ -7,11 +7,11 @@ use Rattle.ca_rows.specs.declared.sizes.Sizes.{Sizes}
 use Rattle.ca_rows.specs.Words.{result_of}
 use Rattle.ca_runs.specs.Runs.{Ends}
 use Rattle.ca_node.specs.Laws.{alive}
-use Rattle.ca_node.specs.Links.{IsIn, IsUnder, IsActive, IsLinked, by_route, by_base, IsOfOwnRun, IsNoted, by_note, by_item, by_way, by_link, by_link_item, by_border, by_run, by_run_item}
+use Rattle.ca_node.specs.Links.{IsIn, IsUnder, IsActive, IsLinked, by_route, by_base, IsOfOwnRun, IsNoted, by_note, by_item, by_way, by_link, by_link_item, by_border, by_run, by_run_item, by_shown, by_shown_item}
 use Rattle.ca_node.specs.Place.{Place}
 use Rattle.ca_node.specs.Ranging.{IsRanging}
 use Rattle.ca_node.specs.RangesStay.{own_note, own_run_back, begun_on, active_back, decided_back, ranging_stays}
-use Rattle.ca_node.specs.Reached.{led_to, route_at, placed_linked}
+use Rattle.ca_node.specs.Reached.{led_to, base_at, route_at, placed_linked}
 use Rattle.ca_node.specs.Row.{row_at, form, IsObjectRow, IsBaseRow, items, IsMarkedBy, route_key}
 use Rattle.ca_node.specs.Scenes.{IsBase}
 use Rattle.ca_node.specs.Shape.{Role, Out, Base, Route, place_of, IsShape}
@@ -103,8 +103,8 @@ module _ (z : Sizes) (words : List ℕ) (role : ℕ → Role) (m : StoreMap)
           (λ c. unnoted note.row c noted)))
           t.stands;
       marks = λ pass number k. let was = t.marks pass number k in (
-        begun_on z.rows words words' role role' same_ranges pass number was.0,
-        λ now. let before = active_back z.rows words words' role role' same_ranges pass number now in
+        begun_on z words words' role role' same_ranges pass number was.0,
+        λ now. let before = active_back z words words' role role' same_ranges pass number now in
             marked_stay note.row note.place pass number (was.1 before)
             (subst (λ its. IsMarkedBy its pass number) (sym t.spells) k) before,
       );
@@ -145,17 +145,17 @@ module _ (z : Sizes) (words : List ℕ) (role : ℕ → Role) (m : StoreMap)
 
     -- What it knows of ranges.
     module _ (ends : Ends) (history : History)
-        (known : IsRanging z.rows words role ends u.since history u.number u.ranges) where
+        (known : IsRanging z words role ends u.since history u.number u.ranges) where
       -- A base of the run of its own range has the words that it had.
       run_its : (c : ℕ) → IsOfOwnRun words u c → row_at (set words place.link row) c ≡ row_at words c
-      run_its c o = let n = own_note z.rows words role ends history u known c o in
+      run_its c o = let n = own_note z words role ends history u known c o in
           let stays : row_at words' n.0.row ≡ row_at words n.0.row =
           (note_stays n.0 (subst (IsNoted words u) (sym n.2) (by_run c o)) n.1).spells ∙ sym n.1.spells in
           ap (row_at words') (sym n.2) ∙ (stays ∙ ap (row_at words) n.2)
 
       run_back : (c : ℕ) → IsOfOwnRun (set words place.link row) u c → IsOfOwnRun words u c
       run_back = own_run_back words words' u
-          (decided_back z.rows words words' role role' same_ranges u.number) run_its
+          (decided_back z words words' role role' same_ranges u.number) run_its
 
       -- It goes on to know them, where no base is marked for its own range that has none yet, and the
       -- history is longer.
@@ -166,9 +166,9 @@ module _ (z : Sizes) (words : List ℕ) (role : ℕ → Role) (m : StoreMap)
           → ((c : ℕ) → IsBase role c → ¬ IsMarkedBy (row_at words c) u.number number)
           → (c : ℕ) → IsBase role' c
           → ¬ IsMarkedBy (row_at (set words place.link row) c) u.number number)
-          → IsRanging z.rows (set words place.link row) role' ends u.since history' u.number u.ranges
+          → IsRanging z (set words place.link row) role' ends u.since history' u.number u.ranges
       ranges_stay history' longer unmarked =
-          ranging_stays z.rows words words' role role' same_ranges ends u.since history history'
+          ranging_stays z words words' role role' same_ranges ends u.since history history'
           u.number u.ranges
           (λ border i. let b = known.borders border i in
           relinked_border z words role m shape old place is row border.row b.some_row b.in_range
@@ -176,7 +176,15 @@ module _ (z : Sizes) (words : List ℕ) (role : ℕ → Role) (m : StoreMap)
           unmarked
           (λ number last note marking decided on t.
           note_stays note (by_run note.row (number, last, marking, decided, on)) t)
-          longer known
+          longer
+          (λ number now t. let b = base_at z words role m shape t.0 t.1.0 t.1.1 in (
+            t.0,
+            (t.1.0, marked_stay t.0 t.1.0 u.number number t.1.1 t.2 now),
+            subst (λ its. IsMarkedBy its u.number number)
+                (sym (relinked_row z words role m shape old place is row t.0 b.some_row b.in_range
+                (base_no_route role t.0 t.1.0 t.1.1))) t.2,
+          ))
+          (λ note i t. note_stays note (by_shown note note.row i refl) t) known
 
       -- What it has a note on now is what it had one on, or is linked; and then it had some note.
       pub notes_stay : ((way : Way) → IsIn way u.ways → IsTrueWay words role way) → (c : ℕ)
@@ -197,3 +205,5 @@ module _ (z : Sizes) (words : List ℕ) (role : ℕ → Role) (m : StoreMap)
       notes_stay ways _ (by_run c o) = inl (by_run c (run_back c o))
       notes_stay ways _ (by_run_item base c o k) = let was = run_back base o in
           inl (by_run_item base c was (subst (λ its. IsIn c (items its)) (run_its base was) k))
+      notes_stay ways _ (by_shown note c i e) = inl (by_shown note c i e)
+      notes_stay ways _ (by_shown_item note c i b k) = inl (by_shown_item note c i b k)

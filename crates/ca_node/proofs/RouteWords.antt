@@ -1,5 +1,5 @@
 -- Words of a route that a pass was shown.
-use Rattle.std.proofs.Common.{ℕ, ◌+◌, ◌<◌, List, get_or, refl, inr, arith}
+use Rattle.std.proofs.Common.{ℕ, ◌+◌, ◌<◌, List, get_or, refl, inl, inr, arith}
 use Rattle.ca_node.specs.Told.{IsShownWord}
 use Rattle.ca_node.specs.Tree.{IsFixed}
 use Rattle.ca_node.specs.TreeView.{TreeView}
@@ -9,7 +9,7 @@ use Rattle.ca_node.specs.Layout.{key_word}
 -- The word at a fixed place of the route was shown.
 pub fixed_word : (u : TreeView) (row : ℕ) (its : List ℕ) (index : ℕ) → IsRouteShown u row its
     → IsFixed index → IsShownWord u row index (get_or its index 0)
-fixed_word u row its index shown fixed = (its, inr (shown.shown, fixed), refl)
+fixed_word u row its index shown fixed = (its, inr (inl (shown.shown, fixed)), refl)
 
 -- The first word of a row is at such a place.
 pub first_fixed : IsFixed 0

@@ -1,5 +1,5 @@
 -- The run of an active range, as notes: what a pass is shown that decides it.
-use Rattle.std.proofs.Common.{◌≡◌, ℕ, ◌<◌, ◌≤◌, List, [], ◌∷◌, ◌++◌, length, map, sym, refl, ap, ◌∙◌, subst, inl, inr, ⊎_elim, le_refl}
+use Rattle.std.proofs.Common.{◌≡◌, ℕ, ◌<◌, ◌≤◌, List, [], ◌∷◌, ◌++◌, length, map, sym, refl, ap, ◌∙◌, subst, inl, inr, ⊎_elim, arith, le_refl}
 use mathlib.Core.Option.{some, some-injective, some-ne-none}
 use lib.ListN.{get_elem?}
 use Rattle.ca_model.specs.Edges.{within}
@@ -9,9 +9,11 @@ use Rattle.ca_model.proofs.Edits.{map_after}
 use Rattle.ca_rows.specs.declared.sizes.Sizes.{Sizes}
 use Rattle.ca_runs.specs.Runs.{IsAmong, Mark, IsChain, joined, Shows}
 use Rattle.ca_runs.proofs.Showing.{decides}
-use Rattle.ca_node.specs.Links.{IsIn, IsActive}
+use Rattle.ca_node.specs.Links.{IsIn, IsActive, IsOnChain}
+use Rattle.ca_node.specs.Notes.{IsBaseNote}
 use Rattle.ca_node.specs.Place.{part}
 use Rattle.ca_node.specs.Ranging.{AreChained, objects_of, IsRunShown}
+use Rattle.ca_node.specs.RangesStay.{chain_note}
 use Rattle.ca_node.specs.Reached.{base_at}
 use Rattle.ca_node.specs.Row.{row_at, items, IsMarkedBy, pair, objects_in}
 use Rattle.ca_node.specs.Scenes.{IsBase, span_of, mark_of, scene_of}
@@ -19,7 +21,7 @@ use Rattle.ca_node.specs.Shape.{Base}
 use Rattle.ca_node.specs.Tree.{IsTrue, IsTree}
 use Rattle.ca_node.specs.TreeView.{Note, TreeView}
 use Rattle.ca_node.proofs.Logs.{last_state}
-use Rattle.ca_node.proofs.Looking.{base_note, base_true, in_turn, in_more}
+use Rattle.ca_node.proofs.Looking.{base_note, base_true, base_is, in_turn, in_more}
 use Rattle.ca_node.proofs.Ranged.{bases_apart, map_cuts, edges_chained}
 
 module _ (z : Sizes) (made : ℕ) (words : List ℕ) (uppers : List TreeView) (f : IsTree z made words uppers) where
@@ -57,6 +59,13 @@ module _ (z : Sizes) (made : ℕ) (words : List ℕ) (uppers : List TreeView) (f
       (λ j. trues_of rows (λ x k. each x (inr k)) note j)
       (in_more (base_note z made words uppers f row base.0 base.1) note (notes_of rows (λ x k. each x (inr k))) i)
 
+  bases_of : (rows : List ℕ) (each : (row : ℕ) → IsAmong row rows → IsBase f.role row) (note : Note) → IsIn note (notes_of rows each) → IsBaseNote z note
+  bases_of [] each note i = absurd (some-ne-none note (sym i.1))
+  bases_of (row ∷ rows) each note i = let base = each row (inl refl) in ⊎_elim
+      (λ (e : base_note z made words uppers f row base.0 base.1 ≡ note). subst (IsBaseNote z) e (base_is z made words uppers f row base.0 base.1))
+      (λ j. bases_of rows (λ x k. each x (inr k)) note j)
+      (in_more (base_note z made words uppers f row base.0 base.1) note (notes_of rows (λ x k. each x (inr k))) i)
+
   -- The run that ends with a base that an active range marked.
   module _ (pass number row : ℕ) (now : IsActive words pass number) (base : IsBase f.role row) (marked : IsMarkedBy (row_at words row) pass number) where
     abbrev pub map_now : StoreMap
@@ -73,6 +82,9 @@ module _ (z : Sizes) (made : ℕ) (words : List ℕ) (uppers : List TreeView) (f
 
     pub run_trues : (note : Note) → IsIn note run → IsTrue z.rows words f.role note × (f.role note.row ≡ Base note.place)
     run_trues = trues_of shows.rows shows.kept
+
+    pub run_bases : (note : Note) → IsIn note run → IsBaseNote z note
+    run_bases = bases_of shows.rows shows.kept
 
     ends_high : (rows : List ℕ) (each : (x : ℕ) → IsAmong x rows → IsBase f.role x) → IsChain mark row rows → (note : Note)
         → get_elem? (notes_of rows each) 0 ≡ some note → note.place.span.high ≡ (span_of (f.role row)).high
@@ -99,3 +111,10 @@ module _ (z : Sizes) (made : ℕ) (words : List ℕ) (uppers : List TreeView) (f
       },
       refl,
     )
+
+    -- Each row of the chain from there to the left is a base, in words in which the run is so still.
+    pub on_chain : (others : List ℕ) → ((note : Note) → IsIn note run → IsTrue z.rows others f.role note) → 0 < row → (c : ℕ) → IsOnChain others row c
+        → IsBase f.role c
+    on_chain others trues lo c on = let shown = (run_shown [] (omega arith)).0 in
+        let note = chain_note z.rows others f.role row run trues shown.chained lo c on in
+        (note.0.place, sym (ap f.role note.2) ∙ (run_trues note.0 note.1).1)

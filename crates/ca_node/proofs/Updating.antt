@@ -300,7 +300,7 @@ module _ (z : Sizes) (s : State (Unit {0}) (View TreeView)) (r : R z s) (id : �
       (r.above.history ++ own ∷ []) mark bounded has_now others_have [] serve once new_end) m))))
 
   ranging_now : (j : ℕ) (y : View TreeView) → get_elem? s.views j ≡ some y
-      → IsRanging z.rows words' role' (r.above.ranged.ends y.upper.number) y.upper.since
+      → IsRanging z words' role' (r.above.ranged.ends y.upper.number) y.upper.since
       (r.above.history ++ own ∷ []) y.upper.number y.upper.ranges
   ranging_now j y here = ranging_keeps z s r id me at new x ex hit over (r.above.history ++ own ∷ [])
       mark bounded has_now others_have [] serve once new_end j y here longer
@@ -312,11 +312,11 @@ module _ (z : Sizes) (s : State (Unit {0}) (View TreeView)) (r : R z s) (id : �
       exchange_step z s r id me at new x ex hit over (r.above.history ++ own ∷ []) mark bounded has_now
       others_have [] serve once new_end u'
       (own_notes z s r id me at new x ex hit over (r.above.history ++ own ∷ []) mark bounded has_now
-      others_have [] serve once new_end u' refl refl (λ border i. inl i) (λ c o. o))
+      others_have [] serve once new_end u' refl refl (λ border i. inl i) (λ c o. o) refl)
       refl edits_now passes_now f.quiet runs_now own_knows (ranging_now id d at)
       (λ j v ne here. let y = of_map upper_of s.views j v here in (
         others_know j v ne here,
-        subst (λ (w : TreeView). IsRanging z.rows words' role'
+        subst (λ (w : TreeView). IsRanging z words' role'
             (r.above.ranged.ends w.number) w.since (r.above.history ++ own ∷ []) w.number w.ranges) y.2
             (ranging_now j y.0 y.1),
       ))

@@ -19,7 +19,8 @@ use Rattle.ca_node.specs.Inventory.{IsListed}
 use Rattle.ca_node.specs.Links.{IsIn}
 use Rattle.ca_node.specs.Place.{Span, all_keys, left_of, right_of, HasKey, Place}
 use Rattle.ca_node.specs.Row.{level, route_key}
-use Rattle.ca_node.specs.Told.{MyTree, with_upper, IsBaseNote, IsRouteNote, IsKnown, IsKnownLink, IsAnyLink, IsLed, IsLedToBase, IsLedToRoute, IsShownWord, led_to_base, led_to_route, link_word}
+use Rattle.ca_node.specs.Notes.{IsBaseNote}
+use Rattle.ca_node.specs.Told.{MyTree, with_upper, IsRouteNote, IsKnown, IsKnownLink, IsAnyLink, IsLed, IsLedToBase, IsLedToRoute, IsShownWord, led_to_base, led_to_route, link_word}
 use Rattle.ca_node.specs.States.{IsAlone, HasState}
 use Rattle.ca_node.specs.TreeView.{Note, Way, TreeView}
 use Rattle.ca_node.specs.Walking.{IsSought, IsSide, IsAbove, IsLowRoute, IsHighRoute, IsPlaced, IsBegin, IsRouteShown, IsAtRoute, IsAtBase, IsWalking, IsWalked, walked, passed}

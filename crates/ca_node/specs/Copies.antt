@@ -2,12 +2,14 @@
 use Rattle.std.specs.Prelude.{◌≡◌, ◌≢◌, ◌⊎◌, Bool, true, false, ℕ, ◌<◌, ◌≤◌, List, [], ◌∷◌, slice_index}
 use mathlib.Core.Option.{some, none}
 use Rattle.atomic_table.specs.Table.{Step}
+use Rattle.ca_model.specs.Edges.{Excluded}
 use Rattle.ca_rows.specs.declared.sizes.Sizes.{Sizes}
 use Rattle.ca_rows.specs.declared.view.Claim.TheVariants.{Holds}
 use Rattle.ca_rows.specs.Claims.{claim_of}
 use Rattle.ca_rows.specs.Told.{relinked}
-use Rattle.ca_runs.specs.Runs.{AreNeighbours, BeginsBefore}
+use Rattle.ca_runs.specs.Runs.{BeginsBefore}
 use Rattle.ca_node.specs.Links.{IsIn}
+use Rattle.ca_node.specs.Place.{HasKey}
 use Rattle.ca_node.specs.Row.{IsBaseRow, IsBorderRow, count, level, items, mark, mark_owner, mark_number, mark_back, mark_bound, IsMarkedBy, IsHeaded}
 use Rattle.ca_node.specs.Told.{MyTree, with_upper, IsLastThere, Update, no_update, given, lent_out, taken_out, exchanged_inventory, one_more_lost, IsMissed}
 use Rattle.ca_node.specs.TreeView.{Note, Over, Begun, Unmarked, Marking, KnownRanges, TreeView, no_note, one_passed}
@@ -68,7 +70,10 @@ pub record IsNextCopy (m : MyTree) (x : Copy) (left : Note) : Type 0 where
   pub marked : IsMarkedBy left.its x.pass x.number
   pub bound_is : mark_bound x.its ≡ mark_bound left.its
   pub back_is : mark_back x.its ≡ left.row
-  pub beside : AreNeighbours left.place.span x.old.place.span
+  -- the key where the keys of that one end, and which the old base has
+  pub key : List ℕ
+  pub ends : left.place.span.high ≡ Excluded key
+  pub has : HasKey x.old.place.span key
 
 -- what a seat knows after it put a copy in place: it passed on, and knows this of ranges
 abbrev pub copied : List ℕ → KnownRanges → ℕ → Copy → TreeView → TreeView
@@ -95,8 +100,7 @@ HasCopied false served ranges new x m m' = m' ≡ with_upper m (one_more_lost m.
 
 -- what a seat knows of ranges once the first base of its own one is marked
 abbrev pub marking_now : KnownRanges → Begun → List ℕ → KnownRanges
-marking_now ranges begun its = record {
-  over = ranges.over;
+marking_now ranges begun its = record ranges {
   borders = record { row = begun.top; its = its } ∷ ranges.borders;
   own = Marking begun (record { row = begun.top; its = its });
 }

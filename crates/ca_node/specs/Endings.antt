@@ -8,8 +8,8 @@ use Rattle.ca_node.specs.Layout.{sequence_unit}
 use Rattle.ca_node.specs.Links.{IsIn}
 use Rattle.ca_node.specs.Ranging.{Reaches}
 use Rattle.ca_node.specs.Row.{mark_bound, IsMarkedBy}
-use Rattle.ca_node.specs.Told.{MyTree, with_upper}
-use Rattle.ca_node.specs.TreeView.{Note, Over, Border, Inventory, TreeView, one_helped}
+use Rattle.ca_node.specs.Told.{MyTree, with_upper, but_of}
+use Rattle.ca_node.specs.TreeView.{Note, Over, Unfinished, Border, Inventory, KnownRanges, TreeView, one_helped}
 
 -- the word of an active range, and that of one that was decided with this base
 abbrev pub active_word : ℕ → ℕ
@@ -25,10 +25,11 @@ pub record IsEnding (m : MyTree) (pass number : ℕ) (last : Note) : Type 0 wher
   pub shown : IsIn last m.0.upper.notes
   pub marked : IsMarkedBy last.its pass number
 
--- It is another pass's, and the base has all keys up to where the range goes, as a row says that the seat was shown.
+-- It is another pass's, which the seat found unfinished, and the base has all keys up to where the range goes, as a row says that the seat was shown.
 pub record IsHelping (m : MyTree) (pass number : ℕ) (last : Note) (border : Border) : Type 0 where
   pub ending : IsEnding m pass number last
   pub other : pass ≢ m.0.upper.number
+  pub met : IsIn {A = Unfinished} (record { pass = pass; number = number }) m.0.upper.ranges.unfinished
   pub border_shown : IsIn border m.0.upper.ranges.borders
   pub border_is : border.row ≡ mark_bound last.its
   pub reaches : Reaches border.its last.place.span.high
@@ -41,17 +42,21 @@ over_up_to pass number = record { pass = pass; below = number + 1 }
 abbrev pub without : ℕ → Inventory → Inventory
 without border i = record { rows = but row_itself border i.rows; bases = i.bases; most = i.most }
 
+-- what a seat knows of ranges that knows that this one is finished
+abbrev pub finished : ℕ → ℕ → KnownRanges → KnownRanges
+finished pass number ranges = record ranges { over = over_up_to pass number ∷ ranges.over; unfinished = but_of pass ranges.unfinished }
+
 -- what a seat knows that helped a range to its end
 abbrev pub helped : ℕ → ℕ → ℕ → TreeView → TreeView
 helped pass number border u = record u {
-  ranges = record { over = over_up_to pass number ∷ u.ranges.over; borders = u.ranges.borders; own = u.ranges.own };
+  ranges = finished pass number u.ranges;
   turns = one_helped u.turns;
   inventory = without border u.inventory;
 }
 
--- what it knows where another one had ended it
+-- what it knows where another one had ended it: that counts as helped, too
 abbrev pub too_late : ℕ → ℕ → TreeView → TreeView
-too_late pass number u = record u { ranges = record { over = over_up_to pass number ∷ u.ranges.over; borders = u.ranges.borders; own = u.ranges.own } }
+too_late pass number u = record u { ranges = finished pass number u.ranges; turns = one_helped u.turns }
 
 -- The word of the range was exchanged, and it is decided; or another one had ended it, and the seat learns that.
 abbrev pub Helps : ℕ → ℕ → ℕ → Step (Unit {0}) → MyTree → ℕ → MyTree → Type 0

@@ -18,7 +18,7 @@ use Rattle.ca_rows.proofs.Making.{at_place}
 use Rattle.ca_rows.proofs.Rules.{all_seats}
 use Rattle.ca_node.specs.Bare.{bare_headed}
 use Rattle.ca_node.specs.Inventory.{IsInventory}
-use Rattle.ca_node.specs.Links.{root, IsIn, IsUnder, IsActive, IsBoundOf, IsLinked, by_root, by_range, IsLent, IsOfOwnRun, IsNoted, by_note, by_item, by_way, by_link, by_link_item, by_border, by_run, by_run_item}
+use Rattle.ca_node.specs.Links.{root, IsIn, IsUnder, IsActive, IsBoundOf, IsLinked, by_root, by_range, IsLent, IsOfOwnRun, IsNoted, by_note, by_item, by_way, by_link, by_link_item, by_border, by_run, by_run_item, by_shown, by_shown_item}
 use Rattle.ca_node.specs.Opened.{opens_at, result_at}
 use Rattle.ca_node.specs.Place.{Place, root_place}
 use Rattle.ca_node.specs.Ranging.{IsSoFar, IsRanging, AreRanged}
@@ -66,18 +66,37 @@ under_placed z words role map shape route row place key is under = let so = subs
     (λ (e : get_or words (row_words * route + 1) 0 ≡ row). (_, ap (λ r. place_of (role r)) (sym e) ∙ so.left.hangs))
     (λ (e : get_or words (row_words * route + 2) 0 ≡ row). (_, ap (λ r. place_of (role r)) (sym e) ∙ so.right.hangs)) under
 
--- A seat that remembers no more, and whose own range is as far, has no note more.
+-- A seat that remembers no more, but rows of which this holds that say up to where ranges go or are of a run that it was shown, and whose own range is as
+-- far, has no note more, but on rows of which this holds.
+pub noted_more : (words : List ℕ) (u v : TreeView) (P : ℕ → Type 0) → ((note : Note) → IsIn note v.notes → IsIn note u.notes)
+    → ((way : Way) → IsIn way v.ways → IsIn way u.ways)
+    → ((border : Border) → IsIn border v.ranges.borders → IsIn border u.ranges.borders ⊎ P border.row)
+    → ((row : ℕ) → IsOfOwnRun words v row → IsOfOwnRun words u row)
+    → ((note : Note) → IsIn note v.ranges.run → IsIn note u.ranges.run ⊎ (P note.row × (IsBaseRow note.its → (r : ℕ) → IsIn r (items note.its) → P r)))
+    → (row : ℕ) → IsNoted words v row → IsNoted words u row ⊎ P row
+noted_more words u v P notes ways borders run shown _ (by_note note row i e) = inl (by_note note row (notes note i) e)
+noted_more words u v P notes ways borders run shown _ (by_item note row i b k) = inl (by_item note row (notes note i) b k)
+noted_more words u v P notes ways borders run shown _ (by_way way row i e) = inl (by_way way row (ways way i) e)
+noted_more words u v P notes ways borders run shown _ (by_link way row i e) = inl (by_link way row (ways way i) e)
+noted_more words u v P notes ways borders run shown _ (by_link_item way base row i e f k) = inl (by_link_item way base row (ways way i) e f k)
+noted_more words u v P notes ways borders run shown _ (by_border border row i e) =
+    ⊎_elim (λ o. inl (by_border border row o e)) (λ p. inr (subst P e p)) (borders border i)
+noted_more words u v P notes ways borders run shown _ (by_run row o) = inl (by_run row (run row o))
+noted_more words u v P notes ways borders run shown _ (by_run_item base row o k) = inl (by_run_item base row (run base o) k)
+noted_more words u v P notes ways borders run shown _ (by_shown note row i e) =
+    ⊎_elim (λ o. inl (by_shown note row o e)) (λ (p : P note.row × (IsBaseRow note.its → (r : ℕ) → IsIn r (items note.its) → P r)). inr (subst P e p.0))
+    (shown note i)
+noted_more words u v P notes ways borders run shown _ (by_shown_item note row i b k) =
+    ⊎_elim (λ o. inl (by_shown_item note row o b k)) (λ (p : P note.row × (IsBaseRow note.its → (r : ℕ) → IsIn r (items note.its) → P r)). inr (p.1 b row k))
+    (shown note i)
+
+-- One that remembers no more has no note more.
 pub noted_alike : (words : List ℕ) (u v : TreeView) → ((note : Note) → IsIn note v.notes → IsIn note u.notes)
     → ((way : Way) → IsIn way v.ways → IsIn way u.ways) → ((border : Border) → IsIn border v.ranges.borders → IsIn border u.ranges.borders)
-    → ((row : ℕ) → IsOfOwnRun words v row → IsOfOwnRun words u row) → (row : ℕ) → IsNoted words v row → IsNoted words u row
-noted_alike words u v notes ways borders run _ (by_note note row i e) = by_note note row (notes note i) e
-noted_alike words u v notes ways borders run _ (by_item note row i b k) = by_item note row (notes note i) b k
-noted_alike words u v notes ways borders run _ (by_way way row i e) = by_way way row (ways way i) e
-noted_alike words u v notes ways borders run _ (by_link way row i e) = by_link way row (ways way i) e
-noted_alike words u v notes ways borders run _ (by_link_item way base row i e f k) = by_link_item way base row (ways way i) e f k
-noted_alike words u v notes ways borders run _ (by_border border row i e) = by_border border row (borders border i) e
-noted_alike words u v notes ways borders run _ (by_run row o) = by_run row (run row o)
-noted_alike words u v notes ways borders run _ (by_run_item base row o k) = by_run_item base row (run base o) k
+    → ((row : ℕ) → IsOfOwnRun words v row → IsOfOwnRun words u row) → ((note : Note) → IsIn note v.ranges.run → IsIn note u.ranges.run)
+    → (row : ℕ) → IsNoted words v row → IsNoted words u row
+noted_alike words u v notes ways borders run shown row n = ⊎_elim (λ (o : IsNoted words u row). o) (λ (none : ⊥). absurd none)
+    (noted_more words u v (λ _. ⊥) notes ways (λ border i. inl (borders border i)) run (λ note i. inl (shown note i)) row n)
 
 -- A seat whose range is quiet, or left, has none of a run of its own.
 pub left_run : (words : List ℕ) (u v : TreeView) (row : ℕ) → v.ranges.own ≡ left_over u.ranges.own → ¬ IsOfOwnRun words v row
@@ -118,7 +137,7 @@ module _ (z : Sizes) (made : ℕ) (uppers : List TreeView) (words others : List 
 
   shape_now : IsShape z others f.role (after f.history [])
   shape_now = shape_stands z words others f.role (after f.history []) f.shape wide' same_root
-      (λ pass lo hi. let e = a.results pass lo hi in omega arith) (λ pass number x. (active pass number).0 x) same
+      (λ pass lo hi. let e = a.results pass lo hi in omega arith) (λ base place is pass number m x. (active pass number).0 x) same
 
   -- A base has the same words.
   scene_on : (row : ℕ) → IsBase f.role row → row_at others row ≡ row_at words row
@@ -147,31 +166,33 @@ module _ (z : Sizes) (made : ℕ) (uppers : List TreeView) (words others : List 
           (λ r n. let o = t.named b r n in noted_its r o.0 o.1 (items_noted b r n)) ∙ t.objects_are b;
       stands = t.stands;
       marks = λ pass number m. let was = t.marks pass number m in
-          (begun_on z.rows words others f.role f.role a.results pass number was.0, λ now. was.1 ((active pass number).0 now));
+          (begun_on z words others f.role f.role a.results pass number was.0, λ now. was.1 ((active pass number).0 now));
     }
 
     note_now : (note : Note) → IsIn note u.notes → IsTrue z.rows others f.role note
     note_now note i = true_now note (by_note note note.row i refl) (λ b r n. by_item note r i b n) (knows.notes note i)
 
-    known_ranges : IsRanging z.rows words f.role (f.ranged.ends u.number) u.since f.history u.number u.ranges
+    known_ranges : IsRanging z words f.role (f.ranged.ends u.number) u.since f.history u.number u.ranges
     known_ranges = f.ranged.each j u at
 
-    ranges_now : IsRanging z.rows others f.role (f.ranged.ends u.number) u.since f.history u.number u.ranges
-    ranges_now = ranging_stays z.rows words others f.role f.role a.results (f.ranged.ends u.number) u.since f.history f.history u.number u.ranges
+    ranges_now : IsRanging z others f.role (f.ranged.ends u.number) u.since f.history u.number u.ranges
+    ranges_now = ranging_stays z words others f.role f.role a.results (f.ranged.ends u.number) u.since f.history f.history u.number u.ranges
         (λ border i. let b = known_ranges.borders border i in noted_its border.row b.some_row b.in_range (by_border border border.row i refl))
         (λ number now none row base marked. none row base (subst (λ its. IsMarkedBy its u.number number) (scene_on row base) marked))
         (λ number last note marking decided on t. true_now note (by_run note.row (number, last, marking, decided, on))
         (λ b r n. by_run_item note.row r (number, last, marking, decided, on) (subst (λ its. IsIn r (items its)) (sym t.spells) n)) t)
         (λ at before. (before, refl))
+        (λ number now marked. (marked.0, marked.1, subst (λ its. IsMarkedBy its u.number number) (sym (scene_on marked.0 marked.1)) marked.2))
+        (λ note i t. true_now note (by_shown note note.row i refl) (λ b r n. by_shown_item note r i b n) t)
         known_ranges
 
     -- The run of the seat's own range is as it was.
     run_its : (row : ℕ) → IsOfOwnRun words u row → row_at others row ≡ row_at words row
-    run_its row o = let n = own_note z.rows words f.role (f.ranged.ends u.number) f.history u known_ranges row o in
+    run_its row o = let n = own_note z words f.role (f.ranged.ends u.number) f.history u known_ranges row o in
         noted_its row (subst (λ r. 0 < r) n.2 n.1.some_row) (subst (λ r. r ≤ z.rows) n.2 n.1.in_range) (by_run row o)
 
     run_back : (row : ℕ) → IsOfOwnRun others u row → IsOfOwnRun words u row
-    run_back = own_run_back words others u (decided_back z.rows words others f.role f.role a.results u.number) run_its
+    run_back = own_run_back words others u (decided_back z words others f.role f.role a.results u.number) run_its
 
     way_range : (way : Way) → IsIn way u.ways → (0 < way.row) × (way.row ≤ z.rows)
     way_range way i = let t = knows.ways way i in
@@ -204,6 +225,8 @@ module _ (z : Sizes) (made : ℕ) (uppers : List TreeView) (words others : List 
     notes_back _ (by_run row o) = by_run row (run_back row o)
     notes_back _ (by_run_item base row o k) = let was = run_back base o in
         by_run_item base row was (subst (λ its. IsIn row (items its)) (run_its base was) k)
+    notes_back _ (by_shown note row i e) = by_shown note row i e
+    notes_back _ (by_shown_item note row i b k) = by_shown_item note row i b k
 
   linked_then : (row : ℕ) → IsLinked others row → IsLinked words row
   linked_then row = linked_back z.rows words others f.shape.wide wide' same_root active in_range same row
@@ -228,10 +251,10 @@ module _ (z : Sizes) (made : ℕ) (uppers : List TreeView) (words others : List 
       alike = record {
         active = λ pass number now. (active pass number).1 now;
         was_active = λ pass number now. (active pass number).0 now;
-        begun = λ pass number b. begun_on z.rows words others f.role f.role a.results pass number b;
+        begun = λ pass number b. begun_on z words others f.role f.role a.results pass number b;
       };
       stay = λ pass number row now base marked. (base, refl, ap mark_of (scene_on row base));
-      begun = λ pass number row base marked. begun_on z.rows words others f.role f.role a.results pass number
+      begun = λ pass number row base marked. begun_on z words others f.role f.role a.results pass number
           (f.ranged.runs.begun pass number row base (subst (λ its. IsMarkedBy its pass number) (scene_on row base) marked));
       were = λ pass number row base marked now. (base, subst (λ its. IsMarkedBy its pass number) (scene_on row base) marked);
     };
@@ -322,7 +345,7 @@ relisted rows made words role uppers uppers' history j u n k = record {
 pub seat_changed : (z : Sizes) (made : ℕ) (words : List ℕ) (uppers : List TreeView) (id : ℕ) (u u' : TreeView) (f : IsTree z made words uppers)
     → get_elem? uppers id ≡ some u → (0 < u'.number → u'.number ≡ u.number) → (0 < u'.number → u'.inventory ≡ u.inventory)
     → Knows z.rows made words f.role (set uppers id u') f.history id u'
-    → IsRanging z.rows words f.role (f.ranged.ends u'.number) u'.since f.history u'.number u'.ranges → IsTree z made words (set uppers id u')
+    → IsRanging z words f.role (f.ranged.ends u'.number) u'.since f.history u'.number u'.ranges → IsTree z made words (set uppers id u')
 seat_changed z made words uppers id u u' f at same has k ranging = record {
   usable = f.usable;
   history = f.history;
@@ -337,7 +360,7 @@ seat_changed z made words uppers id u u' f at same has k ranging = record {
     ends = f.ranged.ends;
     runs = f.ranged.runs;
     made_before = f.ranged.made_before;
-    each = all_seats (λ j v. IsRanging z.rows words f.role (f.ranged.ends v.number) v.since f.history v.number v.ranges) uppers id u' ranging
+    each = all_seats (λ j v. IsRanging z words f.role (f.ranged.ends v.number) v.since f.history v.number v.ranges) uppers id u' ranging
         (λ j v n here. f.ranged.each j v here);
   };
   quiet = f.quiet;
@@ -354,28 +377,30 @@ pub starts_whole : (h : History) → StartsWith h h
 starts_whole h = ([], sym (append-nil h))
 
 pub no_notes : (words : List ℕ) (u : TreeView) (row : ℕ) → u.notes ≡ [] → u.ways ≡ [] → u.ranges.borders ≡ [] → ((r : ℕ) → ¬ IsOfOwnRun words u r)
-    → ¬ IsNoted words u row
-no_notes words u _ empty empty_too no_borders no_run (by_note note row i e) = in_nothing note u.notes empty i
-no_notes words u _ empty empty_too no_borders no_run (by_item note row i b k) = in_nothing note u.notes empty i
-no_notes words u _ empty empty_too no_borders no_run (by_way way row i e) = in_nothing way u.ways empty_too i
-no_notes words u _ empty empty_too no_borders no_run (by_link way row i e) = in_nothing way u.ways empty_too i
-no_notes words u _ empty empty_too no_borders no_run (by_link_item way base row i e f k) = in_nothing way u.ways empty_too i
-no_notes words u _ empty empty_too no_borders no_run (by_border border row i e) = in_nothing border u.ranges.borders no_borders i
-no_notes words u _ empty empty_too no_borders no_run (by_run row o) = no_run row o
-no_notes words u _ empty empty_too no_borders no_run (by_run_item base row o k) = no_run base o
+    → u.ranges.run ≡ [] → ¬ IsNoted words u row
+no_notes words u _ empty empty_too no_borders no_run none_shown (by_note note row i e) = in_nothing note u.notes empty i
+no_notes words u _ empty empty_too no_borders no_run none_shown (by_item note row i b k) = in_nothing note u.notes empty i
+no_notes words u _ empty empty_too no_borders no_run none_shown (by_way way row i e) = in_nothing way u.ways empty_too i
+no_notes words u _ empty empty_too no_borders no_run none_shown (by_link way row i e) = in_nothing way u.ways empty_too i
+no_notes words u _ empty empty_too no_borders no_run none_shown (by_link_item way base row i e f k) = in_nothing way u.ways empty_too i
+no_notes words u _ empty empty_too no_borders no_run none_shown (by_border border row i e) = in_nothing border u.ranges.borders no_borders i
+no_notes words u _ empty empty_too no_borders no_run none_shown (by_run row o) = no_run row o
+no_notes words u _ empty empty_too no_borders no_run none_shown (by_run_item base row o k) = no_run base o
+no_notes words u _ empty empty_too no_borders no_run none_shown (by_shown note row i e) = in_nothing note u.ranges.run none_shown i
+no_notes words u _ empty empty_too no_borders no_run none_shown (by_shown_item note row i b k) = in_nothing note u.ranges.run none_shown i
 
 -- A seat that knows nothing yet has no note.
 pub no_blank_notes : (words : List ℕ) (number row : ℕ) → ¬ IsNoted words (blank number) row
-no_blank_notes words number row = no_notes words (blank number) row refl refl refl (λ r. left_run words (blank number) (blank number) r refl)
+no_blank_notes words number row = no_notes words (blank number) row refl refl refl (λ r. left_run words (blank number) (blank number) r refl) refl
 
 -- A range that is left to others isn't spoken of.
-left_so_far : (rows : ℕ) (words : List ℕ) (role : ℕ → Role) (ends : Ends) (since since' history : History) (pass : ℕ) (borders borders' : List Border)
-    (own : Ranging) → IsSoFar rows words role ends since history pass borders own
-    → IsSoFar rows words role ends since' history pass borders' (left_over own)
-left_so_far rows words role ends since since' history pass borders borders' Quiet k = k
-left_so_far rows words role ends since since' history pass borders borders' (Unmarked begun) k = tt
-left_so_far rows words role ends since since' history pass borders borders' (Marking begun border) k = tt
-left_so_far rows words role ends since since' history pass borders borders' Left k = tt
+left_so_far : (z : Sizes) (words : List ℕ) (role : ℕ → Role) (ends : Ends) (since since' history : History) (pass : ℕ) (borders borders' : List Border)
+    (own : Ranging) → IsSoFar z words role ends since history pass borders own
+    → IsSoFar z words role ends since' history pass borders' (left_over own)
+left_so_far z words role ends since since' history pass borders borders' Quiet k = k
+left_so_far z words role ends since since' history pass borders borders' (Unmarked begun) k = tt
+left_so_far z words role ends since since' history pass borders borders' (Marking begun border) k = tt
+left_so_far z words role ends since since' history pass borders borders' Left k = tt
 
 pub tree_pinning : Pinning IsLinked IsLent IsNoted IsTree pinned unpinned
 tree_pinning = record {
@@ -397,11 +422,13 @@ tree_pinning = record {
       (let known = f.ranged.each i u at in record {
         over = known.over;
         borders = known.borders;
-        own = λ lo. left_so_far z.rows words f.role (f.ranged.ends u.number) u.since u.seen f.history u.number u.ranges.borders u.ranges.borders
+        own = λ lo. left_so_far z words f.role (f.ranged.ends u.number) u.since u.seen f.history u.number u.ranges.borders u.ranges.borders
             u.ranges.own (known.own lo);
+        sequence = known.sequence;
+        run = known.run;
       });
   entering_notes = λ words u. noted_alike words u (pinned u) (λ n i. i) (λ w i. i) (λ b i. i)
-      (λ row o. absurd (left_run words u (pinned u) row refl o));
+      (λ row o. absurd (left_run words u (pinned u) row refl o)) (λ n i. i);
   keeps_leaving = λ z made uppers words i u f at. let k = relisted z.rows made words f.role uppers (set uppers i (unpinned u)) f.history i u
       (numbered uppers i u (unpinned u) at (λ _. refl)) (f.each_seat i u at) in
       seat_changed z made words uppers i u (unpinned u) f at (λ _. refl) (λ _. refl)
@@ -420,10 +447,12 @@ tree_pinning = record {
       (let known = f.ranged.each i u at in record {
         over = λ x m. absurd (in_nothing x [] refl m);
         borders = λ border m. absurd (in_nothing border [] refl m);
-        own = λ lo. left_so_far z.rows words f.role (f.ranged.ends u.number) u.since u.since f.history u.number u.ranges.borders [] u.ranges.own
+        own = λ lo. left_so_far z words f.role (f.ranged.ends u.number) u.since u.since f.history u.number u.ranges.borders [] u.ranges.own
             (known.own lo);
+        sequence = known.sequence;
+        run = λ note m. absurd (in_nothing note [] refl m);
       });
-  leaving_notes = λ words u r. no_notes words (unpinned u) r refl refl refl (λ row. left_run words u (unpinned u) row refl);
+  leaving_notes = λ words u r. no_notes words (unpinned u) r refl refl refl (λ row. left_run words u (unpinned u) row refl) refl;
 }
 
 -- A pass that wasn't made yet has no edit in the history.
@@ -455,20 +484,24 @@ knows_nothing rows made words role uppers history j number before alone unmade =
 }
 
 -- A seat that knows nothing yet knows nothing of ranges, and none of its own is active.
-pub new_ranging : (rows : ℕ) (words : List ℕ) (role : ℕ → Role) (ends : Ends) (history : History) (pass : ℕ) → ((number : ℕ) → ¬ IsActive words pass number)
-    → IsRanging rows words role ends [] history pass no_ranges
-new_ranging rows words role ends history pass quiet = record {
+pub new_ranging : (z : Sizes) (words : List ℕ) (role : ℕ → Role) (ends : Ends) (history : History) (pass : ℕ) → ((number : ℕ) → ¬ IsActive words pass number)
+    → IsRanging z words role ends [] history pass no_ranges
+new_ranging z words role ends history pass quiet = record {
   over = λ x i. absurd (in_nothing x [] refl i);
   borders = λ border i. absurd (in_nothing border [] refl i);
   own = λ _. quiet;
+  sequence = λ number lo e. absurd (some-ne-none number (sym e));
+  run = λ note i. absurd (in_nothing note [] refl i);
 }
 
 -- So it is of a seat that is no pass's.
-pub no_ranging : (rows : ℕ) (words : List ℕ) (role : ℕ → Role) (ends : Ends) (history : History) → IsRanging rows words role ends [] history 0 no_ranges
-no_ranging rows words role ends history = record {
+pub no_ranging : (z : Sizes) (words : List ℕ) (role : ℕ → Role) (ends : Ends) (history : History) → IsRanging z words role ends [] history 0 no_ranges
+no_ranging z words role ends history = record {
   over = λ x i. absurd (in_nothing x [] refl i);
   borders = λ border i. absurd (in_nothing border [] refl i);
   own = λ lo. absurd (omega arith);
+  sequence = λ number lo e. absurd (some-ne-none number (sym e));
+  run = λ note i. absurd (in_nothing note [] refl i);
 }
 
 pub tree_making : Making IsLinked IsLent IsNoted IsTree blank
@@ -489,8 +522,8 @@ tree_making = record {
       made_before = λ pass number now. let before = f.ranged.made_before pass number now in omega arith;
       each = λ j u here. ⊎_elim (λ (was : get_elem? uppers j ≡ some u). f.ranged.each j u was)
           (λ (t : (j ≡ length uppers) × (blank (made + 1) ≡ u)).
-          subst (λ (v : TreeView). IsRanging z.rows words f.role (f.ranged.ends v.number) v.since f.history v.number v.ranges) t.1
-          (new_ranging z.rows words f.role (f.ranged.ends (made + 1)) f.history (made + 1)
+          subst (λ (v : TreeView). IsRanging z words f.role (f.ranged.ends v.number) v.since f.history v.number v.ranges) t.1
+          (new_ranging z words f.role (f.ranged.ends (made + 1)) f.history (made + 1)
           (λ number now. let before = f.ranged.made_before (made + 1) number now in omega arith)))
           (at_place uppers (blank (made + 1)) u j here);
     };
@@ -548,7 +581,7 @@ module _ (z : Sizes) (made : ℕ) (words : List ℕ) (uppers : List TreeView) (i
   fewer : IsTree z made words (set uppers j (blank 0))
   fewer = seat_changed z made words uppers j w (blank 0) f there (λ lo. absurd (omega arith)) (λ lo. absurd (omega arith))
       (knows_nothing z.rows made words f.role (set uppers j (blank 0)) f.history j 0 (omega arith) (λ lo. absurd (omega arith))
-      (none_made made 0 f.history f.by_passes (inl refl))) (no_ranging z.rows words f.role (f.ranged.ends 0) f.history)
+      (none_made made 0 f.history f.by_passes (inl refl))) (no_ranging z words f.role (f.ranged.ends 0) f.history)
 
   at_too : get_elem? (set uppers j (blank 0)) i ≡ some v
   at_too = set_else uppers j i (blank 0) (λ e. ne (sym e)) ∙ at
@@ -607,7 +640,7 @@ module _ (z : Sizes) (made : ℕ) (words : List ℕ) (uppers : List TreeView) (i
 pub tree_closing : Closing IsLinked IsLent IsNoted IsTree ended_with (blank 0)
 tree_closing = record {
   keeps_closing = λ z made uppers words i j v w f at ne there. closes z made words uppers i j v w f at ne there;
-  closing_notes = λ words v w r n. inl (noted_alike words v (ended_with v w) (λ n i. i) (λ y i. i) (λ b i. i) (λ row o. o) r n);
+  closing_notes = λ words v w r n. inl (noted_alike words v (ended_with v w) (λ n i. i) (λ y i. i) (λ b i. i) (λ row o. o) (λ n i. i) r n);
   spent_notes = λ words r. no_blank_notes words 0 r;
 }
 
@@ -705,9 +738,9 @@ module _ (z : Sizes) (words : List ℕ) (bounds : AreInBounds z) (usable : AreUs
   }
     where
       by : (j : ℕ) (u : TreeView) → get_elem? (blank 0 ∷ []) j ≡ some u
-          → IsRanging z.rows words role_of (record { edge = Unbounded; top = 0 }) u.since [] u.number u.ranges
-      by zero u e = subst (λ (v : TreeView). IsRanging z.rows words role_of (record { edge = Unbounded; top = 0 }) v.since [] v.number v.ranges)
-          (some-injective (blank 0) u e) (no_ranging z.rows words role_of (record { edge = Unbounded; top = 0 }) [])
+          → IsRanging z words role_of (record { edge = Unbounded; top = 0 }) u.since [] u.number u.ranges
+      by zero u e = subst (λ (v : TreeView). IsRanging z words role_of (record { edge = Unbounded; top = 0 }) v.since [] v.number v.ranges)
+          (some-injective (blank 0) u e) (no_ranging z words role_of (record { edge = Unbounded; top = 0 }) [])
       by (suc j) u e = absurd (some-ne-none u (sym e))
 
   only : (j : ℕ) (u : TreeView) → get_elem? (blank 0 ∷ []) j ≡ some u → Knows z.rows 0 words role_of (blank 0 ∷ []) [] j u

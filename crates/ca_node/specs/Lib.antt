@@ -8,7 +8,9 @@ pub mod Layout
 pub mod Links
 pub mod Marks
 pub mod May
+pub mod Notes
 pub mod Opened
+pub mod OwnRanges
 pub mod Place
 pub mod RangesStay
 pub mod Ranging

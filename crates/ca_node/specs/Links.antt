@@ -69,7 +69,7 @@ IsOfOwnRun words u row = (number : ℕ) × (last : ℕ) × IsMarkingFor u.ranges
 
 -- A seat has a note on each row that it was shown, on the object rows that a noted base names, on what the links of a route name
 -- that it was shown, with the object rows of such a base, on each row that says up to where a range goes that it was shown, and on the run of its own
--- range once that was decided.
+-- range once that was decided, and on the bases of a run that it was shown, with their object rows.
 pub data IsNoted (words : List ℕ) (u : TreeView) : ℕ → Type 0 where
   by_note : (note : Note) (row : ℕ) → IsIn note u.notes → note.row ≡ row → IsNoted words u row
   by_item : (note : Note) (row : ℕ) → IsIn note u.notes → IsBaseRow note.its → IsIn row (items note.its) → IsNoted words u row
@@ -80,3 +80,5 @@ pub data IsNoted (words : List ℕ) (u : TreeView) : ℕ → Type 0 where
   by_border : (border : Border) (row : ℕ) → IsIn border u.ranges.borders → border.row ≡ row → IsNoted words u row
   by_run : (row : ℕ) → IsOfOwnRun words u row → IsNoted words u row
   by_run_item : (base row : ℕ) → IsOfOwnRun words u base → IsIn row (items (row_at words base)) → IsNoted words u row
+  by_shown : (note : Note) (row : ℕ) → IsIn note u.ranges.run → note.row ≡ row → IsNoted words u row
+  by_shown_item : (note : Note) (row : ℕ) → IsIn note u.ranges.run → IsBaseRow note.its → IsIn row (items note.its) → IsNoted words u row

@@ -6,9 +6,10 @@ use Rattle.ca_model.specs.Edges.{Bound, within}
 use Rattle.ca_model.specs.History.{History, state}
 use Rattle.ca_model.specs.StoreMap.{StoreMap}
 use Rattle.ca_rows.specs.Words.{result_of}
+use Rattle.ca_rows.specs.declared.sizes.Sizes.{Sizes}
 use Rattle.ca_runs.specs.Runs.{Ends}
 use Rattle.ca_node.specs.Links.{IsIn, IsActive, HasBegun, IsDecided, IsOnChain, at_last, further, IsMarkingFor, IsOfOwnRun}
-use Rattle.ca_node.specs.Ranging.{IsOver, IsTrueBorder, AreChained, objects_of, IsRunShown, GoesOn, WasDecided, IsSoFar, IsRanging}
+use Rattle.ca_node.specs.Ranging.{IsOver, IsTrueBorder, AreChained, objects_of, IsRunShown, GoesOn, IsSomeMarked, WasDecided, IsSoFar, IsRanging}
 use Rattle.ca_node.specs.Row.{row_at, IsMarkedBy, mark_back}
 use Rattle.ca_node.specs.Scenes.{IsBase}
 use Rattle.ca_node.specs.Shape.{Role}
@@ -61,16 +62,17 @@ pub decided_once : (words : List ℕ) (pass a b x y : ℕ) → IsDecided words p
 decided_once words pass a b x y d e = let here = d.4 in let there = e.4 in let low = d.3 in let low' = e.3 in omega arith
 
 -- A row of the run of a seat's own range has a note that is true.
-pub own_note : (rows : ℕ) (words : List ℕ) (role : ℕ → Role) (ends : Ends) (history : History) (u : TreeView)
-    → IsRanging rows words role ends u.since history u.number u.ranges → (row : ℕ) → IsOfOwnRun words u row
-    → (note : Note) × IsTrue rows words role note × (note.row ≡ row)
-own_note rows words role ends history u known row o =
-    let own = subst (IsSoFar rows words role ends u.since history u.number u.ranges.borders) o.2.2 (known.own o.3.0) in ⊎_elim
-    (λ (on : GoesOn words ends u.number o.2.0). absurd (active_undecided words u.number o.2.0.number o.0 o.1 on.0 o.3))
-    (λ (was : WasDecided rows words role u.since history u.number o.2.0 o.2.1.its).
+pub own_note : (z : Sizes) (words : List ℕ) (role : ℕ → Role) (ends : Ends) (history : History) (u : TreeView)
+    → IsRanging z words role ends u.since history u.number u.ranges → (row : ℕ) → IsOfOwnRun words u row
+    → (note : Note) × IsTrue z.rows words role note × (note.row ≡ row)
+own_note z words role ends history u known row o =
+    let own = subst (IsSoFar z words role ends u.since history u.number u.ranges.borders) o.2.2 (known.own o.3.0) in ⊎_elim
+    (λ (on : GoesOn words ends u.number o.2.0 × IsSomeMarked words role u.number o.2.0.number).
+    absurd (active_undecided words u.number o.2.0.number o.0 o.1 on.0.0 o.3))
+    (λ (was : WasDecided z words role u.since history u.number o.2.0 o.2.1.its).
     let same : was.last ≡ o.1 = decided_once words u.number o.2.0.number o.0 was.last o.1 was.decided o.3 in
     let on : IsOnChain words was.last row = subst (λ n. IsOnChain words n row) (sym same) o.4 in
-    let note = chain_note rows words role was.last was.notes was.trues was.run.chained was.decided.2 row on in
+    let note = chain_note z.rows words role was.last was.notes was.trues was.run.chained was.decided.2 row on in
     (note.0, was.trues note.0 note.1, note.2))
     own.2
 
@@ -86,7 +88,7 @@ own_run_back words others u decided same row o = (o.0, o.1, o.2, decided o.0 o.1
         further base c was (ap mark_back (sym (same base (o.0, o.1, o.2, decided o.0 o.1 o.3, was))) ∙ e) lo
 
 -- Two tables whose words of ranges are the same.
-module _ (rows : ℕ) (words others : List ℕ) (role role' : ℕ → Role)
+module _ (z : Sizes) (words others : List ℕ) (role role' : ℕ → Role)
     (results : (pass : ℕ) → 0 < pass → pass ≤ 64 → result_of others pass ≡ result_of words pass) where
   -- The same ranges are active,
   pub active_back : (pass number : ℕ) → IsActive others pass number → IsActive words pass number
@@ -110,7 +112,7 @@ module _ (rows : ℕ) (words others : List ℕ) (role role' : ℕ → Role)
   pub over_on : (x : Over) → IsOver words x → IsOver others x
   over_on x o number less = let was = o number less in (begun_on x.pass number was.0, λ now. was.1 (active_back x.pass number now))
 
-  pub border_on : (border : Border) → row_at others border.row ≡ row_at words border.row → IsTrueBorder rows words border → IsTrueBorder rows others border
+  pub border_on : (border : Border) → row_at others border.row ≡ row_at words border.row → IsTrueBorder z.rows words border → IsTrueBorder z.rows others border
   border_on border same t = record { some_row = t.some_row; in_range = t.in_range; spells = same ∙ t.spells; is_border = t.is_border }
 
   -- A seat with this history as it was pinned, and this number, that knows this.
@@ -119,8 +121,10 @@ module _ (rows : ℕ) (words others : List ℕ) (role role' : ℕ → Role)
       (unmarked : (number : ℕ) → IsActive words pass number → ((row : ℕ) → IsBase role row → ¬ IsMarkedBy (row_at words row) pass number)
       → (row : ℕ) → IsBase role' row → ¬ IsMarkedBy (row_at others row) pass number)
       (notes : (number last : ℕ) (note : Note) → IsMarkingFor ranges.own number → IsDecided words pass number last → IsOnChain words last note.row
-      → IsTrue rows words role note → IsTrue rows others role' note)
-      (longer : (at : ℕ) → at ≤ length history → (at ≤ length history') × (state history' at ≡ state history at)) where
+      → IsTrue z.rows words role note → IsTrue z.rows others role' note)
+      (longer : (at : ℕ) → at ≤ length history → (at ≤ length history') × (state history' at ≡ state history at))
+      (stays_marked : (number : ℕ) → IsActive words pass number → IsSomeMarked words role pass number → IsSomeMarked others role' pass number)
+      (shown : (note : Note) → IsIn note ranges.run → IsTrue z.rows words role note → IsTrue z.rows others role' note) where
     -- A run that is shown stays shown.
     run_on : (edge : Bound) (last : ℕ) (notes : List Note) → IsRunShown since history edge last notes → IsRunShown since history' edge last notes
     run_on edge last notes run = let more = longer run.at run.seen in record {
@@ -135,15 +139,16 @@ module _ (rows : ℕ) (words others : List ℕ) (role role' : ℕ → Role)
       shown = subst (λ (m : StoreMap). objects_of notes ≡ within run.low run.high m) (sym more.1) run.shown;
     }
 
-    decided_still : (begun : Begun) (its : List ℕ) → IsMarkingFor ranges.own begun.number → WasDecided rows words role since history pass begun its
-        → WasDecided rows others role' since history' pass begun its
+    decided_still : (begun : Begun) (its : List ℕ) → IsMarkingFor ranges.own begun.number → WasDecided z words role since history pass begun its
+        → WasDecided z others role' since history' pass begun its
     unfolding run_on
     decided_still begun its marking was = record {
       last = was.last;
       decided = decided_on pass begun.number was.last was.decided;
       notes = was.notes;
+      bases = was.bases;
       trues = λ note i. notes begun.number was.last note marking was.decided
-          (chain_rows rows words role was.last was.notes was.trues was.run.chained note i) (was.trues note i);
+          (chain_rows z.rows words role was.last was.notes was.trues was.run.chained note i) (was.trues note i);
       run = run_on begun.edge was.last was.notes was.run;
       whole = was.whole;
     }
@@ -151,21 +156,25 @@ module _ (rows : ℕ) (words others : List ℕ) (role role' : ℕ → Role)
     goes_on : (begun : Begun) → GoesOn words ends pass begun → GoesOn others ends pass begun
     goes_on begun on = (active_on pass begun.number on.0, on.1, on.2)
 
-    so_far : (own : Ranging) → ranges.own ≡ own → IsSoFar rows words role ends since history pass ranges.borders own
-        → IsSoFar rows others role' ends since history' pass ranges.borders own
+    so_far : (own : Ranging) → ranges.own ≡ own → IsSoFar z words role ends since history pass ranges.borders own
+        → IsSoFar z others role' ends since history' pass ranges.borders own
     so_far Quiet is quiet = λ number now. quiet number (active_back pass number now)
     so_far (Unmarked begun) is now = (goes_on begun now.0, unmarked begun.number now.0.0 now.1)
     so_far (Marking begun border) is now = (
       now.0,
       now.1,
-      ⊎_elim (λ on. inl (goes_on begun on)) (λ was. inr (decided_still begun border.its (begun, border, is, refl) was)) now.2,
+      ⊎_elim
+          (λ on. inl (goes_on begun on.0, stays_marked begun.number on.0.0 on.1))
+          (λ was. inr (decided_still begun border.its (begun, border, is, refl) was)) now.2,
     )
     so_far Left is now = tt
 
     -- So does all that it knows of ranges.
-    pub ranging_stays : IsRanging rows words role ends since history pass ranges → IsRanging rows others role' ends since history' pass ranges
+    pub ranging_stays : IsRanging z words role ends since history pass ranges → IsRanging z others role' ends since history' pass ranges
     ranging_stays k = record {
       over = λ x i. over_on x (k.over x i);
       borders = λ border i. border_on border (same border i) (k.borders border i);
       own = λ lo. so_far ranges.own refl (k.own lo);
+      sequence = λ number lo is. let s = k.sequence number lo is in (s.0, ap (λ n. n / sequence_unit) (results pass lo s.0) ∙ s.1);
+      run = λ note i. shown note i (k.run note i);
     }

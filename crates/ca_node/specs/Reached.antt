@@ -69,7 +69,7 @@ module _ (z : Sizes) (words : List ℕ) (role : ℕ → Role) (m : StoreMap) (sh
       (sym e ∙ (ap (λ (r : ℕ). place_of (role r)) (sym h.0 ∙ ap (λ (i : ℕ). get_or words i 0) here) ∙ l.hangs))
 
   -- A place under a route is deeper than that of the route.
-  deeper : (link least : ℕ) (span : Span) → LeadsTo words role link least span → (row : ℕ) (place : Place) → place_of (role row) ≡ some place
+  pub deeper : (link least : ℕ) (span : Span) → LeadsTo words role link least span → (row : ℕ) (place : Place) → place_of (role row) ≡ some place
       → place.link ≡ link → least ≤ place.level
   deeper link least span l row place e here = let same = ap (λ (p : Place). p.level) (led_same link least span l row place e here) in
       let g = l.greater in omega arith

@@ -10,7 +10,7 @@ use Rattle.ca_rows.specs.Words.{IsWide, result_of}
 use Rattle.ca_node.specs.Links.{root, IsIn, IsActive, IsBoundOf, IsLinked, by_range}
 use Rattle.ca_node.specs.Marks.{IsOfRange, IsOfJoin, IsMark, IsMarkIn, IsBorder}
 use Rattle.ca_node.specs.Place.{Span, all_keys, left_of, right_of, part, Place, IsLinkOf}
-use Rattle.ca_node.specs.Row.{row_at, form, IsObjectRow, IsBaseRow, IsBorderRow, count, level, items, mark, mark_owner, mark_number, mark_bound, IsUnmarked, join_word, IsIdle, route_key, bytes_in, pair, objects_in, IsHeaded, AreHeaded}
+use Rattle.ca_node.specs.Row.{row_at, form, IsObjectRow, IsBaseRow, IsBorderRow, count, level, items, mark, mark_owner, mark_number, mark_bound, IsMarkedBy, IsUnmarked, join_word, IsIdle, route_key, bytes_in, pair, objects_in, IsHeaded, AreHeaded}
 use Rattle.ca_node.specs.Shape.{Role, Out, Base, Route, place_of, IsLink, LeadsTo, IsBaseAt, IsRouteAt, IsSo, IsShape}
 use Rattle.ca_node.specs.Stays.{IsSameRow, word_at, row_long, row_same, map_same}
 use Rattle.ca_node.specs.Reached.{linked_range, placed_linked, item_linked}
@@ -110,13 +110,13 @@ link_route role link route is of = ⊎_elim
 -- The row stays one that says up to where the range goes that marked a base, where its words and those of the base are the same, and no range becomes
 -- active.
 pub bounded_stays : (rows : ℕ) (words others : List ℕ) (base : ℕ) → row_at others base ≡ row_at words base
-    → ((pass number : ℕ) → IsActive others pass number → IsActive words pass number)
+    → ((pass number : ℕ) → IsMarkedBy (row_at words base) pass number → IsActive others pass number → IsActive words pass number)
     → ((border : ℕ) → IsBoundOf words base border → row_at others border ≡ row_at words border)
     → ((border : ℕ) → IsBoundOf words base border → IsBorder rows words (mark_owner (row_at words base)) border)
     → (border : ℕ) → IsBoundOf others base border → IsBorder rows others (mark_owner (row_at others base)) border
 bounded_stays rows words others base e active same was border b =
     let c = subst (λ its. (mark its ≡ 1) × IsActive others (mark_owner its) (mark_number its) × (mark_bound its ≡ border)) e b in
-    let before : IsBoundOf words base border = (c.0, active (mark_owner (row_at words base)) (mark_number (row_at words base)) c.1, c.2) in
+    let before : IsBoundOf words base border = (c.0, active (mark_owner (row_at words base)) (mark_number (row_at words base)) (c.0, refl, refl) c.1, c.2) in
     let w = was border before in record {
       some_row = w.some_row;
       in_range = w.in_range;
@@ -131,7 +131,7 @@ pub base_stands : (z : Sizes) (words others : List ℕ) (role role' : ℕ → Ro
     → IsBaseAt z words role m place row → row_at others row ≡ row_at words row
     → ((r : ℕ) → IsIn r (items (row_at words row)) → row_at others r ≡ row_at words r) → get_or others place.link 0 ≡ row → IsLink role' place.link
     → part place.span n ≡ part place.span m → (IsMarkIn words place (row_at words row) → IsMarkIn others place (row_at words row))
-    → ((pass number : ℕ) → IsActive others pass number → IsActive words pass number)
+    → ((pass number : ℕ) → IsMarkedBy (row_at words row) pass number → IsActive others pass number → IsActive words pass number)
     → ((border : ℕ) → IsBoundOf words row border → row_at others border ≡ row_at words border) → IsBaseAt z others role' n place row
 base_stands z words others role role' m n place row b e same under is parts marks active ends = record {
   some_row = b.some_row;
@@ -178,7 +178,8 @@ route_stands z words others role role' place key row r wide wide' same under is 
 module _ (z : Sizes) (words others : List ℕ) (role : ℕ → Role) (m : StoreMap) (shape : IsShape z words role m) (wide : IsWide z.rows others)
     (same_root : root others ≡ root words)
     (sequences : (pass : ℕ) → 0 < pass → pass ≤ 64 → result_of words pass / sequence_unit ≤ result_of others pass / sequence_unit)
-    (active : (pass number : ℕ) → IsActive others pass number → IsActive words pass number)
+    (active : (base : ℕ) (place : Place) → role base ≡ Base place → (pass number : ℕ) → IsMarkedBy (row_at words base) pass number
+    → IsActive others pass number → IsActive words pass number)
     (same : (row : ℕ) → IsLinked words row → IsSameRow words others row) where
   -- A linked row has the same words.
   its_same : (row : ℕ) → IsLinked words row → row_at others row ≡ row_at words row
@@ -217,7 +218,7 @@ module _ (z : Sizes) (words others : List ℕ) (role : ℕ → Role) (m : StoreM
   so row Out e s = tt
   so row (Base place) e s = base_stands z words others role role m m place row s (its_same row (placed row place (ap place_of e)))
       (λ r i. its_same r (item_linked z words role m shape row place e r i)) (link_same place.link s.is_link ∙ s.under) s.is_link refl
-      (marks place (row_at words row) s.is_link) active
+      (marks place (row_at words row) s.is_link) (active row place e)
       (λ border b. its_same border (by_range row border (placed row place (ap place_of e)) s.is_base b))
   so row (Route place key) e s = route_stands z words others role role place key row s shape.wide wide
       (λ k l _ _. same row (placed row place (ap place_of e)) k l) (link_same place.link s.is_link ∙ s.under) s.is_link (shape.idle row place key e)
@@ -241,5 +242,5 @@ module _ (z : Sizes) (words : List ℕ) (role : ℕ → Role) (m n : StoreMap) (
   so_too : (row : ℕ) (is : Role) → role row ≡ is → IsSo z words role m row is → IsSo z words role n row is
   so_too row Out e s = tt
   so_too row (Base place) e s = base_stands z words words role role m n place row s refl (λ r i. refl) s.under s.is_link (parts row place e)
-      (λ k. k) (λ pass number x. x) (λ border b. refl)
+      (λ k. k) (λ pass number m x. x) (λ border b. refl)
   so_too row (Route place key) e s = s

@@ -21,12 +21,12 @@ use Rattle.ca_node.specs.declared.link.Link.{Link}
 use Rattle.ca_node.specs.declared.link.Link.TheVariants as link
 use Rattle.ca_node.specs.declared.range_state.RangeState.{RangeState}
 use Rattle.ca_node.specs.declared.range_state.RangeState.TheVariants.{Idle, Active, Decided}
-use Rattle.ca_node.specs.Marks.{IsMark}
+use Rattle.ca_node.specs.Notes.{IsBaseNote, AreSideBySide}
 use Rattle.ca_node.specs.Place.{Span, all_keys, left_of, right_of, HasKey, Place, left_place, right_place, edit_key}
-use Rattle.ca_node.specs.Row.{IsObjectRow, IsBaseRow, IsRouteRow, count, level, items, mark, mark_owner, mark_number, IsUnmarked, IsIdle, key, route_key, pair, IsHeaded}
+use Rattle.ca_node.specs.Row.{IsObjectRow, IsBaseRow, IsRouteRow, IsBorderRow, count, level, items, mark, mark_owner, mark_number, mark_bound, IsMarkedBy, IsUnmarked, IsIdle, key, route_key, pair, IsHeaded}
 use Rattle.ca_node.specs.States.{HasState, IsAlone, IsReadAt}
 use Rattle.ca_node.specs.Tree.{ArePast, IsFixed}
-use Rattle.ca_node.specs.TreeView.{Note, Way, Over, Renewal, Division, Inventory, TreeView, blank, no_note, one_passed}
+use Rattle.ca_node.specs.TreeView.{Note, Way, Over, Unfinished, Border, Turns, Renewal, Division, Inventory, TreeView, blank, no_note, one_passed}
 use Rattle.ca_rows.specs.Layout.{row_words, pass_words, row_limit}
 use Rattle.ca_node.specs.Layout.{root_word, sequence_unit}
 
@@ -35,23 +35,6 @@ MyTree = Mine TreeView
 
 abbrev pub with_upper : MyTree → TreeView → MyTree
 with_upper m u = (record m.0 { upper = u }, m.1)
-
--- The note is on a base, in a space of these sizes.
-pub record IsBaseNote (z : Sizes) (note : Note) : Type 0 where
-  pub some_row : 0 < note.row
-  pub in_range : note.row ≤ z.rows
-  pub is_base : IsBaseRow note.its
-  pub long : length note.its ≡ row_words
-  pub level_is : level note.its ≡ note.place.level
-  pub deep : note.place.level ≤ z.levels
-  pub most_levels : z.levels ≤ 4096
-  pub few : count note.its ≤ z.leaf
-  pub marked : IsMark note.place note.its
-  -- as many objects as items, each in range, with the words of an object row
-  pub named : (r : ℕ) → IsIn r (items note.its) → (0 < r) × (r ≤ z.rows)
-  pub as_many : length note.objects ≡ length (items note.its)
-  pub objects_long : (its : List ℕ) → IsIn its note.objects → (length its ≡ row_words) × IsObjectRow its
-  pub headed : IsHeaded note.its note.objects
 
 -- The route has these words, and stands above the last level; its key is one of those that are led to it.
 pub record IsRouteNote (z : Sizes) (way : Way) : Type 0 where
@@ -142,11 +125,19 @@ IsLed walks link m n m' = IsLedToBase walks link m n m' ⊎ IsLedToRoute link m 
 abbrev pub Leads : Bool → Step (Unit {0}) → MyTree → ℕ → MyTree → Type 0
 Leads walks st m n m' = IsLed walks st.word m n m'
 
+-- The note is on the row, with these words, or on a base that names it as an object row.
+abbrev pub IsOfNote : Note → ℕ → List ℕ → Type 0
+IsOfNote note row its = ((note.row ≡ row) × (note.its ≡ its)) ⊎ (IsBaseRow note.its
+    × ((k : ℕ) × (get_elem? (items note.its) k ≡ some row) × (get_elem? note.objects k ≡ some its)))
+
 -- The row was shown, with these words: it is one that a note is on, or an object row that such a base names.
 abbrev pub IsShown : TreeView → ℕ → List ℕ → Type 0
-IsShown u row its = (note : Note) × IsIn note u.notes
-    × (((note.row ≡ row) × (note.its ≡ its)) ⊎ (IsBaseRow note.its
-    × ((k : ℕ) × (get_elem? (items note.its) k ≡ some row) × (get_elem? note.objects k ≡ some its))))
+IsShown u row its = (note : Note) × IsIn note u.notes × IsOfNote note row its
+
+-- It was shown as one that says up to where a range goes, or is one of a run that was shown, or an object row that a base of the run names.
+abbrev pub IsShownOfRange : TreeView → ℕ → List ℕ → Type 0
+IsShownOfRange u row its = ((border : Border) × IsIn border u.ranges.borders × (border.row ≡ row) × (border.its ≡ its))
+    ⊎ ((note : Note) × IsIn note u.ranges.run × IsOfNote note row its)
 
 -- The route was shown, with these words.
 abbrev pub IsShownRoute : TreeView → ℕ → List ℕ → Type 0
@@ -154,7 +145,8 @@ IsShownRoute u row its = (way : Way) × IsIn way u.ways × (way.row ≡ row) × 
 
 -- This word of the row was shown, and it stays: the row is no route, or it is neither one of its links nor its join word.
 abbrev pub IsShownWord : TreeView → ℕ → ℕ → ℕ → Type 0
-IsShownWord u row index word = (its : List ℕ) × (IsShown u row its ⊎ (IsShownRoute u row its × IsFixed index)) × (word ≡ slice_index its index)
+IsShownWord u row index word = (its : List ℕ) × (IsShown u row its ⊎ ((IsShownRoute u row its × IsFixed index) ⊎ IsShownOfRange u row its))
+    × (word ≡ slice_index its index)
 
 -- the word that says how far the last range of a pass is
 abbrev pub status_word : Sizes → ℕ → ℕ
@@ -169,14 +161,53 @@ status_of word = cond (word % sequence_unit == row_limit) (Active (word / sequen
 abbrev pub over_by : ℕ → ℕ → Over
 over_by pass word = record { pass = pass; below = cond (word % sequence_unit == row_limit) (word / sequence_unit) (word / sequence_unit + 1) }
 
--- what a seat knows after it loaded that word
-abbrev pub watched : TreeView → ℕ → ℕ → TreeView
-watched u pass word = record u { ranges = record u.ranges { over = over_by pass word ∷ u.ranges.over } }
+-- the ranges that were found unfinished, but for those of this pass
+abbrev pub but_of : ℕ → List Unfinished → List Unfinished
+but_of pass [] = []
+but_of pass (x ∷ xs) = cond (x.pass == pass) (but_of pass xs) (x ∷ but_of pass xs)
 
--- The word of a pass's last range was loaded. Each range of the pass that marked a base that was shown had begun.
+-- how many of them are finished, by the word of this pass
+abbrev pub finished_by : ℕ → ℕ → List Unfinished → ℕ
+finished_by pass word [] = 0
+finished_by pass word (x ∷ xs) = cond (x.pass == pass) (cond (word == sequence_unit * x.number + row_limit) 0 1) 0 + finished_by pass word xs
+
+-- those that are unfinished still, and the one that the word tells of, where that is active
+abbrev pub unfinished_by : ℕ → ℕ → List Unfinished → List Unfinished
+unfinished_by pass word xs = cond (word % sequence_unit == row_limit) (record { pass = pass; number = word / sequence_unit } ∷ but_of pass xs) (but_of pass xs)
+
+-- A range of another pass is finished that was found unfinished: the budget of a call counts it as one that was helped.
+abbrev pub turned_by : ℕ → ℕ → TreeView → Turns
+turned_by pass word u = cond (pass == u.number) u.turns (record u.turns { helped = u.turns.helped + finished_by pass word u.ranges.unfinished })
+
+abbrev pub met_by : ℕ → ℕ → TreeView → List Unfinished
+met_by pass word u = cond (pass == u.number) u.ranges.unfinished (unfinished_by pass word u.ranges.unfinished)
+
+-- what a seat knows after it loaded that word
+abbrev pub watched : TreeView → ℕ → ℕ → List Border → TreeView
+watched u pass word borders = record u {
+  ranges = record u.ranges {
+    over = over_by pass word ∷ u.ranges.over;
+    borders = borders ++ u.ranges.borders;
+    unfinished = met_by pass word u;
+  };
+  turns = turned_by pass word u;
+}
+
+-- The word of a pass's last range was loaded. Each range of the pass that marked a base that was shown had begun, and one that is known to be over isn't
+-- active. While one is active that marked a base which was shown, the row is shown that says up to where it goes.
 pub record HasWatched (pass : ℕ) (m : MyTree) (n : ℕ) (m' : MyTree) : Type 0 where
-  pub now : m' ≡ with_upper m (watched m.0.upper pass n)
+  pub borders : List Border
+  pub now : m' ≡ with_upper m (watched m.0.upper pass n borders)
   pub begun : (note : Note) → IsIn note m.0.upper.notes → mark note.its ≡ 1 → mark_owner note.its ≡ pass → mark_number note.its ≤ n / sequence_unit
+  pub ended : (x : Over) → IsIn x m.0.upper.ranges.over → x.pass ≡ pass → n % sequence_unit ≡ row_limit → x.below ≤ n / sequence_unit
+  pub shown : (note : Note) → IsIn note m.0.upper.notes → n % sequence_unit ≡ row_limit → IsMarkedBy note.its pass (n / sequence_unit)
+      → (border : Border) × IsIn border borders × (border.row ≡ mark_bound note.its) × (border.row ≤ m.0.sizes.rows) × IsBorderRow border.its
+  -- So far no range begins, so none is active.
+  pub idle : n % sequence_unit ≢ row_limit
+  -- Such bases that stand side by side are no more than there are rows.
+  pub few : n % sequence_unit ≡ row_limit → (notes : List Note)
+      → ((note : Note) → IsIn note notes → IsIn note m.0.upper.notes × IsMarkedBy note.its pass (n / sequence_unit)) → AreSideBySide notes
+      → length notes ≤ m.0.sizes.rows
 
 abbrev pub Watches : Step (Unit {0}) → MyTree → ℕ → MyTree → Type 0
 Watches st m n m' = (pass : ℕ) × (0 < pass) × (st.word ≡ status_word m.0.sizes pass) × HasWatched pass m n m'

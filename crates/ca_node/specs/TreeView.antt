@@ -1,6 +1,7 @@
 -- What a seat knows of the tree. It is data of proofs alone: lists, since a function is no value.
 use Rattle.std.specs.Prelude.{ℕ, ◌+◌, List, [], ◌∷◌, None}
 use Prim.Native.Nat.{zero, suc}
+use mathlib.Core.Option.{Option, none}
 use Rattle.ca_model.specs.Edges.{Bound, Unbounded}
 use Rattle.ca_model.specs.Event.{Entry}
 use Rattle.ca_model.specs.History.{History}
@@ -73,6 +74,11 @@ pub record Over : Type 0 where
   pub pass : ℕ
   pub below : ℕ
 
+-- A range of another pass that was found unfinished: whose it is, and its number.
+pub record Unfinished : Type 0 where
+  pub pass : ℕ
+  pub number : ℕ
+
 -- A row that says up to where a range goes, with its words. They stay as long as the pass remembers it.
 pub record Border : Type 0 where
   pub row : ℕ
@@ -98,11 +104,15 @@ pub data Ranging : Type 0 where
   Marking : Begun → Border → Ranging
   Left : Ranging
 
--- What a seat knows of ranges: some that are over, some rows that say up to where one goes, and how far its own last one is.
+-- What a seat knows of ranges: some that are over, some rows that say up to where one goes, how far its own last one is, that one's number, where it knows
+-- it, the bases of a run of its own that it was shown, and those of other passes that it found unfinished since it was pinned, one a pass.
 pub record KnownRanges : Type 0 where
   pub over : List Over
   pub borders : List Border
   pub own : Ranging
+  pub sequence : Option ℕ
+  pub run : List Note
+  pub unfinished : List Unfinished
 
 pub record TreeView : Type 0 where
   -- the number of its pass; 0 of a seat that is no pass's
@@ -149,7 +159,7 @@ abbrev pub no_turns : Turns
 no_turns = record { passed = 0; helped = 0 }
 
 abbrev pub no_ranges : KnownRanges
-no_ranges = record { over = []; borders = []; own = Quiet }
+no_ranges = record { over = []; borders = []; own = Quiet; sequence = none; run = []; unfinished = [] }
 
 -- one turn more, by which a seat passed on
 abbrev pub one_passed : Turns → Turns
@@ -208,7 +218,11 @@ left_over Left = Left
 
 -- It is pinned, or not any more.
 abbrev pub pinned : TreeView → TreeView
-pinned u = record u { since = u.seen; ranges = record { over = u.ranges.over; borders = u.ranges.borders; own = left_over u.ranges.own } }
+pinned u = record u { since = u.seen; ranges = record u.ranges { own = left_over u.ranges.own } }
 
 abbrev pub unpinned : TreeView → TreeView
-unpinned u = record u { notes = []; ways = []; ranges = record { over = []; borders = []; own = left_over u.ranges.own } }
+unpinned u = record u {
+  notes = [];
+  ways = [];
+  ranges = record { over = []; borders = []; own = left_over u.ranges.own; sequence = u.ranges.sequence; run = []; unfinished = [] };
+}

@@ -15,7 +15,8 @@ use Rattle.ca_node.specs.Inventory.{IsListed}
 use Rattle.ca_node.specs.Links.{IsIn}
 use Rattle.ca_node.specs.Place.{Span, HasKey, Place}
 use Rattle.ca_node.specs.Row.{count, route_key}
-use Rattle.ca_node.specs.Told.{MyTree, with_upper, IsBaseNote, IsRouteNote, IsKnown, IsKnownLink, IsShownRoute, link_word}
+use Rattle.ca_node.specs.Notes.{IsBaseNote}
+use Rattle.ca_node.specs.Told.{MyTree, with_upper, IsRouteNote, IsKnown, IsKnownLink, IsShownRoute, link_word}
 use Rattle.ca_node.specs.States.{HasState, IsAlone}
 use Rattle.ca_node.specs.TreeView.{Note, Way, TreeView}
 use Rattle.ca_rows.specs.Layout.{row_words}

@@ -10,6 +10,7 @@ mod handing;
 mod layout;
 mod link;
 mod marking;
+mod own_ranges;
 mod plays;
 mod range_state;
 mod ranges;
@@ -28,7 +29,8 @@ pub use layout::{
 };
 pub use link::Link;
 pub use marking::{mark_first, mark_next};
-pub use plays::{Finishing, Intent, Marking, Plan};
+pub use own_ranges::{abort_own, decide_own, leave_range, load_own_status};
+pub use plays::{Finishing, Intent, Marking, Owning, Plan};
 pub use range_state::RangeState;
 pub use ranges::{decide_for, load_status};
 pub use rule::{TreePass, TreeRule, TreeSpace};

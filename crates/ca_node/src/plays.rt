@@ -2,6 +2,7 @@
 ghost use Rattle.std.specs.Prelude.{ℕ, List, [], ◌∷◌, true, false};
 ghost use Rattle.ca_node.specs.Copies.{Copy, no_copy, Copies, marking_now};
 ghost use Rattle.ca_node.specs.Endings.{Helps};
+ghost use Rattle.ca_node.specs.OwnRanges.{WatchesOwn, DecidesOwn, Aborts, Leaves};
 ghost use Rattle.ca_node.specs.Row.{mark_bound};
 ghost use Rattle.ca_node.specs.Told.{Leads, Reads, Watches, Update, Updates, no_update, Divides, no_division, front_of, learnt};
 ghost use Rattle.ca_node.specs.TreeView.{blank, no_note, no_border, none_begun, Note, Border, Begun, Division};
@@ -109,6 +110,57 @@ pub struct Help<K> {
 
 impl<K: Finishing> Play<(), View<Knowledge>> for Help<K> {
     ghost then = { λ st m n m'. Helps K.pass K.number (mark_bound K.last.its) st m n m' };
+}
+
+/// A load of the word that says how far the pass's own range is.
+pub struct WatchOwn;
+
+impl Play<(), View<Knowledge>> for WatchOwn {
+    ghost then = { WatchesOwn };
+}
+
+/// Which range of its own a pass ends: as it was begun, the row that says up to where it goes, and the base with which it decides it. It exists in proofs alone.
+pub trait Owning {
+    ghost begun: { Begun };
+
+    ghost border: { Border };
+
+    ghost last: { Note };
+}
+
+impl Owning for Brand {
+    ghost begun = { none_begun };
+
+    ghost border = { no_border };
+
+    ghost last = { no_note };
+}
+
+/// The exchange by which a pass gives up a range for which it marked nothing.
+pub struct LeaveOwn<K> {
+    ending: PhantomData<K>,
+}
+
+impl<K: Owning> Play<(), View<Knowledge>> for LeaveOwn<K> {
+    ghost then = { Leaves K.begun };
+}
+
+/// The exchange that decides the pass's own range.
+pub struct DecideOwn<K> {
+    ending: PhantomData<K>,
+}
+
+impl<K: Owning> Play<(), View<Knowledge>> for DecideOwn<K> {
+    ghost then = { DecidesOwn K.begun K.border K.last };
+}
+
+/// The exchange by which the pass gives it up.
+pub struct AbortOwn<K> {
+    ending: PhantomData<K>,
+}
+
+impl<K: Owning> Play<(), View<Knowledge>> for AbortOwn<K> {
+    ghost then = { Aborts K.begun K.border };
 }
 
 /// The step that makes a front.

@@ -49,7 +49,7 @@ pub fn decide_for<K: Finishing>(
 }
 
 // The word that says how far the last range of this pass is.
-fn status_word_of(space: &TreeSpace, owner: u32) -> u32
+pub(crate) fn status_word_of(space: &TreeSpace, owner: u32) -> u32
     requires owner { (0 < owner) × (owner ≤ 64) }
     ensures word { result ≡ status_word (sizes space.now) owner }
     ensures inside { result < space.now.table.shared.table_id.words }
@@ -58,7 +58,7 @@ fn status_word_of(space: &TreeSpace, owner: u32) -> u32
 }
 
 // How far a range is, by its word.
-fn state_of(word: u64) -> RangeState
+pub(crate) fn state_of(word: u64) -> RangeState
     ensures { result ≡ status_of word }
 {
     let sequence = word / SEQUENCE;

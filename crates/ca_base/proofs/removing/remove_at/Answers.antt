@@ -1,6 +1,6 @@
 use Rattle.std.proofs.Common.{◌≡◌, ℕ, List, [], ◌∷◌, length, Ok, sym, refl, ap, ◌∙◌, subst, arith, rules}
 use Rattle.ca_node.proofs.Members.{in_first}
-use Rattle.ca_node.specs.Told.{IsBaseNote}
+use Rattle.ca_node.specs.Notes.{IsBaseNote}
 use Rattle.ca_node.specs.TreeView.{TreeView}
 use Rattle.ca_base.specs.Finding.{IsAtCursor}
 use Rattle.ca_base.specs.Prefixes.{SpellsLeft}

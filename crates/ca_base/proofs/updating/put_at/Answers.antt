@@ -1,7 +1,7 @@
 use Rattle.std.proofs.Common.{◌≡◌, ℕ, ◌≤◌, List, [], ◌∷◌, length, arith, sym, refl, ap, ◌∙◌, subst}
 use Rattle.ca_node.specs.Links.{AreApart}
 use Rattle.ca_node.proofs.Members.{in_first, in_rest}
-use Rattle.ca_node.specs.Told.{IsBaseNote}
+use Rattle.ca_node.specs.Notes.{IsBaseNote}
 use Rattle.ca_node.specs.TreeView.{TreeView}
 use Rattle.std.specs.Prelude.{slice_range}
 use Rattle.ca_base.specs.Finding.{IsAtCursor}

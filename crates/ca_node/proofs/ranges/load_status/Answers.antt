@@ -4,7 +4,8 @@ use Rattle.ca_node.proofs.ranges.load_status.Goals as goal
 pub load-requires-clause-rule : goal.load-requires-clause-rule
 load-requires-clause-rule c =
     watches c.args.space.now.table.shared.key _ _ _ c.args.owner c.status_word_of-word.result
-    c.requires.reading.own.1 c.requires.owner.0 c.requires.owner.1 c.status_word_of-word.ensures.word
+    c.requires.reading.own.1 c.requires.reading.pinned c.requires.owner.0 c.requires.owner.1
+    c.status_word_of-word.ensures.word
 
 pub returns-clause-watched : goal.returns-clause-watched
 returns-clause-watched c = (
