@@ -14,7 +14,7 @@ use Rattle.ca_node.specs.Row.{front_of, row_in, head_in}
 use Rattle.ca_node.proofs.WordOrder.{parts_decide, rests_decide}
 use Rattle.ca_base.specs.Prefixes.{IsShift, IsTrimmed, AreShared, reheaded}
 use Rattle.ca_base.proofs.Heads.{AreSmall, rest_small, front_fits}
-use Rattle.ca_base.proofs.WordBytes.{pow256}
+use Rattle.ca_node.proofs.WordBytes.{pow256}
 
 -- A head without its last byte is that of one byte less.
 front_less : (n : ℕ) (bytes : List ℕ) → AreSmall (suc n) bytes

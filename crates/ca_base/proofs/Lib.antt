@@ -10,7 +10,7 @@ pub mod Heads
 pub mod Held
 pub mod Inserting
 pub mod Items
-pub mod KeyOrder
+pub mod KeyWords
 pub mod LastItems
 pub mod NewFronts
 pub mod ObjectBytes
@@ -27,5 +27,4 @@ pub mod SplitKeys
 pub mod TakingOut
 pub mod Tallies
 pub mod Unlinking
-pub mod WordBytes
 pub mod Words

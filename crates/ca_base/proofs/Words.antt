@@ -1,84 +1,13 @@
 -- Words of eight bytes, and rows of them.
-use Rattle.std.proofs.Common.{◌≡◌, ℕ, zero, suc, ◌+◌, ◌*◌, ◌-◌, ◌/◌, ◌%◌, ◌<◌, ◌≤◌, min, List, [], ◌∷◌, ◌++◌, length, take, drop, get_or, sym, refl, ap, ◌∙◌, subst, ⊎_elim, arith, length-drop, length-append, append-nil}
+use Rattle.std.proofs.Common.{◌≡◌, ℕ, zero, suc, ◌+◌, ◌*◌, ◌-◌, ◌/◌, ◌%◌, ◌<◌, ◌≤◌, min, List, [], ◌∷◌, ◌++◌, length, take, drop, get_or, sym, refl, ap, ◌∙◌, subst, ⊎_elim, arith, length-drop}
 use Rattle.std.proofs.lemmas.Bool.{cases_lt}
 use Rattle.std.proofs.Math.ListN.{drop_of_length-le}
-use Rattle.std.proofs.lemmas.List.{take_all, take_rest, take_at, take-append-le, take-append-drop, length-take-le, get_or_append_left, get_or-append_right, get_or-take, get_or-drop, drop-drop}
+use Rattle.std.proofs.lemmas.List.{take_all, take_rest, take-append-le, take-append-drop, drop-drop}
 use Rattle.std.proofs.Math.Seq.{take-append-add}
-use Rattle.std.proofs.lemmas.Nat.{be_bytes_8}
-use Rattle.std.specs.Int.{to_be_bytes, from_be_bytes, w64}
-use borrow.Rule.Slice.PartMut.{put_mid}
+use Rattle.std.specs.Int.{to_be_bytes, w64}
 use Rattle.ca_node.specs.Row.{bytes_in}
 use Rattle.ca_base.specs.Writing.{HasBytes, HasEight}
 use Rattle.ca_base.proofs.ObjectBytes.{byte_at}
-
-abbrev eight_zeros : List ℕ
-eight_zeros = 0 ∷ 0 ∷ 0 ∷ 0 ∷ 0 ∷ 0 ∷ 0 ∷ 0 ∷ []
-
-zero_there : (k : ℕ) → get_or eight_zeros k 0 ≡ 0
-zero_there zero = refl
-zero_there (suc zero) = refl
-zero_there (suc (suc zero)) = refl
-zero_there (suc (suc (suc zero))) = refl
-zero_there (suc (suc (suc (suc zero)))) = refl
-zero_there (suc (suc (suc (suc (suc zero))))) = refl
-zero_there (suc (suc (suc (suc (suc (suc zero)))))) = refl
-zero_there (suc (suc (suc (suc (suc (suc (suc zero))))))) = refl
-zero_there (suc (suc (suc (suc (suc (suc (suc (suc k)))))))) = refl
-
-abbrev eight_first : ℕ → List ℕ → List ℕ
-eight_first n bytes = take n bytes ++ drop n eight_zeros
-
-eight_long : (n : ℕ) (bytes : List ℕ) → n ≤ length bytes → n ≤ 8 → length (eight_first n bytes) ≡ 8
-eight_long n bytes a b =
-    omega (
-      arith,
-      length-append (take n bytes) (drop n eight_zeros),
-      length-take-le n bytes a,
-      length-drop n eight_zeros,
-    )
-
-eight_front : (n : ℕ) (bytes : List ℕ) (k : ℕ) → n ≤ length bytes → k < n
-    → get_or (eight_first n bytes) k 0 ≡ get_or bytes k 0
-eight_front n bytes k a b =
-    get_or_append_left (take n bytes) (drop n eight_zeros) 0 k (omega (
-      arith,
-      length-take-le n bytes a,
-    )) ∙ get_or-take n bytes k 0 b
-
-eight_behind : (n : ℕ) (bytes : List ℕ) (k : ℕ) → n ≤ length bytes → n ≤ k
-    → get_or (eight_first n bytes) k 0 ≡ 0
-eight_behind n bytes k a b =
-    get_or-append_right (take n bytes) (drop n eight_zeros) n k 0 (length-take-le n bytes a) b
-    ∙ (get_or-drop n eight_zeros (k - n) 0 ∙ zero_there (n + (k - n)))
-
--- The bytes at the front, with zeros behind them, as a word.
-pub word_has : (bytes : List ℕ) (n w : ℕ) (part : List ℕ) → ((i : ℕ) → get_or bytes i 0 < 256)
-    → n ≡ min (length bytes) 8 → part ≡ take n bytes
-    → w ≡ from_be_bytes w64 (put_mid 0 n eight_zeros part) → HasBytes bytes w
-word_has bytes n w part small is p e = let few : n ≤ length bytes = omega arith in
-    let most : n ≤ 8 = omega arith in
-    let long = eight_long n bytes few most in
-    let is_padded : put_mid 0 n eight_zeros part ≡ eight_first n bytes =
-    ap (put_mid 0 n eight_zeros) p in
-    let spells : to_be_bytes w64 w ≡ eight_first n bytes = be_bytes_8 (eight_first n bytes) w long
-    (λ i. ⊎_elim (λ (l : i < n). subst
-    (λ (y : ℕ). y < 256) (sym (eight_front n bytes i few l)) (small i))
-    (λ (l : n ≤ i). subst (λ (y : ℕ). y < 256) (sym (eight_behind n bytes i few l)) (omega arith))
-    (cases_lt i n))
-    (e ∙ ap (from_be_bytes w64) is_padded) in record {
-      front = ap (take (length bytes)) spells ∙ ⊎_elim
-          (λ (l : 8 < length bytes). let n_is : n ≡ 8 = omega arith in
-          take_all (length bytes) (eight_first n bytes) (omega arith)
-          ∙ (ap (λ (y : ℕ). eight_first y bytes) n_is ∙ append-nil (take 8 bytes)))
-          (λ (l : length bytes ≤ 8). let n_is : n ≡ length bytes = omega arith in
-          ap (λ (y : ℕ). take (length bytes) (eight_first y bytes)) n_is
-          ∙ (take_at (take (length bytes) bytes) (drop (length bytes) eight_zeros) (length bytes)
-          (length-take-le (length bytes) bytes (omega arith))
-          ∙ (take_all (length bytes) bytes (omega arith) ∙ sym (take_all 8 bytes l))))
-          (cases_lt 8 (length bytes));
-      zeros = λ k l. ap (λ (ys : List ℕ). get_or ys k 0) spells
-          ∙ eight_behind n bytes k few (omega arith);
-    }
 
 abbrev eight_of : ℕ → List ℕ
 eight_of w = to_be_bytes w64 w

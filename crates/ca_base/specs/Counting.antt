@@ -72,6 +72,10 @@ abbrev pub KeepsMore : ℕ → List ℕ → List Kept → List Kept → Type 0
 KeepsMore form [] ks ks' = ks' ≡ ks
 KeepsMore form (row ∷ rows) ks ks' = (at : ℕ) × KeepsMore form rows (ks ++ record { row = row; at = at; form = form } ∷ []) ks'
 
+-- A row that was held was put back; or that exchange was lost, and the row is kept behind the others, as one of this form.
+abbrev pub KeepsLost : ℕ → ℕ → MyTree → MyTree → List Kept → List Kept → Type 0
+KeepsLost form row m m' ks ks' = ((losses m' ≡ losses m) × (ks' ≡ ks)) ⊎ ((losses m' ≡ losses m + 1) × KeepsMore form (row ∷ []) ks ks')
+
 -- The same of one that exchanges a base then: where it won, that base is kept behind the others, and these objects that went with it behind the base.
 abbrev pub HasCleared : {T : Type 0} → List ℕ → ℕ → List ℕ → Result T Stop → MyTree → MyTree → KeptRows → KeptRows → Type 0
 HasCleared likes base gone (Ok x) m m' kept kept' = (left : List Kept) × (next : List Kept) × TakesKept m.0.pin.told likes kept.rows.items left

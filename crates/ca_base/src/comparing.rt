@@ -3,6 +3,7 @@ ghost use Rattle.std.specs.Prelude.{◌≡◌, ℕ, ◌+◌, ◌-◌, ◌*◌, �
 ghost use Rattle.std.specs.Int.{to_be_bytes, w64};
 ghost use Rattle.ca_model.specs.StoreMap.{bytes_cmp};
 ghost use Rattle.ca_node.specs.Row.{code_words, pair};
+ghost use Rattle.ca_node.specs.Walking.{HasBytesFrom};
 ghost use Rattle.ca_base.specs.Finding.{IsObjectShown, all_bytes};
 ghost use Rattle.ca_base.specs.Writing.{HasBytes};
 ghost use Rattle.ca_base.specs.Objects.{IsObjectRead};
@@ -10,7 +11,7 @@ ghost use Rattle.ca_rows.specs.Passes.{OnlyReads};
 ghost use Rattle.ca_node.specs.TreePasses.{tree_of};
 
 use crate::writing::word_of;
-use ca_node::{CODE, TreePass, TreeSpace, load_word};
+use ca_node::{CODE, TreePass, TreeSpace, compare_tops, load_word};
 use ca_term::MOST_CODE_BYTES;
 use std::cmp::Ordering;
 
@@ -75,8 +76,21 @@ fn word_with(space: &TreeSpace, pass: &mut TreePass, row: u32, at: usize, stop: 
     }
 }
 
+// The next bytes of a key, of which the first eight bytes were made a word before.
+pub(crate) fn word_from(key: &[u8], from: usize, front: u64) -> u64
+    requires inside { from ≤ length key.now }
+    requires front { HasBytes key.now front }
+    ensures { HasBytesFrom key.now from result }
+{
+    if from == 0 {
+        front
+    } else {
+        next_word(key, from)
+    }
+}
+
 // The next bytes of a key, eight where there are as many. Less than eight behind others are those of its last eight.
-pub(crate) fn next_word(key: &[u8], from: usize) -> u64
+fn next_word(key: &[u8], from: usize) -> u64
     requires { from ≤ length key.now }
     ensures { take (length key.now - from) (to_be_bytes w64 result) ≡ take 8 (drop from key.now) }
 {
@@ -96,13 +110,4 @@ fn joined(word: u64, next: u64, skip: usize) -> u64
     ensures { to_be_bytes w64 result ≡ drop skip (to_be_bytes w64 word) ++ take skip (to_be_bytes w64 next) }
 {
     word << (8 * skip) | next >> 8 >> (56 - 8 * skip)
-}
-
-// How the first bytes of two words stand, at least one of each.
-pub(crate) fn compare_tops(word: u64, other: u64, count: usize) -> Ordering
-    requires { (0 < count) × (count ≤ 8) }
-    ensures { result ≡ bytes_cmp (take count (to_be_bytes w64 word)) (take count (to_be_bytes w64 other)) }
-{
-    let behind = 64 - 8 * count;
-    (word >> behind).cmp(&(other >> behind))
 }

@@ -65,7 +65,8 @@ pub fn search(space: &TreeSpace, pass: &mut TreePass, base: u32, key: &[u8]) -> 
 {
     let many = count(space, pass, base);
     let skip = prefix_len(space, pass, base);
-    match compare_prefix(space, pass, base, key, skip) {
+    let front = word_of(key);
+    match compare_prefix(space, pass, base, key, front, skip) {
         Ordering::Less => return Err(many),
         Ordering::Equal => {}
         Ordering::Greater => return Err(0),
@@ -75,7 +76,7 @@ pub fn search(space: &TreeSpace, pass: &mut TreePass, base: u32, key: &[u8]) -> 
         base,
         key,
         head: head_of(&key[skip..]),
-        front: word_of(key),
+        front,
     };
     find_among(&objects, many, pass)
 }

@@ -4,15 +4,16 @@ ghost use Rattle.ca_model.specs.StoreMap.{bytes_cmp};
 ghost use Rattle.ca_node.specs.Row.{prefix as prefix_of, prefix_length};
 ghost use Rattle.ca_node.specs.TreeView.{Note};
 ghost use Rattle.ca_base.specs.Finding.{IsBaseShown};
+ghost use Rattle.ca_base.specs.Writing.{HasBytes};
 ghost use Rattle.ca_base.specs.Prefixes.{AreShared, IsShift, IsTrimmed, reheaded};
 ghost use Rattle.ca_rows.specs.Passes.{OnlyReads, IsReading, sizes};
 ghost use Rattle.ca_node.specs.TreePasses.{tree_of};
 
-use crate::comparing::{compare_tops, next_word};
+use crate::comparing::word_from;
 use crate::reading::append;
 use crate::writing::head_of;
 use arrayvec::ArrayVec;
-use ca_node::{PREFIX, PREFIX_LENGTH, TreePass, TreeSpace, load_word};
+use ca_node::{PREFIX, PREFIX_LENGTH, TreePass, TreeSpace, compare_tops, load_word};
 use ca_rows::ROW_LIMIT;
 use std::cmp::Ordering;
 
@@ -45,17 +46,19 @@ pub(crate) fn prefix_len(space: &TreeSpace, pass: &mut TreePass, base: u32) -> u
     (load_word(space, pass, base, 0) / PREFIX_LENGTH % 16_777_216) as usize
 }
 
-// How the prefix of a base that the pass was shown, which has so many bytes, stands to as many bytes of a key: equal where the key begins with it. It
-// loads no word behind the first difference.
+// How the prefix of a base that the pass was shown, which has so many bytes, stands to as many bytes of a key, of which the first eight bytes were made a
+// word before: equal where the key begins with it. It loads no word behind the first difference.
 pub(crate) fn compare_prefix(
     space: &TreeSpace,
     pass: &mut TreePass,
     base: u32,
     key: &[u8],
+    front: u64,
     len: usize,
 ) -> Ordering
     requires reading { IsReading space.now pass.old }
     requires shown { (note : Note) × IsBaseShown (sizes space.now) (tree_of pass.old) base note }
+    requires front { HasBytes key.now front }
     requires few { len ≤ 32 }
     ensures frame { OnlyReads pass.old pass.new }
     ensures order { (note : Note) → IsBaseShown (sizes space.now) (tree_of pass.old) base note → len ≡ prefix_length note.its
@@ -65,7 +68,7 @@ pub(crate) fn compare_prefix(
     for place in 0..stop.div_ceil(8) {
         let word = load_word(space, pass, base, PREFIX + place as u32);
         let count = (stop - 8 * place).min(8);
-        let order = compare_tops(word, next_word(key, 8 * place), count);
+        let order = compare_tops(word, word_from(key, 8 * place, front), count);
         if order.is_ne() {
             return order;
         }

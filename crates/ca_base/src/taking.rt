@@ -1,7 +1,7 @@
 //! Rows are taken for a call, and put back.
 ghost use Rattle.std.specs.Prelude.{◌≢◌, Err, ◌<◌, ℕ, List, [], ◌∷◌, length};
 ghost use Rattle.ca_node.specs.Links.{IsIn};
-ghost use Rattle.ca_base.specs.Counting.{IsSpent, HasFound, HasMet, HasPutBack, PutsBack};
+ghost use Rattle.ca_base.specs.Counting.{IsSpent, HasFound, HasMet, HasPutBack, KeepsLost, PutsBack};
 ghost use Rattle.ca_base.specs.declared.stop.Exchange.TheVariants.{Link as IsLink};
 ghost use Rattle.ca_base.specs.declared.stop.Stop.TheVariants.{Lost as IsLost};
 ghost use Rattle.ca_base.specs.Taking.{AreHeld, HasTaken, HasTakenTwo, MayTake, TakesOldest, TakesTwo};
@@ -99,6 +99,7 @@ pub fn give_back(space: &TreeSpace, pass: &mut TreePass, row: u32, form: u32, sp
     ensures counted { IsSpent spent.old spent.new (known pass.old) (known pass.new) }
     ensures met { HasMet 0 0 (known pass.old) (known pass.new) }
     ensures back { PutsBack [] 0 (known pass.old) (known pass.new) pass.old.kept pass.new.kept }
+    ensures kept { KeepsLost form row (known pass.old) (known pass.new) pass.old.kept.rows.items pass.new.kept.rows.items }
 {
     if !space.put_row(pass, row) {
         lose(spent);

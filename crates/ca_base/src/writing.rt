@@ -7,7 +7,7 @@ ghost use Rattle.ca_base.specs.Writing.{HasSet, HasFilled, HasBytes, HasEight, S
 ghost use Rattle.ca_base.specs.Holding.{HoldsRow};
 ghost use Rattle.ca_rows.specs.Passes.{StillKeepsList, known};
 
-use ca_node::{BASE, CODE, ITEMS, OBJECT, PREFIX, PREFIX_LENGTH, TreePass, TreeSpace};
+use ca_node::{BASE, CODE, ITEMS, OBJECT, PREFIX, PREFIX_LENGTH, TreePass, TreeSpace, top_of};
 use ca_rows::ROW_LIMIT;
 
 /// Writes an object row: the first word, and the object's bytes, eight a word, with zeros behind their end to the end of their last word. What stands
@@ -26,7 +26,7 @@ pub(crate) fn write_object(
     ensures written { HasWritten row (SpellsObject object.now key_at key_end) (known pass.old) (known pass.new) }
 {
     let form = object_form(object.len(), key_at, key_end);
-    space.write_word(pass, row, 0, form);
+    set_word(space, pass, row, 0, form);
     write_bytes(space, pass, row, CODE, object);
 }
 
@@ -141,13 +141,7 @@ pub(crate) fn write_bytes(space: &TreeSpace, pass: &mut TreePass, row: u32, from
 pub(crate) fn word_of(bytes: &[u8]) -> u64
     ensures { HasBytes bytes.now result }
 {
-    let mut eight = [0; 8];
-    if bytes.len() < 8 {
-        eight[..bytes.len()].copy_from_slice(bytes);
-        return u64::from_be_bytes(eight);
-    }
-    eight.copy_from_slice(&bytes[..8]);
-    u64::from_be_bytes(eight)
+    top_of(bytes)
 }
 
 // The head of a key: its first five bytes as a number, the highest first, with zeros behind their end.

@@ -1,5 +1,5 @@
 -- The exchange by which a range ends, as a step: whoever decides it, or its pass that gives it up.
-use Rattle.std.proofs.Common.{◌≡◌, ◌≢◌, ◌⊎◌, ℕ, ◌+◌, ◌*◌, ◌/◌, ◌%◌, ◌<◌, ◌≤◌, true, eqb, cond, List, [], map, set, sym, refl, ap, ◌∙◌, subst, inl, inr, ⊎_elim, arith, eq-eqb, ne_eqb}
+use Rattle.std.proofs.Common.{◌≡◌, ◌≢◌, ◌⊎◌, ℕ, ◌+◌, ◌*◌, ◌<◌, ◌≤◌, true, eqb, cond, List, [], map, set, sym, refl, ap, ◌∙◌, subst, inl, inr, ⊎_elim, arith, eq-eqb, ne_eqb}
 use Rattle.std.proofs.lemmas.List.{map-set}
 use mathlib.Core.Logic.{dite}
 use mathlib.Core.Option.{some}
@@ -9,32 +9,29 @@ use Rattle.atomic_table.specs.Table.{State}
 use Rattle.atomic_table.proofs.Lists.{at_set, at_map}
 use Rattle.ca_model.specs.History.{after}
 use Rattle.ca_model.specs.StoreMap.{StoreMap}
-use Rattle.ca_rows.specs.Layout.{row_words, row_limit}
+use Rattle.ca_rows.specs.Layout.{row_words}
 use Rattle.ca_rows.specs.Rule.{upper_of}
 use Rattle.ca_rows.specs.Told.{relinked}
-use Rattle.ca_rows.specs.Words.{own_word, result_of}
+use Rattle.ca_rows.specs.Words.{own_word}
 use Rattle.ca_rows.specs.declared.sizes.Sizes.{Sizes}
 use Rattle.ca_rows.specs.declared.view.View.{View}
 use Rattle.ca_rows.proofs.Relinking.{Change, Stays, Ends, IsChange, relinks}
 use Rattle.ca_node.specs.Endings.{without}
 use Rattle.ca_node.specs.Laws.{tree_lends}
-use Rattle.ca_node.specs.Layout.{sequence_unit}
 use Rattle.ca_node.specs.Links.{IsLinked, IsLent, IsOfOwnRun, IsNoted, by_note, by_item, by_way, by_link, by_link_item, by_border, by_run, by_run_item, by_shown, by_shown_item}
 use Rattle.ca_node.specs.Ranging.{IsRanging}
-use Rattle.ca_node.specs.Row.{row_at, mark_bound, IsMarkedBy}
+use Rattle.ca_node.specs.Row.{row_at, mark_bound}
 use Rattle.ca_node.specs.Scenes.{IsBase}
 use Rattle.ca_node.specs.Shape.{Role}
 use Rattle.ca_node.specs.Told.{MyTree}
 use Rattle.ca_node.specs.Tree.{Knows, IsTree}
 use Rattle.ca_node.specs.TreeView.{TreeView}
-use Rattle.ca_node.proofs.Ended.{active_before, shape', border_lent, lent_then, lent_before, border_gone, linked_before, linked_then, runs', true_then, listed'}
+use Rattle.ca_node.proofs.Ended.{IsEnd, active_before, shape', border_lent, lent_then, lent_before, border_gone, linked_before, linked_then, runs', true_then, listed'}
 use Rattle.ca_node.proofs.Looking.{R}
 use Rattle.ca_node.proofs.OwnWord.{else_word, told_same, wide', row_stays, base_linked, noted_before, knows_then, tree_with}
 
 module _ (z : Sizes) (s : State (Unit {0}) (View TreeView)) (r : R z s) (id : ℕ) (me : MyTree) (at : get_elem? s.views id ≡ some me.0)
-    (pass number word' : ℕ) (lo : 0 < pass) (hi : pass ≤ 64) (hit : result_of s.words pass ≡ sequence_unit * number + row_limit)
-    (same_number : word' / sequence_unit ≡ number) (is_over : word' % sequence_unit ≢ row_limit) (base : ℕ)
-    (base_is : IsBase r.above.role base) (marked : IsMarkedBy (row_at s.words base) pass number) where
+    (pass number word' : ℕ) (end : IsEnd z s r pass number word') where
   abbrev f : IsTree z r.made s.words (map upper_of s.views)
   f = r.above
 
@@ -48,11 +45,11 @@ module _ (z : Sizes) (s : State (Unit {0}) (View TreeView)) (r : R z s) (id : �
   words' = set s.words (own_word s.words pass + 1) word'
 
   abbrev stays : (row : ℕ) → row ≤ z.rows → row_at words' row ≡ row_at s.words row
-  stays = row_stays z s r pass word' lo hi
+  stays = row_stays z s r pass word' end.lo end.hi
 
   -- The seat knows this then.
   module _ (u' : TreeView) (is_pinned : me.0.pin.pinned ≡ true) (is_pass : 0 < me.0.upper.number)
-      (same_inventory : u'.inventory ≡ without (mark_bound (row_at s.words base)) me.0.upper.inventory)
+      (same_inventory : u'.inventory ≡ without (mark_bound (row_at s.words end.base)) me.0.upper.inventory)
       (own_notes : (row : ℕ) → IsNoted (set s.words (own_word s.words pass + 1) word') u' row
       → IsNoted s.words me.0.upper row ⊎ IsLinked (set s.words (own_word s.words pass + 1) word') row)
       (own_knows : Knows z.rows r.made (set s.words (own_word s.words pass + 1) word') r.above.role (set (map upper_of s.views) id u') r.above.history id u')
@@ -69,7 +66,7 @@ module _ (z : Sizes) (s : State (Unit {0}) (View TreeView)) (r : R z s) (id : �
     d' = (relinked me me.0.claims u').0
 
     abbrev top : ℕ
-    top = mark_bound (row_at s.words base)
+    top = mark_bound (row_at s.words end.base)
 
     kind : ℕ → Change
     kind row = cond (eqb row top) Ends Stays
@@ -81,15 +78,15 @@ module _ (z : Sizes) (s : State (Unit {0}) (View TreeView)) (r : R z s) (id : �
     unfolding kind
     changed row = dite (ℕ_discrete row top)
         (λ (e : row ≡ top). subst (IsSo row) (sym (ap (λ b. cond b Ends Stays) (eq-eqb row top e))) (
-          subst (IsLent s.words) (sym e) (border_lent z s r pass number word' lo hi hit same_number is_over base base_is marked),
-          (λ l. border_gone z s r pass number word' lo hi hit same_number is_over base base_is marked (subst (IsLinked words') e l)),
+          subst (IsLent s.words) (sym e) (border_lent z s r pass number word' end),
+          (λ l. border_gone z s r pass number word' end (subst (IsLinked words') e l)),
           refl,
         ))
         (λ (ne : row ≢ top). subst (IsSo row) (sym (ap (λ b. cond b Ends Stays) (ne_eqb row top ne))) (
-          linked_before z s r pass number word' lo hi hit same_number is_over base base_is marked row,
-          linked_then z s r pass number word' lo hi hit same_number is_over base base_is marked row ne,
-          lent_before z s r pass number word' lo hi hit same_number is_over base base_is marked row,
-          lent_then z s r pass number word' lo hi hit same_number is_over base base_is marked row ne,
+          linked_before z s r pass number word' end row,
+          linked_then z s r pass number word' end row ne,
+          lent_before z s r pass number word' end row,
+          lent_then z s r pass number word' end row ne,
           refl,
         ))
 
@@ -100,17 +97,17 @@ module _ (z : Sizes) (s : State (Unit {0}) (View TreeView)) (r : R z s) (id : �
         → Knows z.rows r.made words' role (set (map upper_of s.views) id u') r.above.history j y.upper
         × IsRanging z words' role (r.above.ranged.ends y.upper.number) y.upper.since r.above.history y.upper.number y.upper.ranges
     others j y ne here = (
-      knows_then z s r pass word' lo hi id me.0 at (true_then z s r pass number word' lo hi hit same_number is_over base base_is marked) j y here u' same,
+      knows_then z s r pass word' end.lo end.hi id me.0 at (true_then z s r pass number word' end) j y here u' same,
       others_ranging j y ne here,
     )
 
     tree_now : IsTree z r.made words' (set (map upper_of s.views) id u')
-    tree_now = tree_with z s r pass word' lo hi id me.0 at is_pass u'
-        (shape' z s r pass number word' lo hi hit same_number is_over base base_is marked) f.ranged.ends
-        (runs' z s r pass number word' lo hi hit same_number is_over base base_is marked)
-        (λ p n now. f.ranged.made_before p n (active_before z s r pass number word' lo hi hit same_number is_over base base_is marked p n now).0)
-        (λ p n now. f.quiet p n (active_before z s r pass number word' lo hi hit same_number is_over base base_is marked p n now).0)
-        own_knows own_ranging others (without top) (listed' z s r pass number word' lo hi hit same_number is_over base base_is marked) same_inventory
+    tree_now = tree_with z s r pass word' end.lo end.hi id me.0 at is_pass u'
+        (shape' z s r pass number word' end) f.ranged.ends
+        (runs' z s r pass number word' end)
+        (λ p n now. f.ranged.made_before p n (active_before z s r pass number word' end p n now).0)
+        (λ p n now. f.quiet p n (active_before z s r pass number word' end p n now).0)
+        own_knows own_ranging others (without top) (listed' z s r pass number word' end) same_inventory
 
     pub ends_step : R z record { words = set s.words (own_word s.words pass + 1) word'; homes = s.homes; views = set s.views id (relinked me me.0.claims u').0 }
     ends_step = relinks IsLinked IsLent IsNoted IsTree tree_lends z s r id me.0 d' words' kind record {
@@ -119,10 +116,10 @@ module _ (z : Sizes) (s : State (Unit {0}) (View TreeView)) (r : R z s) (id : �
       same_made = refl;
       same_stage = refl;
       same_pin = refl;
-      wide = wide' z s r pass word' lo hi ∙ sym r.wide;
-      low = λ i l. else_word z s r pass word' lo hi i (omega arith);
-      announcements = told_same z s r pass word' lo hi;
-      unlinked_rows = λ c k lo' hi' n l. else_word z s r pass word' lo hi (row_words * c + k) (omega arith);
+      wide = wide' z s r pass word' end.lo end.hi ∙ sym r.wide;
+      low = λ i l. else_word z s r pass word' end.lo end.hi i (omega arith);
+      announcements = told_same z s r pass word' end.lo end.hi;
+      unlinked_rows = λ c k lo' hi' n l. else_word z s r pass word' end.lo end.hi (row_words * c + k) (omega arith);
       changes = λ c _ _. changed c;
       in_range = (r.seat id me.0 at).in_range;
       notes = λ j y here c n. ⊎_elim
@@ -138,18 +135,20 @@ module _ (z : Sizes) (s : State (Unit {0}) (View TreeView)) (r : R z s) (id : �
       where
         others_noted : (j : ℕ) (y : View TreeView) → j ≢ id → get_elem? s.views j ≡ some y → (c : ℕ) → IsNoted words' y.upper c
             → IsNoted s.words y.upper c ⊎ (IsLinked words' c × (y.pin.pinned ≡ true))
-        others_noted j y ne here c n = by n (noted_before z s r pass word' lo hi j y here (IsLinked words')
-            (λ row o. ⊎_elim (λ w. inl w) (λ b. inr (base_linked z s r pass word' lo hi (shape' z s r pass number word' lo hi hit same_number is_over base base_is marked) row b.0))
+        others_noted j y ne here c n = by n (noted_before z s r pass word' end.lo end.hi j y here (IsLinked words')
+            (λ row o. ⊎_elim (λ w. inl w) (λ b. inr (base_linked z s r pass word' end.lo end.hi (shape' z s r pass number word' end) row b.0))
             (other_runs j y ne here row o)) c n)
           where
             pinned_by : (row : ℕ) → IsOfOwnRun words' y.upper row → IsNoted s.words y.upper c ⊎ (y.pin.pinned ≡ true)
             pinned_by row o = ⊎_elim (λ w. inr ((r.seat j y here).noted_pinned row (by_run row w)))
                 (λ b. inr ((r.seat j y here).noted_pinned b.1.0 b.1.1)) (other_runs j y ne here row o)
 
-            both : IsLinked words' c → IsNoted s.words y.upper c ⊎ (y.pin.pinned ≡ true) → IsNoted s.words y.upper c ⊎ (IsLinked words' c × (y.pin.pinned ≡ true))
+            both : IsLinked words' c → IsNoted s.words y.upper c ⊎ (y.pin.pinned ≡ true)
+                → IsNoted s.words y.upper c ⊎ (IsLinked words' c × (y.pin.pinned ≡ true))
             both l k = ⊎_elim (λ w. inl w) (λ p. inr (l, p)) k
 
-            by : IsNoted words' y.upper c → IsNoted s.words y.upper c ⊎ IsLinked words' c → IsNoted s.words y.upper c ⊎ (IsLinked words' c × (y.pin.pinned ≡ true))
+            by : IsNoted words' y.upper c → IsNoted s.words y.upper c ⊎ IsLinked words' c
+                → IsNoted s.words y.upper c ⊎ (IsLinked words' c × (y.pin.pinned ≡ true))
             by m (inl w) = inl w
             by (by_run row o) (inr l) = both l (pinned_by row o)
             by (by_run_item b row o k) (inr l) = both l (pinned_by b o)

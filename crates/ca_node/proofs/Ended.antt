@@ -30,12 +30,20 @@ use Rattle.ca_node.specs.Tree.{IsTrue, IsTree}
 use Rattle.ca_node.specs.TreeView.{Note, Over, Inventory, TreeView}
 use Rattle.ca_node.proofs.Listing.{in_but, of_but, but_once}
 use Rattle.ca_node.proofs.Looking.{R}
-use Rattle.ca_node.proofs.OwnWord.{else_word, result_same, result_here, wide', row_stays, base_stays, begun_then, ranging_else}
+use Rattle.ca_node.proofs.OwnWord.{else_word, result_same, result_here, wide', row_stays, base_stays, begun_then, else_before, else_then, ranging_else}
 
-module _ (z : Sizes) (s : State (Unit {0}) (View TreeView)) (r : R z s) (pass number word' : ℕ) (lo : 0 < pass) (hi : pass ≤ 64)
-    (hit : result_of s.words pass ≡ sequence_unit * number + row_limit)
-    (same_number : word' / sequence_unit ≡ number) (is_over : word' % sequence_unit ≢ row_limit) (base : ℕ)
-    (base_is : IsBase r.above.role base) (marked : IsMarkedBy (row_at s.words base) pass number) where
+-- The word of an active range is exchanged for one by which it is over, and the tree has a base that it marked.
+pub record IsEnd (z : Sizes) (s : State (Unit {0}) (View TreeView)) (r : R z s) (pass number word' : ℕ) : Type 0 where
+  pub lo : 0 < pass
+  pub hi : pass ≤ 64
+  pub hit : result_of s.words pass ≡ sequence_unit * number + row_limit
+  pub same_number : word' / sequence_unit ≡ number
+  pub is_over : word' % sequence_unit ≢ row_limit
+  pub base : ℕ
+  pub base_is : IsBase r.above.role base
+  pub marked : IsMarkedBy (row_at s.words base) pass number
+
+module _ (z : Sizes) (s : State (Unit {0}) (View TreeView)) (r : R z s) (pass number word' : ℕ) (end : IsEnd z s r pass number word') where
   abbrev f : IsTree z r.made s.words (map upper_of s.views)
   f = r.above
 
@@ -49,61 +57,60 @@ module _ (z : Sizes) (s : State (Unit {0}) (View TreeView)) (r : R z s) (pass nu
   words' = set s.words (own_word s.words pass + 1) word'
 
   was_active : IsActive s.words pass number
-  was_active = (lo, hi, hit)
+  was_active = (end.lo, end.hi, end.hit)
 
   -- The range isn't active any more, others are as they were.
   pub not_active : (n : ℕ) → ¬ IsActive words' pass n
-  not_active n now = let here = sym (result_here z s r pass word' lo hi) ∙ now.2 in is_over (omega arith)
+  not_active n now = let here = sym (result_here z s r pass word' end.lo end.hi) ∙ now.2 in end.is_over (omega arith)
 
   pub active_before : (p n : ℕ) → IsActive words' p n → IsActive s.words p n × (p ≢ pass)
   active_before p n now = dite (ℕ_discrete p pass)
       (λ (e : p ≡ pass). absurd (not_active n (subst (λ q. IsActive words' q n) e now)))
-      (λ ne. ((now.0, now.1, sym (result_same z s r pass word' lo hi p now.0 now.1 ne) ∙ now.2), ne))
-
-  pub active_then : (p n : ℕ) → p ≢ pass → IsActive s.words p n → IsActive words' p n
-  active_then p n ne now = (now.0, now.1, result_same z s r pass word' lo hi p now.0 now.1 ne ∙ now.2)
+      (λ ne. (else_before z s r pass word' end.lo end.hi p n ne now, ne))
 
   rises : result_of s.words pass / sequence_unit ≤ word' / sequence_unit
-  rises = let here = hit in let same = same_number in omega arith
+  rises = let here = end.hit in let same = end.same_number in omega arith
 
   pub began : (p n : ℕ) → HasBegun s.words p n → HasBegun words' p n
-  began = begun_then z s r pass word' lo hi rises
+  began = begun_then z s r pass word' end.lo end.hi rises
 
   pub shape' : IsShape z words' r.above.role (after r.above.history [])
-  shape' = shape_stands z s.words words' role last f.shape (wide' z s r pass word' lo hi) (else_word z s r pass word' lo hi root_word (omega arith))
+  shape' = shape_stands z s.words words' role last f.shape (wide' z s r pass word' end.lo end.hi)
+      (else_word z s r pass word' end.lo end.hi root_word (omega arith))
       (λ p lo' hi'. (began p (result_of s.words p / sequence_unit) (lo', hi', omega arith)).2)
       (λ b place is p n m now. (active_before p n now).0)
-      (λ row l k inside. let hi' = (linked_range z s.words role last f.shape row l).1 in else_word z s r pass word' lo hi (row_words * row + k) (omega arith))
+      (λ row l k inside. let hi' = (linked_range z s.words role last f.shape row l).1 in
+      else_word z s r pass word' end.lo end.hi (row_words * row + k) (omega arith))
 
   -- The row says up to where the range went.
   abbrev pub border : ℕ
-  border = mark_bound (row_at s.words base)
+  border = mark_bound (row_at s.words end.base)
 
-  border_bound : IsBoundOf s.words base border
-  border_bound = (marked.0, subst (λ (y : ℕ × ℕ). IsActive s.words y.0 y.1) (λ i. (sym marked.1 i, sym marked.2 i)) was_active, refl)
+  border_bound : IsBoundOf s.words end.base border
+  border_bound = (end.marked.0, subst (λ (y : ℕ × ℕ). IsActive s.words y.0 y.1) (λ i. (sym end.marked.1 i, sym end.marked.2 i)) was_active, refl)
 
   pub border_lent : IsLent s.words border
-  border_lent = end_lent z s.words role last f.shape border (base, base_is.0, base_is.1, border_bound)
+  border_lent = end_lent z s.words role last f.shape border (end.base, end.base_is.0, end.base_is.1, border_bound)
 
   border_form : form (row_at s.words border) ≡ 4
-  border_form = (end_at z s.words role last f.shape border (base, base_is.0, base_is.1, border_bound)).2
+  border_form = (end_at z s.words role last f.shape border (end.base, end.base_is.0, end.base_is.1, border_bound)).2
 
   border_owner : get_or (row_at s.words border) 1 0 ≡ pass
-  border_owner = ((base_at z s.words role last f.shape base base_is.0 base_is.1).bounded border border_bound).owner ∙ marked.1
+  border_owner = ((base_at z s.words role last f.shape end.base end.base_is.0 end.base_is.1).bounded border border_bound).owner ∙ end.marked.1
 
   border_range : (0 < border) × (border ≤ z.rows)
-  border_range = let e = end_at z s.words role last f.shape border (base, base_is.0, base_is.1, border_bound) in (e.0, e.1)
+  border_range = let e = end_at z s.words role last f.shape border (end.base, end.base_is.0, end.base_is.1, border_bound) in (e.0, e.1)
 
   -- What a range of this pass marked ends there.
   ends_there : (b row : ℕ) → IsBase role b → IsBoundOf s.words b row → mark_owner (row_at s.words b) ≡ pass → row ≡ border
   ends_there b row b_is bound mine = let n : ℕ = mark_number (row_at s.words b) in
       let now : IsActive s.words pass n = subst (λ q. IsActive s.words q n) mine bound.1 in
-      let same : n ≡ number = (let here = now.2 in let there = hit in omega arith) in
+      let same : n ≡ number = (let here = now.2 in let there = end.hit in omega arith) in
       let run = f.ranged.runs.each pass number was_active in
       let b_in = f.ranged.runs.whole pass number b was_active b_is (bound.0, mine, same) in
-      let base_in = f.ranged.runs.whole pass number base was_active base_is marked in
+      let base_in = f.ranged.runs.whole pass number end.base was_active end.base_is end.marked in
       sym bound.2 ∙ ((of_run (scene_of s.words role) (range_of f.ranged.ends pass number) (f.ranged.runs.run pass) b run b_in).ends
-      ∙ sym (of_run (scene_of s.words role) (range_of f.ranged.ends pass number) (f.ranged.runs.run pass) base run base_in).ends)
+      ∙ sym (of_run (scene_of s.words role) (range_of f.ranged.ends pass number) (f.ranged.runs.run pass) end.base run base_in).ends)
 
   -- What was lent is lent, but for the border,
   pub lent_then : (row : ℕ) → row ≢ border → IsLent s.words row → IsLent words' row
@@ -114,14 +121,14 @@ module _ (z : Sizes) (s : State (Unit {0}) (View TreeView)) (r : R z s) (pass nu
         t.1,
         t.2,
         subst (λ its. (mark its ≡ 1)
-            × IsActive words' (mark_owner its) (mark_number its) × (mark_bound its ≡ row)) (sym (base_stays z s r pass word' lo hi t.0 t.1 t.2))
-            (t.3.0, active_then (mark_owner (row_at s.words t.0)) (mark_number (row_at s.words t.0)) other t.3.1, t.3.2),
+            × IsActive words' (mark_owner its) (mark_number its) × (mark_bound its ≡ row)) (sym (base_stays z s r pass word' end.lo end.hi t.0 t.1 t.2))
+            (t.3.0, else_then z s r pass word' end.lo end.hi (mark_owner (row_at s.words t.0)) (mark_number (row_at s.words t.0)) other t.3.1, t.3.2),
       ))
 
   end_before : (row : ℕ) (b : ℕ) (p : Place) → role b ≡ Base p → IsBoundOf words' b row
       → IsBoundOf s.words b row × (mark_owner (row_at s.words b) ≢ pass)
   end_before row b p e x = let k = subst (λ its. (mark its ≡ 1) × IsActive words' (mark_owner its) (mark_number its) × (mark_bound its ≡ row))
-      (base_stays z s r pass word' lo hi b p e) x in let a = active_before (mark_owner (row_at s.words b)) (mark_number (row_at s.words b)) k.1 in
+      (base_stays z s r pass word' end.lo end.hi b p e) x in let a = active_before (mark_owner (row_at s.words b)) (mark_number (row_at s.words b)) k.1 in
       ((k.0, a.0, k.2), a.1)
 
   pub lent_before : (row : ℕ) → IsLent words' row → IsLent s.words row
@@ -132,10 +139,11 @@ module _ (z : Sizes) (s : State (Unit {0}) (View TreeView)) (r : R z s) (pass nu
   pub border_gone : ¬ IsLinked words' border
   border_gone l = ⊎_elim
       (λ (t : (p : Place) × (place_of (role border) ≡ some p)). some-ne-none t.0 (sym t.1
-      ∙ ap place_of (end_out z s.words role last f.shape border (base, base_is.0, base_is.1, border_bound))))
+      ∙ ap place_of (end_out z s.words role last f.shape border (end.base, end.base_is.0, end.base_is.1, border_bound))))
       (λ y. ⊎_elim
       (λ (t : (b : ℕ) × (p : Place) × (role b ≡ Base p) × IsIn border (items (row_at words' b))).
-      let o = (item_at z s.words role last f.shape t.0 t.1 t.2 border (subst (λ its. IsIn border (items its)) (base_stays z s r pass word' lo hi t.0 t.1 t.2) t.3)).2.0 in
+      let o = (item_at z s.words role last f.shape t.0 t.1 t.2 border
+      (subst (λ its. IsIn border (items its)) (base_stays z s r pass word' end.lo end.hi t.0 t.1 t.2) t.3)).2.0 in
       let four = border_form in omega arith)
       (λ (t : (b : ℕ) × (p : Place) × (role b ≡ Base p) × IsBoundOf words' b border).
       let x = end_before border t.0 t.1 t.2 t.3 in
@@ -148,7 +156,7 @@ module _ (z : Sizes) (s : State (Unit {0}) (View TreeView)) (r : R z s) (pass nu
       (λ (t : (p : Place) × (place_of (role row) ≡ some p)). placed_linked z s.words role last f.shape row t.0 t.1)
       (λ y. ⊎_elim
       (λ (t : (b : ℕ) × (p : Place) × (role b ≡ Base p) × IsIn row (items (row_at words' b))).
-      item_linked z s.words role last f.shape t.0 t.1 t.2 row (subst (λ its. IsIn row (items its)) (base_stays z s r pass word' lo hi t.0 t.1 t.2) t.3))
+      item_linked z s.words role last f.shape t.0 t.1 t.2 row (subst (λ its. IsIn row (items its)) (base_stays z s r pass word' end.lo end.hi t.0 t.1 t.2) t.3))
       (λ (t : (b : ℕ) × (p : Place) × (role b ≡ Base p) × IsBoundOf words' b row).
       let k = end_lent z s.words role last f.shape row (t.0, t.1, t.2, (end_before row t.0 t.1 t.2 t.3).0) in by_range k.0 row k.1 k.2 k.3)
       y)
@@ -159,7 +167,8 @@ module _ (z : Sizes) (s : State (Unit {0}) (View TreeView)) (r : R z s) (pass nu
       (λ (t : (p : Place) × (place_of (role row) ≡ some p)). placed_linked z words' role last shape' row t.0 t.1)
       (λ y. ⊎_elim
       (λ (t : (b : ℕ) × (p : Place) × (role b ≡ Base p) × IsIn row (items (row_at s.words b))).
-      item_linked z words' role last shape' t.0 t.1 t.2 row (subst (λ its. IsIn row (items its)) (sym (base_stays z s r pass word' lo hi t.0 t.1 t.2)) t.3))
+      item_linked z words' role last shape' t.0 t.1 t.2 row
+      (subst (λ its. IsIn row (items its)) (sym (base_stays z s r pass word' end.lo end.hi t.0 t.1 t.2)) t.3))
       (λ (t : (b : ℕ) × (p : Place) × (role b ≡ Base p) × IsBoundOf s.words b row).
       let k = lent_then row ne (end_lent z s.words role last f.shape row t) in by_range k.0 row k.1 k.2 k.3)
       y)
@@ -171,7 +180,7 @@ module _ (z : Sizes) (s : State (Unit {0}) (View TreeView)) (r : R z s) (pass nu
     bases = λ row b. b;
     were = λ row b. b;
     keys = λ row. refl;
-    marks = λ row b. ap mark_of (base_stays z s r pass word' lo hi row b.0 b.1);
+    marks = λ row b. ap mark_of (base_stays z s r pass word' end.lo end.hi row b.0 b.1);
     others = λ p n ne now. (active_before p n now).0;
     begun = began;
   } not_active
@@ -181,10 +190,10 @@ module _ (z : Sizes) (s : State (Unit {0}) (View TreeView)) (r : R z s) (pass nu
   true_then note t = record {
     some_row = t.some_row;
     in_range = t.in_range;
-    spells = row_stays z s r pass word' lo hi note.row t.in_range ∙ t.spells;
-    named = λ b c i. let o = t.named b c i in (o.0, o.1, subst IsObjectRow (sym (row_stays z s r pass word' lo hi c o.1)) o.2);
+    spells = row_stays z s r pass word' end.lo end.hi note.row t.in_range ∙ t.spells;
+    named = λ b c i. let o = t.named b c i in (o.0, o.1, subst IsObjectRow (sym (row_stays z s r pass word' end.lo end.hi c o.1)) o.2);
     objects_are = λ b. map_same (λ c. row_at words' c) (λ c. row_at s.words c) (items note.its)
-        (λ c i. row_stays z s r pass word' lo hi c (t.named b c i).1) ∙ t.objects_are b;
+        (λ c i. row_stays z s r pass word' end.lo end.hi c (t.named b c i).1) ∙ t.objects_are b;
     stands = t.stands;
     marks = λ p n m. let was = t.marks p n m in (began p n was.0, λ now. was.1 (active_before p n now).0);
   }
@@ -198,13 +207,14 @@ module _ (z : Sizes) (s : State (Unit {0}) (View TreeView)) (r : R z s) (pass nu
     q.0,
     dite (ℕ_discrete p pass)
         (λ (e : p ≡ pass). let was : result_of s.words pass / sequence_unit ≡ n = subst (λ k. result_of s.words k / sequence_unit ≡ n) e q.1 in
-        let here = hit in subst (λ k. result_of words' k / sequence_unit ≡ n) (sym e) (ap (λ v. v / sequence_unit) (result_here z s r pass word' lo hi) ∙ (same_number ∙ omega arith)))
-        (λ ne. ap (λ v. v / sequence_unit) (result_same z s r pass word' lo hi p lo' q.0 ne) ∙ q.1),
+        let here = end.hit in subst (λ k. result_of words' k / sequence_unit ≡ n) (sym e)
+        (ap (λ v. v / sequence_unit) (result_here z s r pass word' end.lo end.hi) ∙ (end.same_number ∙ omega arith)))
+        (λ ne. ap (λ v. v / sequence_unit) (result_same z s r pass word' end.lo end.hi p lo' q.0 ne) ∙ q.1),
   )
 
   pub ranging_then : (j : ℕ) (v : TreeView) → get_elem? (map upper_of s.views) j ≡ some v → v.number ≢ pass
       → IsRanging z words' r.above.role (r.above.ranged.ends v.number) v.since r.above.history v.number v.ranges
-  ranging_then j v here ne = ranging_else z s r pass word' lo hi true_then over_then (f.ranged.ends v.number) v ne (f.ranged.each j v here)
+  ranging_then j v here ne = ranging_else z s r pass word' end.lo end.hi true_then over_then (f.ranged.ends v.number) v ne (f.ranged.each j v here)
 
   -- The border isn't listed any more.
   abbrev pub less_by_border : Inventory → Inventory

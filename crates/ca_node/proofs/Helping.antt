@@ -33,7 +33,7 @@ use Rattle.ca_node.specs.Tree.{IsTrue, Knows, IsTree}
 use Rattle.ca_node.specs.TreeView.{Note, Border, Ranging, Quiet, Unmarked, Marking, Left, TreeView}
 use Rattle.ca_node.proofs.Copying.{one_active}
 use Rattle.ca_node.proofs.Deciding.{ends_step}
-use Rattle.ca_node.proofs.Ended.{not_active, began, over_then, true_then, sequence_then, ranging_then}
+use Rattle.ca_node.proofs.Ended.{IsEnd, not_active, began, over_then, true_then, sequence_then, ranging_then}
 use Rattle.ca_node.proofs.Looking.{R, knows_upper, knows_ranges, starts_shorter, in_more}
 use Rattle.ca_node.proofs.OwnWord.{result_here, border_stays, run_before, noted_same, knows_then}
 use Rattle.ca_node.proofs.Runs.{run, run_trues, run_bases, run_shown, on_chain}
@@ -90,6 +90,18 @@ module _ (z : Sizes) (s : State (Unit {0}) (View TreeView)) (r : R z s) (id : �
     is_over : decided_word number last.row % sequence_unit ≢ row_limit
     is_over e = let l = small in omega arith
 
+    abbrev end : IsEnd z s r pass number (decided_word number last.row)
+    end = record {
+      lo = begun.0;
+      hi = begun.1;
+      hit = hit;
+      same_number = same_number;
+      is_over = is_over;
+      base = last.row;
+      base_is = base_is;
+      marked = marked;
+    }
+
     abbrev words' : List ℕ
     words' = set s.words (own_word s.words pass + 1) (decided_word number last.row)
 
@@ -105,15 +117,15 @@ module _ (z : Sizes) (s : State (Unit {0}) (View TreeView)) (r : R z s) (id : �
 
     over_now : IsOver words' (over_up_to pass number)
     over_now = over_behind words' pass number
-        (began z s r pass number word' begun.0 begun.1 hit same_number is_over last.row base_is marked pass number begun)
-        (not_active z s r pass number word' begun.0 begun.1 hit same_number is_over last.row base_is marked number)
+        (began z s r pass number word' end pass number begun)
+        (not_active z s r pass number word' end number)
 
     -- The run, which its pass is shown from now on.
     abbrev the_run : List Note
     the_run = run z r.made s.words (map upper_of s.views) r.above pass number last.row now base_is marked
 
     run_true : (note : Note) → IsIn note the_run → IsTrue z.rows words' r.above.role note
-    run_true note i = true_then z s r pass number word' begun.0 begun.1 hit same_number is_over last.row base_is marked note
+    run_true note i = true_then z s r pass number word' end note
         (run_trues z r.made s.words (map upper_of s.views) r.above pass number last.row now base_is marked note i).0
 
     decided_now : IsDecided words' pass number last.row
@@ -194,12 +206,12 @@ module _ (z : Sizes) (s : State (Unit {0}) (View TreeView)) (r : R z s) (id : �
 
       ranging_mine : IsRanging z words' r.above.role (r.above.ranged.ends y.upper.number) y.upper.since r.above.history y.upper.number y.upper.ranges
       ranging_mine = record {
-        over = λ x i. over_then z s r pass number word' begun.0 begun.1 hit same_number is_over last.row base_is marked x (known.over x i);
+        over = λ x i. over_then z s r pass number word' end x (known.over x i);
         borders = λ b i. border_stays z s r pass word' begun.0 begun.1 b (known.borders b i);
         own = λ some_pass. so_far y.upper.ranges.own refl (known.own some_pass);
-        sequence = λ n some_pass is. sequence_then z s r pass number word' begun.0 begun.1 hit same_number is_over last.row base_is marked y.upper.number n
+        sequence = λ n some_pass is. sequence_then z s r pass number word' end y.upper.number n
             some_pass (known.sequence n some_pass is);
-        run = λ note i. true_then z s r pass number word' begun.0 begun.1 hit same_number is_over last.row base_is marked note (known.run note i);
+        run = λ note i. true_then z s r pass number word' end note (known.run note i);
       }
 
       run_mine : (row : ℕ) → IsOfOwnRun words' y.upper row → IsBase r.above.role row × ((d : ℕ) × IsNoted s.words y.upper d)
@@ -214,7 +226,7 @@ module _ (z : Sizes) (s : State (Unit {0}) (View TreeView)) (r : R z s) (id : �
           )
 
     own_knows : Knows z.rows r.made words' r.above.role (set (map upper_of s.views) id u') r.above.history id u'
-    own_knows = let w = knows_then z s r pass word' begun.0 begun.1 id me.0 at (true_then z s r pass number word' begun.0 begun.1 hit same_number is_over last.row base_is marked) id me.0 at u' (λ _. refl) in record {
+    own_knows = let w = knows_then z s r pass word' begun.0 begun.1 id me.0 at (true_then z s r pass number word' end) id me.0 at u' (λ _. refl) in record {
       made_before = w.made_before;
       alone = w.alone;
       seen_first = w.seen_first;
@@ -228,7 +240,7 @@ module _ (z : Sizes) (s : State (Unit {0}) (View TreeView)) (r : R z s) (id : �
     }
 
     own_ranging_now : IsRanging z words' r.above.role (r.above.ranged.ends u'.number) u'.since r.above.history u'.number u'.ranges
-    own_ranging_now = let w = ranging_then z s r pass number word' begun.0 begun.1 hit same_number is_over last.row base_is marked id me.0.upper first
+    own_ranging_now = let w = ranging_then z s r pass number word' end id me.0.upper first
         (λ e. k.other (sym e)) in record {
           over = λ x i. ⊎_elim (λ (e : over_up_to pass number ≡ x). subst (IsOver words') e over_now)
               (λ o. w.over x o) (in_more (over_up_to pass number) x me.0.upper.ranges.over i);
@@ -239,7 +251,7 @@ module _ (z : Sizes) (s : State (Unit {0}) (View TreeView)) (r : R z s) (id : �
         }
 
     pub help_step : R z record { words = words'; homes = s.homes; views = set s.views id (relinked me me.0.claims u').0 }
-    help_step = ends_step z s r id me at pass number word' begun.0 begun.1 hit same_number is_over last.row base_is marked u' k.ending.is_pinned
+    help_step = ends_step z s r id me at pass number word' end u' k.ending.is_pinned
         k.ending.is_pass (ap (λ b. without b me.0.upper.inventory) (sym border_same))
         (λ row n. inl (noted_same z s r pass word' begun.0 begun.1 id me.0 at own_run_before row
         (noted_alike words' me.0.upper u' (λ x i. i) (λ x i. i) (λ x i. i) (λ x i. i) (λ x i. i) row n)))
@@ -249,7 +261,7 @@ module _ (z : Sizes) (s : State (Unit {0}) (View TreeView)) (r : R z s) (id : �
         (λ other. inl (run_before z s r pass word' begun.0 begun.1 j y here other row o)))
         (λ j y ne here. dite (ℕ_discrete y.upper.number pass)
         (λ e. ranging_mine j y here e)
-        (λ other. ranging_then z s r pass number word' begun.0 begun.1 hit same_number is_over last.row base_is marked j y.upper
+        (λ other. ranging_then z s r pass number word' end j y.upper
         (at_map upper_of s.views j y here) other))
 
   -- Where another one had ended it, the seat learns that.

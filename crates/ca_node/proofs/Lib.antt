@@ -2,12 +2,14 @@ pub mod Copying
 pub mod Deciding
 pub mod Divided
 pub mod Dividing
+pub mod EightBytes
 pub mod Ended
 pub mod Exchanging
 pub mod Fronts
 pub mod HeldRows
 pub mod Helping
 pub mod Holding
+pub mod KeyOrder
 pub mod LastTrees
 pub mod Listing
 pub mod Logs
@@ -33,4 +35,5 @@ pub mod Turned
 pub mod Updating
 pub mod Walks
 pub mod Watching
+pub mod WordBytes
 pub mod WordOrder

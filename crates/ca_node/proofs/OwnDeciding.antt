@@ -33,7 +33,7 @@ use Rattle.ca_node.specs.Shape.{Role, Base, place_of}
 use Rattle.ca_node.specs.Told.{MyTree, IsKnown, status_word}
 use Rattle.ca_node.specs.Tree.{StartsWith, ArePast, IsTrue, IsTree}
 use Rattle.ca_node.specs.TreeView.{Note, Border, Begun, Quiet, Marking, TreeView}
-use Rattle.ca_node.proofs.Ended.{shape', true_then}
+use Rattle.ca_node.proofs.Ended.{IsEnd, shape', true_then}
 use Rattle.ca_node.proofs.Looking.{R, knows_upper, knows_ranges, in_more, whole, long, since_whole, past_whole, known_now, sized, starts_shorter}
 use Rattle.ca_node.proofs.OwnEnding.{few, goes, over_else, quiet_else, end_step}
 use Rattle.ca_node.proofs.OwnWord.{result_here}
@@ -82,6 +82,18 @@ module _ (z : Sizes) (s : State (Unit {0}) (View TreeView)) (r : R z s) (id : �
     is_over : decided_word begun.number last.row % sequence_unit ≢ row_limit
     is_over e = let l = small in omega arith
 
+    end : IsEnd z s r me.0.upper.number begun.number (decided_word begun.number last.row)
+    end = record {
+      lo = k.is_pass;
+      hi = hi;
+      hit = hit;
+      same_number = same_number;
+      is_over = is_over;
+      base = last.row;
+      base_is = base_is;
+      marked = marked;
+    }
+
     abbrev words' : List ℕ
     words' = set s.words (own_word s.words me.0.upper.number + 1) (decided_word begun.number last.row)
 
@@ -92,14 +104,14 @@ module _ (z : Sizes) (s : State (Unit {0}) (View TreeView)) (r : R z s) (id : �
     run_base = run_trues z r.made s.words (map upper_of s.views) r.above pass begun.number last.row now base_is marked
 
     run_true : (note : Note) → IsIn note the_run → IsTrue z.rows words' r.above.role note
-    run_true note i = true_then z s r pass begun.number (decided_word begun.number last.row) k.is_pass hi hit same_number is_over last.row base_is marked note
+    run_true note i = true_then z s r pass begun.number (decided_word begun.number last.row) end note
         (run_base note i).0
 
     -- Its run is linked.
     run_linked : (note : Note) → IsIn note the_run → IsLinked words' note.row
         × (IsBaseRow note.its → (row : ℕ) → IsIn row (items note.its) → IsLinked words' row)
     run_linked note i = let b = run_base note i in
-        let shape = shape' z s r pass begun.number (decided_word begun.number last.row) k.is_pass hi hit same_number is_over last.row base_is marked in (
+        let shape = shape' z s r pass begun.number (decided_word begun.number last.row) end in (
           placed_linked z words' role _ shape note.row note.place (ap place_of b.1),
           λ _ row j. item_linked z words' role _ shape note.row note.place b.1 row
               (subst (λ its. IsIn row (items its)) (sym (run_true note i).spells) j),
@@ -123,7 +135,7 @@ module _ (z : Sizes) (s : State (Unit {0}) (View TreeView)) (r : R z s) (id : �
         inventory = without border.row me.0.upper.inventory;
       })).0;
     }
-    decide_step = end_step z s r id me at k.is_pinned k.is_pass begun border k.own hit (decided_word begun.number last.row) same_number is_over last.row base_is marked
+    decide_step = end_step z s r id me at k.is_pinned k.is_pass begun border k.own (decided_word begun.number last.row) end
         (me.0.upper.seen ++ more) (subst (StartsWith f.history) (whole z s r id me at) (starts_whole f.history))
         (subst (λ (h : History). StartsWith h me.0.upper.since) (whole z s r id me at) (since_whole z s r id me at))
         (subst (λ (h : History). ArePast (length h) me.0.upper.log) (whole z s r id me at) (past_whole z s r id me at))
@@ -201,15 +213,27 @@ module _ (z : Sizes) (s : State (Unit {0}) (View TreeView)) (r : R z s) (id : �
       most : me.0.upper.number ≤ 64
       most = few z s r id me at k.is_pinned k.is_pass begun border k.own
 
+      given_end : IsEnd z s r me.0.upper.number begun.number (sequence_unit * begun.number)
+      given_end = record {
+        lo = k.is_pass;
+        hi = most;
+        hit = hit;
+        same_number = omega arith;
+        is_over = λ e. omega arith;
+        base = base.0;
+        base_is = base.1;
+        marked = base.2;
+      }
+
       pub abort_step : R z record {
         words = set s.words (own_word s.words me.0.upper.number + 1) (sequence_unit * begun.number);
         homes = s.homes;
         views = set s.views id (relinked me me.0.claims (aborted begun.number border.row me.0.upper)).0;
       }
-      abort_step = end_step z s r id me at k.is_pinned k.is_pass begun border k.own hit (sequence_unit * begun.number) (omega arith) (λ e. omega arith)
-          base.0 base.1 base.2 me.0.upper.seen (knows_upper z s r id me.0 at).seen_first (knows_upper z s r id me.0 at).since_first
+      abort_step = end_step z s r id me at k.is_pinned k.is_pass begun border k.own (sequence_unit * begun.number) given_end me.0.upper.seen
+          (knows_upper z s r id me.0 at).seen_first (knows_upper z s r id me.0 at).since_first
           (knows_upper z s r id me.0 at).past me.0.upper.ranges.run
-          (λ note i. true_then z s r pass begun.number (sequence_unit * begun.number) k.is_pass most hit (omega arith) (λ e. omega arith) base.0 base.1 base.2 note
+          (λ note i. true_then z s r pass begun.number (sequence_unit * begun.number) given_end note
           ((f.ranged.each id me.0.upper first).run note i))
           (λ note i. inl i)
           (λ row o. let d = o.3 in let here = sym (result_here z s r pass (sequence_unit * begun.number) k.is_pass most) ∙ d.4 in let l = d.3 in

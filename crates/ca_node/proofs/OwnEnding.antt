@@ -1,11 +1,10 @@
 -- A pass ends its own range, for which it marked something: it decides it, or gives it up; or it finds that another one had decided it.
-use Rattle.std.proofs.Common.{◌≡◌, ◌≢◌, ◌⊎◌, ℕ, ◌+◌, ◌/◌, ◌%◌, ◌<◌, ◌≤◌, true, List, length, map, set, sym, refl, ap, ◌∙◌, subst, inl, inr, ⊎_elim, arith}
+use Rattle.std.proofs.Common.{◌≡◌, ◌≢◌, ◌⊎◌, ℕ, ◌+◌, ◌<◌, ◌≤◌, true, List, length, map, set, sym, refl, ap, ◌∙◌, subst, inl, inr, ⊎_elim, arith}
 use mathlib.Core.Option.{some}
 use lib.ListN.{get_elem?}
 use Rattle.atomic_table.specs.Table.{State}
 use Rattle.atomic_table.proofs.Lists.{at_map}
 use Rattle.ca_model.specs.History.{History}
-use Rattle.ca_rows.specs.Layout.{row_limit}
 use Rattle.ca_rows.specs.Rule.{upper_of}
 use Rattle.ca_rows.specs.Told.{relinked}
 use Rattle.ca_rows.specs.Words.{own_word, result_of}
@@ -15,19 +14,18 @@ use Rattle.ca_runs.specs.Runs.{range_of}
 use Rattle.ca_runs.proofs.Keeping.{of_run}
 use Rattle.ca_node.specs.Endings.{active_word, over_up_to, without}
 use Rattle.ca_node.specs.Laws.{noted_more}
-use Rattle.ca_node.specs.Layout.{sequence_unit}
 use Rattle.ca_node.specs.Links.{IsIn, IsActive, HasBegun, IsLinked, IsOfOwnRun, IsNoted}
 use Rattle.ca_node.specs.OwnRanges.{ended_with_run}
 use Rattle.ca_node.specs.Ranging.{IsOver, IsSomeMarked, GoesOn, WasDecided, IsSoFar, IsRanging}
 use Rattle.ca_node.specs.RangesStay.{active_undecided}
-use Rattle.ca_node.specs.Row.{row_at, IsBaseRow, items, mark_bound, IsMarkedBy}
+use Rattle.ca_node.specs.Row.{row_at, IsBaseRow, items, mark_bound}
 use Rattle.ca_node.specs.Scenes.{IsBase, scene_of}
 use Rattle.ca_node.specs.Shape.{Role}
 use Rattle.ca_node.specs.Told.{MyTree}
 use Rattle.ca_node.specs.Tree.{StartsWith, ArePast, IsTrue, Knows, IsTree}
 use Rattle.ca_node.specs.TreeView.{Note, Border, Begun, Quiet, Marking, TreeView}
 use Rattle.ca_node.proofs.Deciding.{ends_step}
-use Rattle.ca_node.proofs.Ended.{not_active, began, shape', over_then, true_then, sequence_then, ranging_then}
+use Rattle.ca_node.proofs.Ended.{IsEnd, not_active, began, shape', over_then, true_then, sequence_then, ranging_then}
 use Rattle.ca_node.proofs.Helping.{over_behind}
 use Rattle.ca_node.proofs.Looking.{R, knows_upper, in_more}
 use Rattle.ca_node.proofs.OwnWord.{border_stays, run_before, base_linked, noted_before, knows_then}
@@ -83,9 +81,7 @@ module _ (z : Sizes) (s : State (Unit {0}) (View TreeView)) (r : R z s) (id : �
   other_number j y ne here same = ne ((knows_upper z s r id me.0 at).alone is_pass j y.upper (at_map upper_of s.views j y here) same)
 
   -- The exchange by which it ends it, behind which the seat has seen this history, and was shown this run.
-  module _ (hit : result_of s.words me.0.upper.number ≡ active_word begun.number) (word' : ℕ) (same_number : word' / sequence_unit ≡ begun.number)
-      (is_over : word' % sequence_unit ≢ row_limit) (base : ℕ) (base_is : IsBase r.above.role base)
-      (marked : IsMarkedBy (row_at s.words base) me.0.upper.number begun.number)
+  module _ (word' : ℕ) (end : IsEnd z s r me.0.upper.number begun.number word')
       (seen' : History) (seen_first' : StartsWith r.above.history seen') (since_first' : StartsWith seen' me.0.upper.since)
       (past' : ArePast (length seen') me.0.upper.log) (run' : List Note)
       (run_true : (note : Note) → IsIn note run' → IsTrue z.rows (set s.words (own_word s.words me.0.upper.number + 1) word') r.above.role note)
@@ -105,14 +101,15 @@ module _ (z : Sizes) (s : State (Unit {0}) (View TreeView)) (r : R z s) (id : �
     }
 
     -- The row that says up to where the range goes is the one that the seat remembers.
-    top_is : border.row ≡ mark_bound (row_at s.words base)
-    top_is = let on = goes hit in so.1 ∙ (sym on.0.2 ∙ sym (of_run (scene_of s.words role) (range_of f.ranged.ends pass begun.number) (f.ranged.runs.run pass) base
-        (f.ranged.runs.each pass begun.number (is_pass, few, hit))
-        (f.ranged.runs.whole pass begun.number base (is_pass, few, hit) base_is marked)).ends)
+    top_is : border.row ≡ mark_bound (row_at s.words end.base)
+    top_is = let on = goes end.hit in so.1 ∙ (sym on.0.2
+        ∙ sym (of_run (scene_of s.words role) (range_of f.ranged.ends pass begun.number) (f.ranged.runs.run pass) end.base
+        (f.ranged.runs.each pass begun.number (is_pass, few, end.hit))
+        (f.ranged.runs.whole pass begun.number end.base (is_pass, few, end.hit) end.base_is end.marked)).ends)
 
     own_knows : Knows z.rows r.made words' r.above.role (set (map upper_of s.views) id u') r.above.history id u'
     own_knows = let w = knows_then z s r pass word' is_pass few id me.0 at
-        (true_then z s r pass begun.number word' is_pass few hit same_number is_over base base_is marked) id me.0 at u' (λ _. refl) in record {
+        (true_then z s r pass begun.number word' end) id me.0 at u' (λ _. refl) in record {
           made_before = w.made_before;
           alone = w.alone;
           seen_first = seen_first';
@@ -129,13 +126,13 @@ module _ (z : Sizes) (s : State (Unit {0}) (View TreeView)) (r : R z s) (id : �
     own_ranging = record {
       over = λ x i. ⊎_elim
           (λ (e : over_up_to pass begun.number ≡ x). subst (IsOver words') e (over_behind words' pass begun.number
-          (began z s r pass begun.number word' is_pass few hit same_number is_over base base_is marked pass begun.number had_begun)
-          (not_active z s r pass begun.number word' is_pass few hit same_number is_over base base_is marked begun.number)))
-          (λ o. over_then z s r pass begun.number word' is_pass few hit same_number is_over base base_is marked x (known.over x o))
+          (began z s r pass begun.number word' end pass begun.number had_begun)
+          (not_active z s r pass begun.number word' end begun.number)))
+          (λ o. over_then z s r pass begun.number word' end x (known.over x o))
           (in_more (over_up_to pass begun.number) x me.0.upper.ranges.over i);
       borders = λ b i. border_stays z s r pass word' is_pass few b (known.borders b i);
-      own = λ _ n. not_active z s r pass begun.number word' is_pass few hit same_number is_over base base_is marked n;
-      sequence = λ n lo is. sequence_then z s r pass begun.number word' is_pass few hit same_number is_over base base_is marked pass n lo (known.sequence n lo is);
+      own = λ _ n. not_active z s r pass begun.number word' end n;
+      sequence = λ n lo is. sequence_then z s r pass begun.number word' end pass n lo (known.sequence n lo is);
       run = run_true;
     }
 
@@ -146,7 +143,7 @@ module _ (z : Sizes) (s : State (Unit {0}) (View TreeView)) (r : R z s) (id : �
     own_notes row n = ⊎_elim
         (λ w. noted_before z s r pass word' is_pass few id me.0 at (IsLinked words')
         (λ c o. ⊎_elim (λ v. inl v) (λ b. inr (base_linked z s r pass word' is_pass few
-        (shape' z s r pass begun.number word' is_pass few hit same_number is_over base base_is marked) c b)) (own_run c o)) row w)
+        (shape' z s r pass begun.number word' end) c b)) (own_run c o)) row w)
         (λ l. inr l)
         (noted_more words' me.0.upper u' (IsLinked words') (λ x i. i) (λ x i. i) (λ x i. inl i) (λ c o. absurd (no_run c o)) run_linked row n)
 
@@ -159,8 +156,8 @@ module _ (z : Sizes) (s : State (Unit {0}) (View TreeView)) (r : R z s) (id : �
         inventory = without border.row me.0.upper.inventory;
       })).0;
     }
-    end_step = ends_step z s r id me at pass begun.number word' is_pass few hit same_number is_over base base_is marked u' is_pinned is_pass
+    end_step = ends_step z s r id me at pass begun.number word' end u' is_pinned is_pass
         (ap (λ b. without b me.0.upper.inventory) top_is) own_notes own_knows own_ranging (λ _. refl)
         (λ j y ne here row o. inl (run_before z s r pass word' is_pass few j y here (other_number j y ne here) row o))
-        (λ j y ne here. ranging_then z s r pass begun.number word' is_pass few hit same_number is_over base base_is marked j y.upper
+        (λ j y ne here. ranging_then z s r pass begun.number word' end j y.upper
         (at_map upper_of s.views j y here) (other_number j y ne here))

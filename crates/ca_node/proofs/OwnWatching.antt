@@ -172,7 +172,8 @@ module _ (z : Sizes) (s : State (Unit {0}) (View TreeView)) (r : R z s) (id : �
   )
   found (Unmarked begun) is = let so = subst (IsSoFar z s.words role (f.ranged.ends pass) u.since f.history pass u.ranges.borders) is (known.own is_pass) in
       (numbered_by n u, number_learnt, (sym same ∙ so.0.0.2, refl))
-  found (Marking begun border) is = let so = subst (IsSoFar z s.words role (f.ranged.ends pass) u.since f.history pass u.ranges.borders) is (known.own is_pass) in
+  found (Marking begun border) is =
+      let so = subst (IsSoFar z s.words role (f.ranged.ends pass) u.since f.history pass u.ranges.borders) is (known.own is_pass) in
       ⊎_elim
       (λ on. (numbered_by n u, number_learnt, inl (sym same ∙ on.0.0.2, refl)))
       (λ (was : WasDecided z s.words r.above.role me.0.upper.since r.above.history me.0.upper.number begun border.its).

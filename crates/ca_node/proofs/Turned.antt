@@ -164,7 +164,8 @@ module _ (z : Sizes) (s : State (Unit {0}) (View TreeView)) (r : R z s) (pass wo
       (quiet' : (p n : ℕ) → ¬ IsActive (set s.words (own_word s.words pass + 1) word') p n)
       (own_notes : (row : ℕ) → IsNoted (set s.words (own_word s.words pass + 1) word') u' row → IsNoted s.words d.upper row)
       (own_knows : Knows z.rows r.made (set s.words (own_word s.words pass + 1) word') r.above.role (set (map upper_of s.views) id u') r.above.history id u')
-      (own_ranging : IsRanging z (set s.words (own_word s.words pass + 1) word') r.above.role (ends' u'.number) u'.since r.above.history u'.number u'.ranges) where
+      (own_ranging : IsRanging z (set s.words (own_word s.words pass + 1) word') r.above.role (ends' u'.number) u'.since r.above.history u'.number
+      u'.ranges) where
     other : (j : ℕ) (y : View TreeView) → j ≢ id → get_elem? s.views j ≡ some y → y.upper.number ≢ pass
     other j y ne here e = ne ((knows_upper z s r id d at).alone (subst (λ n. 0 < n) (sym mine) lo) j y.upper (at_map upper_of s.views j y here) (e ∙ sym mine))
 

@@ -1,18 +1,14 @@
 -- How byte lists compare, a word of eight bytes at a time.
-use Rattle.std.proofs.Common.{◌≡◌, ◌≢◌, ◌⊎◌, ℕ, zero, suc, ◌+◌, ◌-◌, ◌*◌, ◌%◌, ◌^◌, ◌<◌, ◌≤◌, List, [], ◌∷◌, ◌++◌, length, min, get_or, take, drop, sym, refl, ap, ◌∙◌, inl, inr, ⊎_elim, arith, length-drop, length-append}
-use Rattle.std.proofs.Math.ListN.{drop_of_length-le}
-use Rattle.std.proofs.Math.Nat.{eq-or-lt_of_le, mod-eq_of_lt}
+use Rattle.std.proofs.Common.{◌≡◌, ◌≢◌, ℕ, zero, suc, ◌+◌, ◌*◌, ◌<◌, ◌≤◌, List, [], ◌∷◌, ◌++◌, length, get_or, take, drop, sym, refl, ap, ◌∙◌, arith, length-drop, length-append}
 use Rattle.std.proofs.Math.Seq.{take-append_seam, drop-append-add}
-use Rattle.std.proofs.lemmas.List.{length-take-le, take-take, take_all, drop-drop, drop-take, get_or-drop}
-use Rattle.std.specs.Cmp.{ranked}
+use Rattle.std.proofs.lemmas.List.{take-take, get_or-drop}
 use Rattle.std.specs.declared.cmp.Ordering.{Ordering}
 use Rattle.std.specs.declared.cmp.Ordering.TheVariants.{Less, Equal, Greater}
 use Rattle.std.specs.Int.{to_be_bytes, w64}
 use Rattle.std.specs.Ordering.{nat_cmp, ordering_then}
-use Rattle.ca_term.proofs.Bytes.{same_bytes}
-use Rattle.ca_term.proofs.Numbers.{less, same, high_first_cmp, length_high_first}
+use Rattle.ca_term.proofs.Numbers.{less, same, length_high_first}
 use Rattle.ca_model.specs.StoreMap.{bytes_cmp}
-use Rattle.ca_node.specs.Row.{bytes_in, count, route_key}
+use Rattle.ca_node.specs.Row.{bytes_in}
 use Rattle.ca_rows.specs.Layout.{row_words}
 use Rattle.ca_node.specs.Layout.{key_word}
 
@@ -55,14 +51,6 @@ pub nothing_first : (ys : List ℕ) → nat_cmp 0 (length ys) ≡ bytes_cmp [] y
 nothing_first [] = same 0
 nothing_first (y ∷ ys) = less 0 (suc (length ys)) (omega arith)
 
--- Two words compare as their bytes do.
-pub words_compare : (m n : ℕ) → m < 2 ^ 64 → n < 2 ^ 64
-    → bytes_cmp (to_be_bytes w64 m) (to_be_bytes w64 n) ≡ nat_cmp m n
-words_compare m n lm ln =
-    high_first_cmp 8 m n
-    ∙ (ap (λ (k : ℕ). nat_cmp k (n % 256 ^ 8)) (mod-eq_of_lt {n = m} {m = 256 ^ 8} lm)
-    ∙ ap (nat_cmp m) (mod-eq_of_lt {n = n} {m = 256 ^ 8} ln))
-
 -- Eight bytes at a place are one word's.
 pub word_part : (words : List ℕ) (i : ℕ) → i < length words
     → take 8 (drop (8 * i) (bytes_in words)) ≡ to_be_bytes w64 (get_or words i 0)
@@ -85,109 +73,11 @@ bytes_long [] = refl
 bytes_long (x ∷ xs) = let one = length_high_first 8 x in let rest = bytes_long xs in
     omega (arith, length-append (to_be_bytes w64 x) (bytes_in xs))
 
--- Up to a word a route's key is equal to another key.
-abbrev pub IsLeft : List ℕ → List ℕ → ℕ → Type 0
-IsLeft its key i = bytes_cmp (route_key its) key
-    ≡ bytes_cmp (drop (8 * i) (route_key its)) (drop (8 * i) key)
-
--- A route's words, of which so many bytes are its key.
-module _ (its : List ℕ) (long : length its ≡ row_words) (short : count its ≤ 1000) where
-  -- The key has as many bytes as the first word says.
-  pub key_long : length (route_key its) ≡ count its
-  key_long =
-      length-take-le (count its) (bytes_in (drop key_word its)) (omega (
-        arith,
-        bytes_long (drop key_word its),
-        length-drop key_word its,
-      ))
-
-  -- The first bytes at a word's place are those of the word.
-  pub key_part : (i n : ℕ) → n ≤ 8 → 8 * i + n ≤ count its → i < 125
-      → take n (drop (8 * i) (route_key its)) ≡ take n (to_be_bytes w64 (get_or its (key_word + i) 0))
-  key_part i n few inside low =
-      let left : count its ≡ 8 * i + (count its - 8 * i) = omega arith in
-      ap (λ (k : ℕ). take n (drop (8 * i) (take k (bytes_in (drop key_word its))))) left
-      ∙ (ap (take n) (drop-take (8 * i) (count its - 8 * i) (bytes_in (drop key_word its)))
-      ∙ (take-take n (count its - 8 * i) (drop (8 * i) (bytes_in (drop key_word its))) (omega arith)
-      ∙ (sym (take-take n 8 (drop (8 * i) (bytes_in (drop key_word its))) few)
-      ∙ ap (take n) (word_part (drop key_word its) i (omega (arith, length-drop key_word its))
-      ∙ ap (to_be_bytes w64) (get_or-drop key_word its i 0)))))
-
-  -- Eight bytes of the key are those of a word.
-  whole_part : (i : ℕ) → 8 * i + 8 ≤ count its
-      → take 8 (drop (8 * i) (route_key its)) ≡ to_be_bytes w64 (get_or its (key_word + i) 0)
-  whole_part i inside = let b = length_high_first 8 (get_or its (key_word + i) 0) in
-      key_part i 8 (omega arith) inside (omega arith)
-      ∙ take_all 8 (to_be_bytes w64 (get_or its (key_word + i) 0)) (omega arith)
-
-  -- A word of the route, and eight bytes of the other key at the same place.
-  module _ (key : List ℕ) (i word other : ℕ) (inside : 8 * i + 8 ≤ count its)
-      (is : word ≡ get_or its (key_word + i) 0) (fits : word < 2 ^ 64)
-      (fits_too : other < 2 ^ 64) (has : to_be_bytes w64 other ≡ take 8 (drop (8 * i) key))
-      (left : IsLeft its key i) where
-    -- The eight bytes of both compare as the two numbers.
-    fronts : bytes_cmp (take 8 (drop (8 * i) (route_key its))) (take 8 (drop (8 * i) key))
-        ≡ nat_cmp word other
-    fronts = ap (λ (xs : List ℕ). bytes_cmp xs (take 8 (drop (8 * i) key))) (whole_part i inside
-        ∙ ap (to_be_bytes w64) (sym is))
-        ∙ (ap (bytes_cmp (to_be_bytes w64 word)) (sym has) ∙ words_compare word other fits fits_too)
-
-    -- Where the next words differ, they decide.
-    pub word_decides : word ≢ other → nat_cmp word other ≡ bytes_cmp (route_key its) key
-    word_decides not = sym (left
-        ∙ (parts_decide 8 (drop (8 * i) (route_key its)) (drop (8 * i) key)
-        (λ e. not (ranked word other Equal (sym (sym fronts ∙ e))))
-        ∙ fronts))
-
-    -- Where they are equal, the keys are equal a word further.
-    pub word_passes : word ≡ other → IsLeft its key (i + 1)
-    word_passes e =
-        let along : 8 * i + 8 ≡ 8 * (i + 1) = omega arith in
-        let whole : drop 8 (drop (8 * i) (route_key its)) ≡ drop (8 * (i + 1)) (route_key its) =
-        drop-drop 8 (8 * i) (route_key its) ∙ ap (λ (k : ℕ). drop k (route_key its)) along in
-        let rest : drop 8 (drop (8 * i) key) ≡ drop (8 * (i + 1)) key = drop-drop 8 (8 * i) key
-        ∙ ap (λ (k : ℕ). drop k key) along in
-        left ∙ (rests_decide 8 (drop (8 * i) (route_key its)) (drop (8 * i) key) (fronts
-        ∙ (ap (λ (k : ℕ). nat_cmp k other) e ∙ same other))
-        ∙ (ap (λ (xs : List ℕ). bytes_cmp xs (drop 8 (drop (8 * i) key))) whole
-        ∙ ap (bytes_cmp (drop (8 * (i + 1)) (route_key its))) rest))
-
-  -- Nothing is left of the route's key.
-  pub none_left : (i : ℕ) (rest : List ℕ) → count its - 8 * i ≡ 0
-      → nat_cmp 0 (length rest) ≡ bytes_cmp (drop (8 * i) (route_key its)) rest
-  none_left i rest none = nothing_first rest
-      ∙ ap (λ (xs : List ℕ). bytes_cmp xs rest)
-      (sym (drop_of_length-le (route_key its) (omega (arith, key_long))))
-
-  -- Less than eight bytes are left of one of both: the bytes of one word decide.
-  pub rest_decides : (i n word : ℕ) (rest : List ℕ) → n ≡ min (count its - 8 * i) 8 → n ≢ 0
-      → word ≡ get_or its (key_word + i) 0
-      → count its < 8 * i + 8 ⊎ length rest < 8
-      → bytes_cmp (take n (to_be_bytes w64 word)) rest
-      ≡ bytes_cmp (drop (8 * i) (route_key its)) rest
-  rest_decides i n word rest e some is few =
-      ap (λ (xs : List ℕ). bytes_cmp xs rest) (ap (λ (w : ℕ). take n (to_be_bytes w64 w)) is
-      ∙ sym (key_part i n (omega arith) (omega arith) (omega arith)))
-      ∙ by (eq-or-lt_of_le (least e))
-    where
-      least : n ≡ min (count its - 8 * i) 8 → n ≤ count its - 8 * i
-      least e = omega arith
-
-      key : List ℕ
-      key = drop (8 * i) (route_key its)
-
-      by : (n ≡ count its - 8 * i) ⊎ (n < count its - 8 * i)
-          → bytes_cmp (take n key) rest ≡ bytes_cmp key rest
-      by (inl all) = ap
-          (λ (xs : List ℕ). bytes_cmp xs rest)
-          (take_all n key (omega (arith, key_long, length-drop (8 * i) (route_key its))))
-      by (inr more) = ⊎_elim (λ (l : count its < 8 * i + 8). absurd (omega arith))
-          (λ (l : length rest < 8). let eight : n ≡ 8 = omega arith in
-          let long_enough : length (take n key) ≡ n =
-          length-take-le n key (omega (arith, key_long, length-drop (8 * i) (route_key its))) in
-          let all : take n rest ≡ rest = take_all n rest (omega arith) in
-          let differ : bytes_cmp (take n key) rest ≢ Equal = λ q.
-          let sizes = ap (λ (xs : List ℕ). length xs) (same_bytes (take n key) rest q) in
-          omega arith in
-          sym (parts_decide n key rest (λ q. differ (ap (bytes_cmp (take n key)) (sym all) ∙ q))
-          ∙ ap (bytes_cmp (take n key)) all)) few
+-- The first bytes at the place of a word of a route are those of the word.
+pub route_part : (its : List ℕ) (i n word : ℕ) → length its ≡ row_words → n ≤ 8 → i < 125
+    → word ≡ get_or its (key_word + i) 0
+    → take n (to_be_bytes w64 word) ≡ take n (drop (8 * i) (bytes_in (drop key_word its)))
+route_part its i n word long few low is =
+    ap (λ (w : ℕ). take n (to_be_bytes w64 w)) (is ∙ sym (get_or-drop key_word its i 0))
+    ∙ (ap (take n) (sym (word_part (drop key_word its) i (omega (arith, length-drop key_word its))))
+    ∙ take-take n 8 (drop (8 * i) (bytes_in (drop key_word its))) few)

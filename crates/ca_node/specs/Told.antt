@@ -106,7 +106,8 @@ pub record IsLedToBase (walks : Bool) (link : ℕ) (m : MyTree) (n : ℕ) (m' : 
   pub row_is : note.row ≡ n
   pub place : IsPlaceOf m.0.upper link note.place
   pub has : HasState m.0.sizes (led_to_base m.0.upper more note (come_to walks m.0.upper note) (come_at walks m.0.upper)) note
-  pub known : 0 < m.0.sizes.rows → IsBaseNote m.0.sizes note × IsKnown m.0.sizes (led_to_base m.0.upper more note (come_to walks m.0.upper note) (come_at walks m.0.upper))
+  pub known : 0 < m.0.sizes.rows → IsBaseNote m.0.sizes note
+      × IsKnown m.0.sizes (led_to_base m.0.upper more note (come_to walks m.0.upper note) (come_at walks m.0.upper))
   pub listed : 0 < m.0.sizes.rows → IsAlone m.0.sizes m.0.upper → IsListed m.0.upper.inventory note
 
 -- The link was loaded: it names this route.

@@ -1,6 +1,7 @@
 -- Walks from the root link to a base.
-use Rattle.std.specs.Prelude.{◌≡◌, ◌≢◌, ◌⊎◌, Bool, true, false, not, ℕ, ◌+◌, ◌*◌, ◌<◌, ◌≤◌, List, ◌∷◌, ◌++◌, length, Option, None, Some}
+use Rattle.std.specs.Prelude.{◌≡◌, ◌≢◌, ◌⊎◌, Bool, true, false, not, ℕ, ◌+◌, ◌-◌, ◌*◌, ◌<◌, ◌≤◌, List, ◌∷◌, ◌++◌, length, take, drop, Option, None, Some}
 use Rattle.std.specs.declared.cmp.Ordering.TheVariants.{Less, Greater}
+use Rattle.std.specs.Int.{to_be_bytes, w64}
 use Rattle.std.specs.Ordering.{is_lt, is_gt}
 use Rattle.ca_model.specs.Edges.{Bound, Unbounded, Included, Excluded}
 use Rattle.ca_model.specs.History.{History}
@@ -43,6 +44,25 @@ IsSought spot.Last span = span.high ≡ Unbounded
 -- what a seat knows after a walk: a base was shown to it, and the routes on the way there
 abbrev pub walked : TreeView → History → Note → List Way → ℕ → TreeView
 walked u more note ways loads = record u { seen = u.seen ++ more; notes = note ∷ u.notes; ways = ways ++ u.ways; loads = u.loads + loads; last = note; shown = u.loads + loads }
+
+-- Up to so many bytes two keys are equal: what is behind them tells how they stand.
+abbrev pub AreAlikeUpTo : ℕ → List ℕ → List ℕ → Type 0
+AreAlikeUpTo n key other = bytes_cmp key other ≡ bytes_cmp (drop n key) (drop n other)
+
+-- The word begins with the bytes of the key, eight where there are as many.
+abbrev pub BeginsWith : List ℕ → ℕ → Type 0
+BeginsWith key word = take (length key) (to_be_bytes w64 word) ≡ take 8 key
+
+-- The word begins with the bytes of the key from a place on, eight where there are as many.
+abbrev pub HasBytesFrom : List ℕ → ℕ → ℕ → Type 0
+HasBytesFrom key from word = take (length key - from) (to_be_bytes w64 word) ≡ take 8 (drop from key)
+
+-- So does the word of the key that tells which base is looked for, if there is one.
+abbrev pub HasFront : Spot → ℕ → Type 0
+HasFront spot.First word = Unit {0}
+HasFront (spot.At key) word = BeginsWith key.now word
+HasFront (spot.Below key) word = BeginsWith key.now word
+HasFront spot.Last word = Unit {0}
 
 -- The pass was shown the route with these words.
 pub record IsRouteShown (u : TreeView) (row : ℕ) (its : List ℕ) : Type 0 where

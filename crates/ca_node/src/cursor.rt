@@ -3,11 +3,11 @@ ghost use Rattle.std.specs.Prelude.{◌≡◌, ◌+◌, ◌≤◌, ℕ, List, tr
 ghost use Rattle.ca_node.specs.Row.{route_key};
 ghost use Rattle.ca_node.specs.Told.{MyTree};
 ghost use Rattle.ca_node.specs.Place.{Span};
-ghost use Rattle.ca_node.specs.Walking.{IsBegin, IsSought, IsWalked, IsAtRoute, IsWalking, IsRouteShown, IsSide};
+ghost use Rattle.ca_node.specs.Walking.{IsBegin, IsSought, HasFront, IsWalked, IsAtRoute, IsWalking, IsRouteShown, IsSide};
 ghost use Rattle.ca_rows.specs.Passes.{OnlyReads, IsReading, KeepsList, sizes, known, view};
 ghost use Rattle.ca_node.specs.TreePasses.{tree_of};
 
-use crate::comparing::compare;
+use crate::comparing::{compare, top_of};
 use crate::layout::{FORM, ROUTE};
 use crate::link::Link;
 use crate::rule::{TreePass, TreeSpace};
@@ -42,6 +42,8 @@ pub struct Cursor {
 
 /// Walks to the base that is looked for, from the root link down: at a route, a key below its key goes left, any other one right, and where the
 /// keys right below one are looked for, that one goes left at its own key, too. It loads at most one link more than there are levels.
+// It is inlined with all that it calls, since each caller knows whether it looks for a key: so a step down is half as many instructions.
+#[inline(always)]
 pub fn walk(space: &TreeSpace, pass: &mut TreePass, spot: Spot<'_>) -> Cursor
     requires reading { IsReading space.now pass.old }
     ensures frame { KeepsList pass.old pass.new }
@@ -60,12 +62,14 @@ pub fn walk(space: &TreeSpace, pass: &mut TreePass, spot: Spot<'_>) -> Cursor
 
 /// The same from the link of this cursor down, to which what is looked for is led: it is the root link, or one of a route that is remembered as living.
 /// The link is loaded anew, whichever base the cursor is at.
+#[inline(always)]
 pub fn walk_from(space: &TreeSpace, pass: &mut TreePass, from: Cursor, spot: Spot<'_>) -> Cursor
     requires reading { IsReading space.now pass.old }
     requires begins { (span : Span) × IsBegin (sizes space.now) (tree_of pass.old) span from × IsSought spot span }
     ensures frame { KeepsList pass.old pass.new }
     ensures walked { IsWalked (sizes space.now) spot.entry (known pass.old) result (known pass.new) }
 {
+    let front = front_of(spot);
     let base = descend(space, pass, from.link);
     let mut cursor = Cursor { base, ..from };
     loop {
@@ -74,13 +78,34 @@ pub fn walk_from(space: &TreeSpace, pass: &mut TreePass, from: Cursor, spot: Spo
             let level = (word / 65_536 % 65_536) as u16;
             return Cursor { level, ..cursor };
         }
-        cursor = go_down(space, pass, cursor, spot);
+        cursor = go_down(space, pass, cursor, spot, front);
+    }
+}
+
+// The first eight bytes of the key that tells which base is looked for, as a word, if there is one.
+#[inline(always)]
+fn front_of(spot: Spot<'_>) -> u64
+    ensures { HasFront spot.entry result }
+{
+    match spot {
+        Spot::First => 0,
+        Spot::At(key) => top_of(key),
+        Spot::Below(key) => top_of(key),
+        Spot::Last => 0,
     }
 }
 
 // One step down, from a route to the row that one of its links names.
-fn go_down(space: &TreeSpace, pass: &mut TreePass, cursor: Cursor, spot: Spot<'_>) -> Cursor
+#[inline(always)]
+fn go_down(
+    space: &TreeSpace,
+    pass: &mut TreePass,
+    cursor: Cursor,
+    spot: Spot<'_>,
+    front: u64,
+) -> Cursor
     requires reading { IsReading space.now pass.old }
+    requires front { HasFront spot front }
     requires at { (m : MyTree) × IsAtRoute (sizes space.now) spot m cursor (known pass.old) }
     ensures frame { KeepsList pass.old pass.new }
     ensures pinned { (view pass.new).pin ≡ (view pass.old).pin }
@@ -91,7 +116,7 @@ fn go_down(space: &TreeSpace, pass: &mut TreePass, cursor: Cursor, spot: Spot<'_
 {
     let route = cursor.base;
     let above = Some(cursor.link);
-    if goes_left(space, pass, route, spot) {
+    if goes_left(space, pass, route, spot, front) {
         Cursor {
             base: descend(space, pass, Link::Left(route)),
             link: Link::Left(route),
@@ -111,8 +136,10 @@ fn go_down(space: &TreeSpace, pass: &mut TreePass, cursor: Cursor, spot: Spot<'_
 }
 
 // Whether what is looked for is left of a route's key.
-fn goes_left(space: &TreeSpace, pass: &mut TreePass, route: u32, spot: Spot<'_>) -> bool
+#[inline(always)]
+fn goes_left(space: &TreeSpace, pass: &mut TreePass, route: u32, spot: Spot<'_>, front: u64) -> bool
     requires reading { IsReading space.now pass.old }
+    requires front { HasFront spot front }
     requires inside { route ≤ (sizes space.now).rows }
     requires shown { (its : List ℕ) × IsRouteShown (tree_of pass.old) route its }
     ensures frame { OnlyReads pass.old pass.new }
@@ -120,8 +147,8 @@ fn goes_left(space: &TreeSpace, pass: &mut TreePass, route: u32, spot: Spot<'_>)
 {
     match spot {
         Spot::First => true,
-        Spot::At(key) => compare(space, pass, route, key).is_gt(),
-        Spot::Below(key) => compare(space, pass, route, key).is_ge(),
+        Spot::At(key) => compare(space, pass, route, key, front).is_gt(),
+        Spot::Below(key) => compare(space, pass, route, key, front).is_ge(),
         Spot::Last => false,
     }
 }

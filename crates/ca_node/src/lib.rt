@@ -20,6 +20,7 @@ mod tallying;
 mod view;
 
 pub use closing::close_words;
+pub use comparing::{compare_tops, top_of};
 pub use cursor::{Cursor, Spot, walk, walk_from};
 pub use exchange::{divide_base, replace_base};
 pub use handed::Front;

@@ -38,8 +38,8 @@ pub fn leave_range<K: Owning>(space: &TreeSpace, pass: &mut TreePass, number: u6
     space.swap::<LeaveOwn<K>>(pass, word, idle + ROW_LIMIT, idle);
 }
 
-/// One exchange of how far the pass's own range is, which `K` names: it is decided, with a base that it marked as the last one of its run, which is shown. False
-/// exactly where another pass had decided it; then `load_own_status` tells with which base.
+/// One exchange of how far the pass's own range is, which `K` names: it is decided, with a base that it marked as the last one of its run, which is shown.
+/// False exactly where another pass had decided it; then `load_own_status` tells with which base.
 pub fn decide_own<K: Owning>(space: &TreeSpace, pass: &mut TreePass, number: u64, last: u32) -> bool
     requires owner { IsOwner space.now pass.old }
     requires ending { IsOwnEnding (known pass.old) K.begun K.border K.last }
@@ -54,7 +54,8 @@ pub fn decide_own<K: Owning>(space: &TreeSpace, pass: &mut TreePass, number: u64
     space.swap::<DecideOwn<K>>(pass, word, active, decided)
 }
 
-/// One exchange by which the pass gives its own range up, for which it had marked a base. False exactly where another pass had decided it; either way it is over.
+/// One exchange by which the pass gives its own range up, for which it had marked a base. False exactly where another pass had decided it; either way it is
+/// over.
 pub fn abort_own<K: Owning>(space: &TreeSpace, pass: &mut TreePass, number: u64) -> bool
     requires owner { IsOwner space.now pass.old }
     requires giving { IsGivingUp (known pass.old) K.begun K.border }

@@ -119,7 +119,8 @@ impl Play<(), View<Knowledge>> for WatchOwn {
     ghost then = { WatchesOwn };
 }
 
-/// Which range of its own a pass ends: as it was begun, the row that says up to where it goes, and the base with which it decides it. It exists in proofs alone.
+/// Which range of its own a pass ends: as it was begun, the row that says up to where it goes, and the base with which it decides it. It exists in proofs
+/// alone.
 pub trait Owning {
     ghost begun: { Begun };
 

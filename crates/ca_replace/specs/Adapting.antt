@@ -97,21 +97,31 @@ HasLookedAgain z a u v = (v.renewal ≡ u.renewal) × HasTriedThere z v a
 abbrev pub HasAdapted : Sizes → Tuning → ℤ → Adapted → TreeView → TreeView → Type 0
 HasAdapted z t statistic a u v = (v.renewal ≡ u.renewal) × IsAdapted z t statistic v a
 
--- Since this update was carried out the pass lost an exchange, found the pool's head empty, or found its tag at the last value: what the answer says
--- of the base that was not split. So much was met of the pool until now, and so many exchanges of a link were lost.
+-- Since this update was carried out the pool's head was found empty so many times more, and so many times more with its tag at the last value, and so many
+-- exchanges more of a link were lost. So much was met of the pool until now, and so many exchanges of a link were lost.
+abbrev pub HasMetMore : ℕ → ℕ → ℕ → Renewal → Met → ℕ → Type 0
+HasMetMore empty worn links r now lost = (now.empty ≡ r.met.empty + empty) × (now.worn ≡ r.met.worn + worn) × (lost ≡ r.lost + links)
+
+-- Nothing was met since then, and no exchange was lost.
+abbrev pub HasMetNothing : Renewal → Met → ℕ → Type 0
+HasMetNothing r now lost = HasMetMore 0 0 0 r now lost × (now.lost ≡ r.met.lost)
+
+-- By what the answer says of the new base this was met since then: where nothing was tried, or the base was split by the one try, nothing. Where the try
+-- came to nothing the pass met what the answer says, an empty head or a worn tag once, and nothing else but exchanges of the head that were lost as rows
+-- were put back.
 abbrev pub IsMetSince : Adapted → Renewal → Met → ℕ → Type 0
-IsMetSince adapted.Stay r now lost = Unit {0}
-IsMetSince adapted.Split r now lost = Unit {0}
+IsMetSince adapted.Stay r now lost = HasMetNothing r now lost
+IsMetSince adapted.Split r now lost = HasMetNothing r now lost
 IsMetSince adapted.Joined r now lost = Unit {0}
 IsMetSince (adapted.NotSplit why.Root) r now lost = Unit {0}
-IsMetSince (adapted.NotSplit why.OneObject) r now lost = Unit {0}
-IsMetSince (adapted.NotSplit why.AtLevel) r now lost = Unit {0}
+IsMetSince (adapted.NotSplit why.OneObject) r now lost = HasMetNothing r now lost
+IsMetSince (adapted.NotSplit why.AtLevel) r now lost = HasMetNothing r now lost
 IsMetSince (adapted.NotSplit why.SiblingRoute) r now lost = Unit {0}
 IsMetSince (adapted.NotSplit why.TooMany) r now lost = Unit {0}
 IsMetSince (adapted.NotSplit why.Taken) r now lost = Unit {0}
-IsMetSince (adapted.NotSplit why.Lost) r now lost = (r.met.lost < now.lost) ⊎ (r.lost < lost)
-IsMetSince (adapted.NotSplit why.NoRow) r now lost = r.met.empty < now.empty
-IsMetSince (adapted.NotSplit why.Worn) r now lost = r.met.worn < now.worn
+IsMetSince (adapted.NotSplit why.Lost) r now lost = (HasMetMore 0 0 0 r now lost × (r.met.lost < now.lost)) ⊎ HasMetMore 0 0 1 r now lost
+IsMetSince (adapted.NotSplit why.NoRow) r now lost = HasMetMore 1 0 0 r now lost
+IsMetSince (adapted.NotSplit why.Worn) r now lost = HasMetMore 0 1 0 r now lost
 IsMetSince (adapted.NotJoined why) r now lost = Unit {0}
 
 -- So it did since its last update.

@@ -111,6 +111,7 @@ pub(crate) fn note_stop(adapting: &mut Adapting, why: Stop)
 }
 
 // Does what is due to a base that was just put in place, which has this statistic. A due join isn't tried as yet.
+#[tactic(auto, using(crate::proofs::DueCauses::new_met))]
 fn adapt(
     tree: &Tree,
     pass: &mut TreePass,

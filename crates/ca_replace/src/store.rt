@@ -40,6 +40,8 @@ pub struct TreeStore<'t> {
     tree: &'t Tree,
     pass: TreePass,
     last: Last,
+    // What `change` hands to a function, which writes the new object into it. It is kept, since a kilobyte would be cleared for each call's own.
+    room: Code,
 }
 
 impl<'t> Model for TreeStore<'t> {
@@ -61,6 +63,7 @@ impl Drop for TreeStore<'_> {
             tree: _,
             pass: _,
             last: _,
+            room: _,
         } = self;
     }
 }
@@ -75,7 +78,12 @@ impl TreeStore<'_> {
             statistic: 0,
             adapted: Adapted::Stay,
         };
-        TreeStore { tree, pass, last }
+        TreeStore {
+            tree,
+            pass,
+            last,
+            room: Code::new(),
+        }
     }
 
     /// The pass, which may be made a store again.
@@ -88,6 +96,7 @@ impl TreeStore<'_> {
             tree: _,
             pass,
             last: _,
+            room: _,
         } = self;
         pass
     }
@@ -289,9 +298,8 @@ impl TreeStore<'_> {
     {
         let what = &ChangeCall { key, f };
         let order = Order { what, budget };
-        let mut new = Code::new();
         let (pass, last) = (&mut self.pass, &mut self.last);
-        let outcome = call(self.tree, pass, &order, &mut *old, &mut new, last);
+        let outcome = call(self.tree, pass, &order, &mut *old, &mut self.room, last);
         empty_if_refused(&outcome, old);
         outcome
     }

@@ -108,6 +108,15 @@ impl KeptRows {
         self.rows[at as usize].form
     }
 
+    // Takes the row at a place out; those behind it move up.
+    pub(crate) fn take_out(&mut self, at: u32)
+        requires { at < vec_len self.old.rows }
+        ensures rows { self.new.rows.items ≡ take at self.old.rows.items ++ drop (at + 1) self.old.rows.items }
+        ensures room { vec_capacity self.new.rows ≡ vec_capacity self.old.rows }
+    {
+        self.rows.remove(at as usize);
+    }
+
     // Takes the rows from a place to another one out; those behind them move up.
     pub(crate) fn cut(&mut self, at: u32, end: u32)
         requires { (at ≤ end) × (end ≤ vec_len self.old.rows) }

@@ -56,7 +56,7 @@ impl<R: RowRule> Space<R> {
         };
         let row = pass.kept.row(at);
         self.reuse_as::<Brand>(pass, row);
-        pass.kept.cut(at, at + 1);
+        pass.kept.take_out(at);
         Some(row)
     }
 }

@@ -3,7 +3,9 @@ ghost use Rattle.std.specs.Prelude.{◌≡◌, ◌<◌, ◌≤◌, false};
 ghost use Rattle.ca_rows.specs.Calls.{IsOf, IsNumbered};
 
 use crate::trees::ZERO;
-use ca_node::{RangeState, Spot, TreePass, TreeSpace, load_status, load_word, walk};
+use ca_node::{
+    RangeState, Spot, TreePass, TreeSpace, load_own_status, load_status, load_word, walk,
+};
 use ca_rows::Starts;
 
 // The root's base, and its first word.
@@ -40,6 +42,24 @@ fn idle_number(space: &TreeSpace, pass: &mut TreePass, owner: u32) -> Option<u64
     space.pin(pass);
     let state = load_status(space, pass, owner);
     space.unpin(pass);
+    idle(state)
+}
+
+// The same of the pass's own one.
+fn own_number(space: &TreeSpace, pass: &mut TreePass) -> Option<u64>
+    requires own { IsOf space.now.table.shared.table_id space.now.table.shared.key pass.old.seat }
+    requires number { IsNumbered pass.old.number pass.old.seat.me.0.pin }
+    requires same { pass.old.seat.me.0.upper.number ≡ pass.old.number }
+    requires unpinned { pass.old.seat.me.0.pin.pinned ≡ false }
+{
+    space.pin(pass);
+    let state = load_own_status(space, pass);
+    space.unpin(pass);
+    idle(state)
+}
+
+// The number of a range that isn't active, and wasn't decided.
+fn idle(state: RangeState) -> Option<u64> {
     match state {
         RangeState::Idle(number) => Some(number),
         RangeState::Active(_) | RangeState::Decided(_, _) => None,
@@ -62,7 +82,7 @@ fn begins_with_no_range(rt: HostRuntime) {
     let Ok(mut pass) = space.enroll(rt.alloc()) else {
         panic!(rt; "no pass")
     };
-    assert_eq!(rt; idle_number(&space, &mut pass, 64), Some((1 << 38) - 1));
+    assert_eq!(rt; own_number(&space, &mut pass), Some((1 << 38) - 1));
 }
 
 #[test]

@@ -4,7 +4,7 @@ use Rattle.ca_node.specs.Row.{bytes_in, code_words}
 use Rattle.ca_node.specs.Told.{MyTree}
 use Rattle.ca_node.proofs.WordOrder.{bytes_long}
 use Rattle.ca_base.specs.Finding.{IsObjectShown}
-use Rattle.ca_base.proofs.KeyOrder.{is_equal, is_other, front_part, first_word, left_first, decided, left_on, left_none}
+use Rattle.ca_node.proofs.KeyOrder.{is_equal, is_other, front_part, first_word, left_first, decided, left_on, left_none}
 use Rattle.ca_base.proofs.ObjectBytes.{joined_part, code_long}
 use Rattle.ca_base.proofs.comparing.compare_by.Goals as goal
 
@@ -22,7 +22,7 @@ loop-at-init c = let start : ℕ = c.key_bytes-start.result.0 in
       word = λ its shown. c.word_with-word.ensures.word its
           (subst (λ (m : MyTree). IsObjectShown m.0.upper c.args.row its)
           (sym c.key_bytes-start.ensures.frame.still) shown);
-      other = first_word c.args.key.now (start - start) c.args.front none c.requires.front;
+      other = first_word c.args.key.now (start - start) c.args.front none c.requires.front.front;
       left = λ its _.
           left_first (bytes_in (code_words its)) c.args.key.now start c.key_bytes-start.result.1;
     }

@@ -2,7 +2,8 @@ use Rattle.std.proofs.Common.{◌-◌, ◌/◌, ◌≡◌, ℕ, ◌<◌, ◌≤�
 use Rattle.ca_node.specs.Row.{bytes_in, code_words}
 use Rattle.ca_base.specs.Finding.{IsObjectShown}
 use Rattle.ca_rows.specs.Calls.{IsOf, IsSame}
-use Rattle.ca_base.proofs.KeyOrder.{IsLeft, IsNext}
+use Rattle.ca_node.specs.Walking.{HasBytesFrom}
+use Rattle.ca_node.proofs.KeyOrder.{IsLeft}
 use Rattle.ca_base.proofs.comparing.compare_by.Given as goal
 
 abbrev pub invariant-loop-at : goal.invariant-loop-at
@@ -17,7 +18,7 @@ invariant-loop-at l = record {
   high : l.at ≤ l.stop;
   word : (its : List ℕ) → IsObjectShown l.fn.pass.seat.me.0.upper l.row its → l.at < l.stop
       → l.word ≡ get_or (code_words its) (l.at / 8) 0;
-  other : IsNext l.key (l.at - l.start) l.other;
+  other : HasBytesFrom l.key (l.at - l.start) l.other;
   left : (its : List ℕ) → IsObjectShown l.fn.pass.seat.me.0.upper l.row its
       → IsLeft (bytes_in (code_words its)) l.key l.start l.end l.at;
 }

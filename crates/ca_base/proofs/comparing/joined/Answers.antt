@@ -1,5 +1,5 @@
 use Rattle.std.proofs.Common.{arith}
-use Rattle.ca_base.proofs.WordBytes.{joined_bytes}
+use Rattle.ca_node.proofs.WordBytes.{joined_bytes}
 use Rattle.ca_base.proofs.comparing.joined.Goals as goal
 
 pub returns : goal.returns

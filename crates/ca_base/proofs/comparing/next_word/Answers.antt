@@ -1,5 +1,5 @@
 use Rattle.std.proofs.Common.{arith}
-use Rattle.ca_base.proofs.KeyOrder.{last_word}
+use Rattle.ca_base.proofs.KeyWords.{last_word}
 use Rattle.ca_base.proofs.comparing.next_word.Goals as goal
 
 pub returns-else-from-lt8 : goal.returns-else-from-lt8

@@ -100,7 +100,7 @@ find_among-requires c = let z = c.args.space.now.table.shared.key in
         head_is = λ n q. c.head_of.ensures.head
             ∙ (ap (front_of 5) (take_rest c.args.key.now c.prefix_len-skip.result)
             ∙ ap (λ (k : ℕ). front_of 5 (drop k c.args.key.now)) (same n (here n q)));
-        front_is = c.word_of.ensures;
+        front_is = c.word_of-front.ensures;
         small = λ i. (c.type_inv.key i).fits;
       };
     }

@@ -7,7 +7,7 @@ use Rattle.ca_node.specs.Told.{MyTree, IsShown}
 use Rattle.ca_node.proofs.WordOrder.{bytes_long}
 use Rattle.ca_base.proofs.Fronted.{shows, words_long, part_at, front_part_of}
 use Rattle.ca_base.proofs.Items.{word_shown, as_shown}
-use Rattle.ca_base.proofs.KeyOrder.{IsLeft, is_equal, is_other, front_part, decided, left_on, left_none}
+use Rattle.ca_node.proofs.KeyOrder.{IsLeft, is_equal, is_other, front_part, decided, left_on, left_none}
 use Rattle.ca_base.proofs.prefixes.compare_prefix.Goals as goal
 
 pub load_word-word-requires-clause-shown : goal.load_word-word-requires-clause-shown
@@ -31,13 +31,13 @@ returns-then-is_ne-clause-order c note r same = let place : ℕ = c.loop-place.p
     let word = as_shown c.loop-place.pass.seat.me.0.upper _ _ _ c.load_word-word.ensures.word note.its
     (subst (λ (m : MyTree). IsShown m.0.upper c.args.base note.its) (sym inv.still) (shows _ _ _ note r)) in
     let has = part_at note.its place n c.load_word-word.result r.is_base.long (omega arith) (omega arith) word in
-    let has_too : take n (to_be_bytes w64 c.next_word.result) ≡ take n (drop (8 * place) front) =
-    front_part key (8 * place) n c.next_word.result c.next_word.ensures (omega arith) (omega arith)
+    let has_too : take n (to_be_bytes w64 c.word_from.result) ≡ take n (drop (8 * place) front) =
+    front_part key (8 * place) n c.word_from.result c.word_from.ensures (omega arith) (omega arith)
     ∙ sym (front_part_of key len (8 * place) n (omega arith)) in
     let left = subst (IsLeft bytes front 0 len) there (inv.left note r same) in
-    decided bytes front 0 len (8 * place) n c.load_word-word.result c.next_word.result (omega arith)
+    decided bytes front 0 len (8 * place) n c.load_word-word.result c.word_from.result (omega arith)
     (omega arith) left has
-    (subst (λ (k : ℕ). take n (to_be_bytes w64 c.next_word.result) ≡ take n (drop k front)) (sym there') has_too)
+    (subst (λ (k : ℕ). take n (to_be_bytes w64 c.word_from.result) ≡ take n (drop k front)) (sym there') has_too)
     c.compare_tops-order.result c.compare_tops-order.ensures
     (is_other c.compare_tops-order.result (sym c.is_ne.ensures ∙ c.if-is_ne.true))
     ∙ ap (λ (k : ℕ). bytes_cmp (take k bytes) front) (omega (arith, same))
@@ -62,14 +62,14 @@ loop-place-preserved c = let place : ℕ = c.loop-place.place in
           let word = as_shown c.loop-place.pass.seat.me.0.upper _ _ _ c.load_word-word.ensures.word note.its
           (subst (λ (m : MyTree). IsShown m.0.upper c.args.base note.its) (sym inv.still) (shows _ _ _ note r)) in
           let has = part_at note.its place n c.load_word-word.result r.is_base.long (omega arith) (omega arith) word in
-          let has_too : take n (to_be_bytes w64 c.next_word.result) ≡ take n (drop (8 * place) front) =
-          front_part key (8 * place) n c.next_word.result c.next_word.ensures (omega arith) (omega arith)
+          let has_too : take n (to_be_bytes w64 c.word_from.result) ≡ take n (drop (8 * place) front) =
+          front_part key (8 * place) n c.word_from.result c.word_from.ensures (omega arith) (omega arith)
           ∙ sym (front_part_of key len (8 * place) n (omega arith)) in
           let left = subst (IsLeft bytes front 0 len) there (inv.left note r same) in
           subst (IsLeft bytes front 0 len) next
-          (left_on bytes front 0 len (8 * place) n c.load_word-word.result c.next_word.result (omega arith)
+          (left_on bytes front 0 len (8 * place) n c.load_word-word.result c.word_from.result (omega arith)
           (omega arith) left has
-          (subst (λ (k : ℕ). take n (to_be_bytes w64 c.next_word.result) ≡ take n (drop k front)) (sym there') has_too)
+          (subst (λ (k : ℕ). take n (to_be_bytes w64 c.word_from.result) ≡ take n (drop k front)) (sym there') has_too)
           c.compare_tops-order.result c.compare_tops-order.ensures
           (is_equal c.compare_tops-order.result (sym c.is_ne.ensures ∙ c.if-is_ne.false)));
     }

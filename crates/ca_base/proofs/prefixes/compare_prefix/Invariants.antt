@@ -3,7 +3,7 @@ use Rattle.ca_node.specs.Row.{bytes_in, prefix_length, prefix_words}
 use Rattle.ca_node.specs.TreeView.{Note}
 use Rattle.ca_base.specs.Finding.{IsBaseShown}
 use Rattle.ca_rows.specs.Calls.{IsOf, IsSame}
-use Rattle.ca_base.proofs.KeyOrder.{IsLeft}
+use Rattle.ca_node.proofs.KeyOrder.{IsLeft}
 use Rattle.ca_base.proofs.prefixes.compare_prefix.Given as goal
 
 abbrev pub invariant-loop-place : goal.invariant-loop-place

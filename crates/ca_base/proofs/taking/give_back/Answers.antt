@@ -1,8 +1,9 @@
 use Rattle.ca_node.proofs.Members.{in_first}
-use Rattle.std.proofs.Common.{ap}
+use Rattle.std.proofs.Common.{◌≡◌, ◌++◌, ◌∷◌, [], ap, inl, inr, subst, arith}
 use Rattle.ca_base.specs.Counting.{losses}
 use Rattle.ca_base.proofs.Counts.{none_spent}
 use Rattle.ca_base.proofs.Held.{kept_row, gone_row, retired_row}
+use Rattle.ca_rows.specs.declared.kept.KeptRows.{KeptRows}
 use Rattle.ca_rows.specs.declared.view.Claim.TheVariants.{Holds}
 use Rattle.ca_base.proofs.taking.give_back.Goals as goal
 
@@ -47,3 +48,22 @@ pub returns-else-not-put_row-clause-counted : goal.returns-else-not-put_row-clau
 returns-else-not-put_row-clause-counted c =
     none_spent c.args.spent.now c.args.pass.now.seat.me c.put_row.new.pass.seat.me
     (ap losses c.if-not-put_row.ensures.given)
+
+pub returns-then-not-put_row-clause-kept : goal.returns-then-not-put_row-clause-kept
+returns-then-not-put_row-clause-kept c = let told = c.retire.ensures.retired in
+    let missed = ap losses c.if-not-put_row.ensures.given.2 in
+    let same = ap losses told.2 in inr (
+      omega arith,
+      (
+        told.0,
+        subst (λ (k : KeptRows). c.retire.new.pass.kept.rows.items
+            ≡ k.rows.items ++ record { row = c.args.row; at = told.0; form = c.args.form } ∷ [])
+            c.put_row.ensures.frame.kept told.1,
+      ),
+    )
+
+pub returns-else-not-put_row-clause-kept : goal.returns-else-not-put_row-clause-kept
+returns-else-not-put_row-clause-kept c = inl (
+  ap losses c.if-not-put_row.ensures.given,
+  ap (λ (k : KeptRows). k.rows.items) c.put_row.ensures.frame.kept,
+)

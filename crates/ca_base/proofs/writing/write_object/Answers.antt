@@ -1,5 +1,5 @@
 use Rattle.std.proofs.Common.{rules, ℕ, List, set, ◌∙◌, arith, length-set, get_or-set_same}
-use Rattle.ca_base.proofs.Filling.{rewritten, rewritten_again}
+use Rattle.ca_base.proofs.Filling.{rewritten_again}
 use Rattle.ca_base.proofs.Spelling.{spells_object}
 use Rattle.ca_base.proofs.writing.write_object.Goals as goal
 
@@ -12,8 +12,7 @@ write_bytes-requires-clause-row c = let h = c.requires.row.held.1 in
         (
           its,
           length-set h.0 0 c.object_form-form.result ∙ h.1,
-          (rewritten c.args.row h.0 its c.args.pass.now.seat.me c.write_word.new.pass.seat.me h.2
-              (c.write_word.ensures.written h.0 h.2)).here,
+          (c.set_word.ensures.set h.0 h.2).here,
         ),
       );
     }
@@ -23,13 +22,12 @@ returns-clause-written c = let h = c.requires.row.held.1 in
     let form : ℕ = c.object_form-form.result in
     let its : List ℕ = set h.0 0 form in
     let told = c.object_form-form.ensures in
-    let one = rewritten c.args.row h.0 its c.args.pass.now.seat.me c.write_word.new.pass.seat.me h.2
-    (c.write_word.ensures.written h.0 h.2) in
+    let one = c.set_word.ensures.set h.0 h.2 in
     let last = c.write_bytes.ensures.filled its (length-set h.0 0 form ∙ h.1) one.here in (
       last.0,
       spells_object c.args.object.now c.args.key_at c.args.key_end form h.0 its last.0 h.1
           (get_or-set_same h.0 0 form 0 (omega (arith, h.1))) (length-set h.0 0 form) told.form told.key_length
           told.key_place told.count c.requires.place.2 last.1,
       rewritten_again c.args.row its last.0 c.args.pass.now.seat.me
-          c.write_word.new.pass.seat.me c.write_bytes.new.pass.seat.me one last.2,
+          c.set_word.new.pass.seat.me c.write_bytes.new.pass.seat.me one last.2,
     )

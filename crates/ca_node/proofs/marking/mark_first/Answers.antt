@@ -25,12 +25,14 @@ returns-clause-done g c = let told = c.replace_link.ensures.told in
     subst (λ (b : Bool).
     HasCopied b (g.K.Marking.begun.top ∷ []) (marking_now c.args.pass.now.seat.me.0.upper.ranges g.K.Marking.begun g.K.Marking.border) c.args.new
     g.K.Marking.copy c.args.pass.now.seat.me c.replace_link.new.pass.seat.me) (sym told.2)
-    (has_copied told.0 (link_word c.args.link) c.args.old c.args.new g.K.Marking.copy (g.K.Marking.begun.top ∷ []) (marking_now c.args.pass.now.seat.me.0.upper.ranges g.K.Marking.begun g.K.Marking.border)
+    (has_copied told.0 (link_word c.args.link) c.args.old c.args.new g.K.Marking.copy (g.K.Marking.begun.top ∷ [])
+    (marking_now c.args.pass.now.seat.me.0.upper.ranges g.K.Marking.begun g.K.Marking.border)
     c.args.pass.now.seat.me c.replace_link.new.pass.seat.me
     c.args.space.now.table.shared.table_id.slots told.1)
 
 pub returns-clause-won : goal.returns-clause-won
 returns-clause-won g c lost = let told = c.replace_link.ensures.told in
-    missed_copy told.0 (link_word c.args.link) c.args.old c.args.new g.K.Marking.copy (g.K.Marking.begun.top ∷ []) (marking_now c.args.pass.now.seat.me.0.upper.ranges g.K.Marking.begun g.K.Marking.border)
+    missed_copy told.0 (link_word c.args.link) c.args.old c.args.new g.K.Marking.copy (g.K.Marking.begun.top ∷ [])
+    (marking_now c.args.pass.now.seat.me.0.upper.ranges g.K.Marking.begun g.K.Marking.border)
     c.args.pass.now.seat.me c.replace_link.new.pass.seat.me
     c.args.space.now.table.shared.table_id.slots c.replace_link.result told.1 told.2 lost

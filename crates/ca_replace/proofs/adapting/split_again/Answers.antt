@@ -7,7 +7,7 @@ use Rattle.ca_replace.proofs.Entries.{held_upper}
 use Rattle.ca_replace.proofs.GoingOn.{come_turns, led_elsewhere, led_there, paid_cut, paid_still}
 use Rattle.ca_replace.proofs.Tallies.{tallied_walk}
 use Rattle.ca_replace.proofs.Showing.{looking, walked_further, walked_listed, walked_quiet}
-use Rattle.ca_replace.proofs.DueCauses.{split_met}
+use Rattle.ca_replace.proofs.DueCauses.{elsewhere_met, split_met}
 use Rattle.ca_replace.proofs.Growing.{alone_on, due_grows}
 use Rattle.ca_replace.proofs.Cutting.{due_there}
 use Rattle.ca_replace.proofs.Winning.{comes_there, due_won}
@@ -184,6 +184,7 @@ returns-then-was_split-clause-met c =
     c.args.pass.now.seat.me c.walk-cursor.new.pass.seat.me
     c.try_split-adapted.new.pass.seat.me c.walk-cursor.result c.requires.placed
     c.walk-cursor.ensures.walked c.try_split-adapted.ensures.split
+    c.try_split-adapted.ensures.once
 
 pub returns-else-was_split-clause-met : goal.returns-else-was_split-clause-met
 returns-else-was_split-clause-met c =
@@ -192,6 +193,13 @@ returns-else-was_split-clause-met c =
     c.args.pass.now.seat.me c.walk-cursor.new.pass.seat.me
     c.try_split-adapted.new.pass.seat.me c.walk-cursor.result c.requires.placed
     c.walk-cursor.ensures.walked c.try_split-adapted.ensures.split
+    c.try_split-adapted.ensures.once
+
+pub returns-then-cursor-placed-clause-met : goal.returns-then-cursor-placed-clause-met
+returns-then-cursor-placed-clause-met c =
+    elsewhere_met c.args.tree.now.space.table.shared.key c.args.placed.now.key
+    c.args.placed.now.row c.args.pass.now.seat.me c.walk-cursor.new.pass.seat.me
+    c.walk-cursor.result c.requires.placed c.walk-cursor.ensures.walked
 
 pub returns-then-was_split-clause-grows : goal.returns-then-was_split-clause-grows
 returns-then-was_split-clause-grows c alone =

@@ -41,7 +41,7 @@ returns-clause-list g c = let p = c.args.pass.now in
     let held = c.reuse_as.ensures.held in let next : at + 1 ≡ suc at = omega arith in
     let kept = c.reuse_as.ensures.frame.kept ∙ frame.kept in record {
       are = subst (AreListed rows c.reuse_as.new.pass.seat.me.0.claims)
-          (sym (c.cut.ensures.rows ∙ (ap (λ (k : KeptRows). take at k.rows.items ++ drop (at + 1) k.rows.items) kept
+          (sym (c.take_out.ensures.rows ∙ (ap (λ (k : KeptRows). take at k.rows.items ++ drop (at + 1) k.rows.items) kept
           ∙ ap (λ (n : ℕ). take at ks ++ drop n ks) next)))
           (subst (λ (m : Mine g.row.R-Upper.Denot). AreListed rows m.0.claims (take at ks ++ drop (suc at) ks))
           (sym (held.2 ∙ ap (λ (m : Mine g.row.R-Upper.Denot). (
@@ -54,7 +54,7 @@ returns-clause-list g c = let p = c.args.pass.now in
           (left_out rows p.seat.me.0.claims ks c.requires.list.are at nobody chosen.inside c.row-row.result
           (Holds held.0) row (λ t e. cc)));
       room = subst (λ (n : ℕ). rows ≤ n)
-          (sym (c.cut.ensures.room ∙ ap (λ (k : KeptRows). vec_capacity k.rows) kept)) c.requires.list.room;
+          (sym (c.take_out.ensures.room ∙ ap (λ (k : KeptRows). vec_capacity k.rows) kept)) c.requires.list.room;
     }
 
 pub returns-clause-reused : goal.returns-clause-reused
@@ -77,6 +77,6 @@ returns-clause-reused g c = let p = c.args.pass.now in let at : ℕ = c.in-Some.
         subst (λ (x : KeptRows × ℕ). IsOldest x.1 c.args.like x.0.rows.items at)
             (λ i. (frame.kept i, c.told-told.ensures.told i)) c.in-Some.ensures,
         sym (c.row-row.ensures ∙ ap (λ (k : KeptRows). (get_or k.rows.items at nobody).row) frame.kept),
-        c.cut.ensures.rows ∙ ap (λ (k : KeptRows). take at k.rows.items ++ drop (at + 1) k.rows.items) kept,
+        c.take_out.ensures.rows ∙ ap (λ (k : KeptRows). take at k.rows.items ++ drop (at + 1) k.rows.items) kept,
       ),
     )

@@ -1,17 +1,17 @@
--- How an object's key compares with another one, eight bytes at a time.
-use Rattle.std.proofs.Common.{◌≡◌, ◌≢◌, true, false, ℕ, ◌+◌, ◌-◌, ◌<◌, ◌≤◌, List, [], ◌∷◌, ◌++◌, length, min, take, drop, sym, refl, ap, subst, ◌∙◌, ⊎_elim, arith, length-drop}
+-- How a key that stands in the bytes of words compares with another one, eight bytes at a time.
+use Rattle.std.proofs.Common.{◌≡◌, ◌≢◌, true, false, ℕ, ◌+◌, ◌-◌, ◌<◌, ◌≤◌, List, [], ◌∷◌, length, min, take, drop, sym, refl, ap, subst, ◌∙◌, ⊎_elim, arith, length-drop}
 use Rattle.std.proofs.Math.ListN.{drop_of_length-le}
 use Rattle.std.proofs.Math.Nat.{eq-or-lt_of_le}
 use Rattle.std.proofs.lemmas.Bool.{cases_lt}
-use Rattle.std.proofs.lemmas.List.{take_all, take_at, take_rest, length-take-le, take-take, drop-drop, drop-take}
+use Rattle.std.proofs.lemmas.List.{take_rest, length-take-le, take-take, drop-drop, drop-take}
 use Rattle.std.specs.declared.cmp.Ordering.{Ordering}
 use Rattle.std.specs.declared.cmp.Ordering.TheVariants.{Less, Equal, Greater}
 use Rattle.std.specs.Int.{to_be_bytes, w64}
 use Rattle.std.specs.Ordering.{nat_cmp, is_ne}
-use Rattle.ca_term.proofs.Numbers.{less, same, greater, length_high_first}
+use Rattle.ca_term.proofs.Numbers.{less, same, greater}
 use Rattle.ca_model.specs.StoreMap.{bytes_cmp}
+use Rattle.ca_node.specs.Walking.{AreAlikeUpTo, BeginsWith, HasBytesFrom}
 use Rattle.ca_node.proofs.WordOrder.{parts_decide, rests_decide, nothing_first}
-use Rattle.ca_base.specs.Writing.{HasBytes}
 
 pub is_equal : (o : Ordering) → is_ne o ≡ false → o ≡ Equal
 is_equal Less e = cc
@@ -45,53 +45,28 @@ lengths_decide xs ys n e = let a = length-drop n xs in let b = length-drop n ys 
     ∙ sym (greater (length xs) (length ys) h)) (eq-or-lt_of_le l)))
     (cases_lt (length xs) (length ys))
 
--- The word begins with the bytes of the key from a place on, eight where there are as many.
-abbrev pub IsNext : List ℕ → ℕ → ℕ → Type 0
-IsNext key from word = take (length key - from) (to_be_bytes w64 word) ≡ take 8 (drop from key)
-
--- So its first bytes are the key's.
-pub front_part : (key : List ℕ) (from n word : ℕ) → IsNext key from word → n ≤ 8
+-- The first bytes of a word that has those of a key from a place on are the key's.
+pub front_part : (key : List ℕ) (from n word : ℕ) → HasBytesFrom key from word → n ≤ 8
     → n ≤ length key - from
     → take n (to_be_bytes w64 word) ≡ take n (drop from key)
 front_part key from n word is few l = sym (take-take n (length key - from) (to_be_bytes w64 word) l)
     ∙ (ap (take n) is ∙ take-take n 8 (drop from key) few)
 
--- That of the key's first bytes.
-pub first_word : (key : List ℕ) (from word : ℕ) → from ≡ 0 → HasBytes key word
-    → IsNext key from word
-first_word key from word none has = let all : length key - from ≡ length key = omega arith in
+-- A word that begins with a key has its bytes from the first one on.
+pub first_word : (key : List ℕ) (from word : ℕ) → from ≡ 0 → BeginsWith key word
+    → HasBytesFrom key from word
+first_word key from word none begins = let all : length key - from ≡ length key = omega arith in
     ap (λ (k : ℕ). take k (to_be_bytes w64 word)) all
-    ∙ (has.front ∙ ap (λ (k : ℕ). take 8 (drop k key)) (sym none))
+    ∙ (begins ∙ ap (λ (k : ℕ). take 8 (drop k key)) (sym none))
 
--- The word of a key's last eight bytes without the first of them, where less than eight are left.
-pub last_word : (key : List ℕ) (from whole word : ℕ) → 8 ≤ from → from < length key
-    → length key - from < 8
-    → HasBytes (take (length key - (length key - 8)) (drop (length key - 8) key)) whole
-    → to_be_bytes w64 word
-    ≡ drop (8 - (length key - from)) (to_be_bytes w64 whole) ++ take (8 - (length key - from))
-    (to_be_bytes w64 0)
-    → IsNext key from word
-last_word key from whole word low l few has is = let before : ℕ = length key - 8 in
-    let left : ℕ = length key - from in let skip : ℕ = 8 - left in
-    let tail : List ℕ = drop before key in let rest : List ℕ = drop from key in
-    let eight : HasBytes tail whole = subst
-    (λ (xs : List ℕ). HasBytes xs whole) (take_rest key before) has in
-    let long : length tail ≡ 8 = length-drop before key ∙ omega arith in
-    let left_long : length rest ≡ left = length-drop from key in
-    let bytes : to_be_bytes w64 whole ≡ tail =
-    sym (take_all (length tail) (to_be_bytes w64 whole) (omega (
-      arith,
-      length_high_first 8 whole,
-    )))
-    ∙ (eight.front ∙ take_all 8 tail (omega arith)) in
-    let there : before + skip ≡ from = omega arith in
-    let behind : drop skip (to_be_bytes w64 whole) ≡ rest = ap (drop skip) bytes
-    ∙ (drop-drop skip before key ∙ ap (λ (k : ℕ). drop k key) there) in
-    ap (take left) (is ∙ ap (λ (xs : List ℕ). xs ++ take skip (to_be_bytes w64 0)) behind)
-    ∙ (take_at rest (take skip (to_be_bytes w64 0)) left left_long
-    ∙ sym (take_all 8 rest (omega arith)))
+-- So does one that begins with what is behind that place.
+pub behind : (key : List ℕ) (from word : ℕ)
+    → BeginsWith (take (length key - from) (drop from key)) word → HasBytesFrom key from word
+behind key from word begins =
+    subst (λ (k : ℕ). take k (to_be_bytes w64 word) ≡ take 8 (drop from key)) (length-drop from key)
+    (subst (λ (xs : List ℕ). BeginsWith xs word) (take_rest key from) begins)
 
--- The object's key stands in the bytes from `start` to `end`. Up to `at` it is equal to the other
+-- A key stands in the bytes from `start` to `end`. Up to `at` it is equal to the other
 -- key.
 module _ (bytes key : List ℕ) (start end : ℕ) where
   abbrev pub own : List ℕ
@@ -149,3 +124,19 @@ module _ (bytes key : List ℕ) (start end : ℕ) where
       length-take-le (end - start) (drop start bytes) (omega arith) in
       ap (λ (k : ℕ). nat_cmp k (length key)) (sym long)
       ∙ (lengths_decide own key (at - start) (e ∙ ap (min (length key)) (sym long)) ∙ sym left)
+
+-- A key that stands at the beginning, and is equal to the other one up to a place, is so by the bytes.
+pub left_alike : (bytes key : List ℕ) (end at : ℕ) → AreAlikeUpTo at (take end bytes) key
+    → IsLeft bytes key 0 end at
+left_alike bytes key end at alike = let a : end - 0 ≡ end = omega arith in
+    let b : at - 0 ≡ at = omega arith in
+    subst (λ (k : ℕ). bytes_cmp (take k bytes) key ≡ bytes_cmp (drop (at - 0) (take k bytes)) (drop (at - 0) key)) (sym a)
+    (subst (λ (k : ℕ). bytes_cmp (take end bytes) key ≡ bytes_cmp (drop k (take end bytes)) (drop k key)) (sym b) alike)
+
+-- And the other way.
+pub alike_left : (bytes key : List ℕ) (end at : ℕ) → IsLeft bytes key 0 end at
+    → AreAlikeUpTo at (take end bytes) key
+alike_left bytes key end at left = let a : end - 0 ≡ end = omega arith in
+    let b : at - 0 ≡ at = omega arith in
+    subst (λ (k : ℕ). bytes_cmp (take end bytes) key ≡ bytes_cmp (drop k (take end bytes)) (drop k key)) b
+    (subst (λ (k : ℕ). bytes_cmp (take k bytes) key ≡ bytes_cmp (drop (at - 0) (take k bytes)) (drop (at - 0) key)) a left)

@@ -1,6 +1,6 @@
 use Rattle.std.proofs.Common.{◌∙◌, arith}
-use Rattle.ca_base.proofs.WordBytes.{tops_compare}
-use Rattle.ca_base.proofs.comparing.compare_tops.Goals as goal
+use Rattle.ca_node.proofs.WordBytes.{tops_compare}
+use Rattle.ca_node.proofs.comparing.compare_tops.Goals as goal
 
 pub returns : goal.returns
 returns c = c.cmp.ensures
