@@ -6,6 +6,7 @@ ghost use Rattle.ca_base.specs.Counting.{IsSpent};
 ghost use Rattle.ca_base.specs.Finding.{IsAtCursor, IsReadable};
 ghost use Rattle.ca_node.specs.Inventory.{IsListed};
 ghost use Rattle.ca_node.specs.States.{IsAlone};
+ghost use Rattle.ca_node.specs.Told.{IsSettled};
 ghost use Rattle.ca_rows.specs.Passes.{sizes, known};
 ghost use Rattle.ca_node.specs.TreePasses.{tree_of};
 ghost use Rattle.ca_base.specs.Readiness.{IsReady, StaysReady, shown_last};
@@ -19,7 +20,7 @@ use ca_node::{Cursor, TreePass, TreeSpace};
 // The last value of an attempt to join what is under a route. No space is made with a greater one.
 const LAST_ATTEMPT: u64 = (1 << 62) - 1;
 
-/// Splits the base under the cursor, which was shown last: a route takes its place, over two bases with its halves, whose statistic is 0. That is
+/// Splits the base under the cursor, which was shown last and which no range has: a route takes its place, over two bases with its halves, whose statistic is 0. That is
 /// `NotSplit` with `OneObject` where it has fewer than two objects, with `AtLevel` where it stands at the last level, with `NoRow` and `Worn` where
 /// no row was free and where the pool's tag can rise no more, and with `Lost` where an exchange was lost, of the base or of the pool's head. Of a
 /// base that it lists, a pass that is alone loses none.
@@ -28,6 +29,7 @@ pub fn split(space: &TreeSpace, pass: &mut TreePass, cursor: &Cursor, tuning: &T
     requires tuned { IsTuned (sizes space.now) tuning.now }
     requires readable { IsReadable (sizes space.now) (tree_of pass.old) cursor.now.base (shown_last pass.old) }
     requires at { IsAtCursor (sizes space.now) (shown_last pass.old) cursor.now }
+    requires settled { IsSettled (tree_of pass.old) (shown_last pass.old).its }
     ensures frame { StaysReady space.now pass.old pass.new }
     ensures split { IsSplitOutcome (sizes space.now) (shown_last pass.old) result (known pass.old) (known pass.new) }
     ensures once { IsOneTry result (known pass.old) (known pass.new) }
@@ -55,6 +57,7 @@ pub fn try_split(
     requires tuned { IsTuned (sizes space.now) tuning.now }
     requires readable { IsReadable (sizes space.now) (tree_of pass.old) cursor.base (shown_last pass.old) }
     requires at { IsAtCursor (sizes space.now) (shown_last pass.old) cursor }
+    requires settled { IsSettled (tree_of pass.old) (shown_last pass.old).its }
     ensures frame { StaysReady space.now pass.old pass.new }
     ensures split { IsSplitOutcome (sizes space.now) (shown_last pass.old) result (known pass.old) (known pass.new) }
     ensures once { IsOneTry result (known pass.old) (known pass.new) }

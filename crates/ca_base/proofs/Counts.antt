@@ -1,5 +1,5 @@
 -- What calls count, one after another.
-use Rattle.std.proofs.Common.{◌≡◌, inr, ℕ, ◌+◌, ◌≤◌, List, [], ◌∷◌, ◌++◌, length, Result, Ok, Err, ap, sym, refl, ◌∙◌, subst, arith, vec_len}
+use Rattle.std.proofs.Common.{◌≡◌, inr, ℕ, ◌+◌, ◌≤◌, List, [], ◌∷◌, ◌++◌, length, Result, Ok, Err, ap, sym, refl, ◌∙◌, subst, arith, min, vec_len}
 use Rattle.ca_model.specs.declared.outcome.Spent.{Spent}
 use Rattle.ca_node.specs.Told.{MyTree}
 use Rattle.ca_base.specs.declared.stop.Stop.{Stop}
@@ -21,6 +21,16 @@ spent_both a b c k m n x y = let more = x.more in let more' = y.more in record {
   lost = λ fits. let one = x.lost fits in let two = y.lost (omega arith) in omega arith;
   helped = y.helped ∙ x.helped;
   passed = y.passed ∙ x.passed;
+}
+
+-- One exchange was lost, and counted.
+pub one_spent : (a b : Spent) (m m' : MyTree) → b.lost ≡ min 4294967295 (a.lost + 1) → (b.helped ≡ a.helped) × (b.passed ≡ a.passed)
+    → losses m' ≡ losses m + 1 → IsSpent a b m m'
+one_spent a b m m' lost others more = record {
+  more = omega arith;
+  lost = λ fits. omega arith;
+  helped = others.0;
+  passed = others.1;
 }
 
 -- Nothing was lost.

@@ -7,7 +7,7 @@ use Rattle.ca_model.specs.StoreMap.{IsStoreMap}
 use Rattle.ca_node.specs.Laws.{in_nothing}
 use Rattle.ca_node.specs.Links.{IsIn, AreApart}
 use Rattle.ca_node.specs.Row.{count, items, key, pair, item_words, row_in, IsHeaded}
-use Rattle.ca_node.specs.Told.{MyTree, IsLastThere, IsDivision, IsDivided, given}
+use Rattle.ca_node.specs.Told.{MyTree, IsSettled, IsLastThere, IsDivision, IsDivided, given}
 use Rattle.ca_node.specs.TreeView.{Note, TreeView, Division}
 use Rattle.ca_node.specs.declared.cursor.Cursor.{Cursor}
 use Rattle.ca_node.proofs.HeldRows.{given_fewer, taken_out_more}
@@ -176,6 +176,7 @@ module _ (z : Sizes) (m0 m1 m2 m3 m4 : MyTree) (route left right many attempt : 
         (λ (u : TreeView). IsLastThere note u.notes) (sym w.upper)
         (last_there m0.0.upper.notes w.shown.noted);
     old_base = w.shown.is_base.is_base;
+    settled = subst (λ (u : TreeView). IsSettled u note.its) (sym w.upper) w.shown.settled;
     above = subst (λ (n : ℕ). n < z.levels) (sym w.at.level) w.above;
     held_route = w.wrote_route.here;
     held_left = held_left;

@@ -15,7 +15,7 @@ use Rattle.ca_node.specs.Links.{IsIn}
 use Rattle.ca_node.specs.Place.{HasKey, edit_key}
 use Rattle.ca_node.specs.Row.{items, pair, row_in, IsHeaded}
 use Rattle.ca_node.specs.Notes.{IsBaseNote}
-use Rattle.ca_node.specs.Told.{MyTree, Update, IsObjectOf, IsLastThere, IsUpdate}
+use Rattle.ca_node.specs.Told.{MyTree, IsSettled, Update, IsObjectOf, IsLastThere, IsUpdate}
 use Rattle.ca_node.specs.TreeView.{Note, TreeView}
 use Rattle.ca_node.proofs.Looking.{in_more}
 use Rattle.ca_base.specs.Putting.{gone, object_at, IsShownLast, first_note, words_of}
@@ -33,6 +33,7 @@ pub record IsNewBase (z : Sizes) (m : MyTree) (new : ℕ) (old : Note) (front th
   pub is_pass : 0 < m.0.upper.number
   pub shown : (rest : List Note) × (m.0.upper.notes ≡ old ∷ rest)
   pub is_base : IsBaseNote z old
+  pub settled : IsSettled m.0.upper old.its
   pub held : claim_of m.0.claims new ≡ some (Holds b)
   pub spells : SpellsBase front these old.place.level statistic b
 
@@ -72,6 +73,7 @@ is_update z m new x front words these statistic n rows headed few made =
       is_pass = n.is_pass;
       shown = subst (IsLastThere x.old) (sym n.shown.1) (inl refl);
       old_base = n.is_base.is_base;
+      settled = n.settled;
       held = n.held;
       is_base = n.spells.is_base;
       level_is = n.spells.level_is;
@@ -119,6 +121,7 @@ new_base z first before now new base front these statistic b shown is_pinned is_
           × (u.notes ≡ first_note first.0.upper.notes ∷ rest)) (sym upper)
           (is_first first.0.upper.notes shown.noted);
       is_base = shown.is_base;
+      settled = subst (λ (u : TreeView). IsSettled u (first_note first.0.upper.notes).its) (sym upper) shown.settled;
       held = wrote.here;
       spells = spells;
     }

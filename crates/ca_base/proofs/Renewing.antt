@@ -96,6 +96,7 @@ module _ (z : Sizes) (kept : Vec Kept Global) (m : MyTree) (new : ℕ) (x : Upda
         notes = refl;
         ways = refl;
         is_base = is_base_note;
+        unmarked = up.unmarked;
         place = ap (λ (n : Note). n.place) (sym first_is);
         has = up.map_is ∙ ap (λ (n : Note). after_edit x.edit (map pair n.objects)) (sym first_is);
         statistic_is = refl;

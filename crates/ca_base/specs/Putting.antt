@@ -6,9 +6,9 @@ use Rattle.ca_model.specs.Event.{Event, Write, WriteNew, Change}
 use Rattle.ca_model.specs.History.{Edit, Put, after_edit}
 use Rattle.ca_node.specs.Links.{IsIn}
 use Rattle.ca_node.specs.Place.{edit_key}
-use Rattle.ca_node.specs.Row.{items, object, key, pair, item_words}
+use Rattle.ca_node.specs.Row.{items, object, key, pair, item_words, IsUnmarked}
 use Rattle.ca_node.specs.Notes.{IsBaseNote}
-use Rattle.ca_node.specs.Told.{MyTree, IsKnown, Update, one_more_lost, updated_inventory}
+use Rattle.ca_node.specs.Told.{MyTree, IsKnown, Update, one_more_lost, updated_inventory, IsSettled}
 use Rattle.ca_node.specs.TreeView.{Note, Renewal, TreeView, no_note}
 use Rattle.ca_base.specs.declared.stop.Exchange.TheVariants as exchange
 use Rattle.ca_base.specs.declared.stop.Stop.{Stop}
@@ -104,11 +104,12 @@ abbrev pub put_update_of : MyTree → ℕ → ℕ → Result ℕ ℕ → Putting
 put_update_of m row new place why = put_update (first_note m.0.upper.notes) row
     (words_of (claim_of m.0.claims row)) (words_of (claim_of m.0.claims new)) place why
 
--- The base with this row was shown last.
+-- The base with this row was shown last, and no range has it.
 pub record IsShownLast (z : Sizes) (u : TreeView) (base : ℕ) : Type 0 where
   pub noted : IsIn (first_note u.notes) u.notes
   pub here : (first_note u.notes).row ≡ base
   pub is_base : IsBaseNote z (first_note u.notes)
+  pub settled : IsSettled u (first_note u.notes).its
 
 -- The base was shown last, and names so many items, few enough for a row.
 abbrev pub IsShownWith : Sizes → TreeView → ℕ → ℕ → Type 0
@@ -139,12 +140,13 @@ renewal_of met u key old new = record {
   met = met;
 }
 
--- A new base was shown, at the place of the one that was shown last: it has what that one had after the edit, and this word for its statistic. So
--- much had been met of the pool until then.
+-- A new base was shown, at the place of the one that was shown last: it has what that one had after the edit, and this word for its statistic. No
+-- range marked it. So much had been met of the pool until then.
 pub record IsRenewed (z : Sizes) (met : Met) (statistic : ℕ) (edit : Edit) (u v : TreeView) : Type 0 where
   pub notes : v.notes ≡ first_note v.notes ∷ u.notes
   pub ways : v.ways ≡ u.ways
   pub is_base : IsBaseNote z (first_note v.notes)
+  pub unmarked : IsUnmarked (first_note v.notes).its
   pub place : (first_note v.notes).place ≡ (first_note u.notes).place
   pub has : map pair (first_note v.notes).objects ≡ after_edit edit (map pair (first_note u.notes).objects)
   pub statistic_is : slice_index (first_note v.notes).its 1 ≡ statistic

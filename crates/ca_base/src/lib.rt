@@ -19,11 +19,13 @@ mod updating;
 mod writing;
 
 pub use place::search;
-pub use reading::{copy_object, count, item, statistic_word};
+pub use reading::{append, copy_object, count, item, statistic_word};
 pub use removing::remove_at;
+pub use spending::lose;
 pub use splitting::split_at;
 pub use stop::{Exchange, Stop};
-pub use swapping::STATISTIC;
+pub use swapping::{STATISTIC, retire_unlinked};
 pub use taking::{give_back, take, take_two};
 pub use target::{Insertion, Keyed, Removal, Target};
 pub use updating::{Putting, put_at};
+pub use writing::{set_word, write_words};

@@ -74,8 +74,8 @@ pub fn copy_object(space: &TreeSpace, pass: &mut TreePass, row: u32, into: &mut 
     }
 }
 
-// Appends bytes, for which there is room. Where they are eight, as those of a word mostly are, one move copies them.
-pub(crate) fn append<const N: usize>(into: &mut ArrayVec<u8, N>, more: &[u8])
+/// Appends bytes, for which there is room. Where they are eight, as those of a word mostly are, one move copies them.
+pub fn append<const N: usize>(into: &mut ArrayVec<u8, N>, more: &[u8])
     requires { array_vec_len into.old + length more.now ≤ N }
     ensures { into.new.items ≡ into.old.items ++ more.now }
 {

@@ -120,8 +120,8 @@ fn retire_all(space: &TreeSpace, pass: &mut TreePass, rows: &[u32], form: u32)
     }
 }
 
-// Retires a row of this form that the pass unlinked.
-pub(crate) fn retire_unlinked(space: &TreeSpace, pass: &mut TreePass, row: u32, form: u32)
+/// Retires a row of this form that the pass unlinked.
+pub fn retire_unlinked(space: &TreeSpace, pass: &mut TreePass, row: u32, form: u32)
     requires own { IsOn space.now pass.old }
     requires unlinked { (rest : List ℕ) × (¬ IsIn row rest) × AreUnlinked (sizes space.now).rows pass.old.kept.rows (view pass.old) (row ∷ rest) }
     ensures frame { IsStillPass pass.old pass.new }

@@ -87,8 +87,8 @@ fn object_form(length: usize, key_at: usize, key_end: usize) -> u64
     OBJECT + key_length * 4_294_967_296 + key_at as u64 * 65_536 + length as u64
 }
 
-// Sets a word. It isn't stored where it is that number already, since a load takes an eighth of the time.
-pub(crate) fn set_word(space: &TreeSpace, pass: &mut TreePass, row: u32, index: u32, value: u64)
+/// Sets a word. It isn't stored where it is that number already, since a load takes an eighth of the time.
+pub fn set_word(space: &TreeSpace, pass: &mut TreePass, row: u32, index: u32, value: u64)
     requires row { HoldsRow space.now pass.old row }
     requires inside { index < row_words }
     ensures frame { StillKeepsList pass.old pass.new }
@@ -99,8 +99,8 @@ pub(crate) fn set_word(space: &TreeSpace, pass: &mut TreePass, row: u32, index: 
     }
 }
 
-// Sets words from the first one on.
-pub(crate) fn write_words(space: &TreeSpace, pass: &mut TreePass, row: u32, words: &[u64])
+/// Sets words from the first one on.
+pub fn write_words(space: &TreeSpace, pass: &mut TreePass, row: u32, words: &[u64])
     requires row { HoldsRow space.now pass.old row }
     requires few { length words.now ≤ row_words }
     ensures frame { StillKeepsList pass.old pass.new }

@@ -39,6 +39,7 @@ use Rattle.ca_node.specs.Told.{MyTree, IsHalf, IsDivision, given, taken_out, div
 use Rattle.ca_node.specs.Tree.{IsTrue, IsTrueWay, Knows, IsTree}
 use Rattle.ca_node.specs.TreeView.{Note, Way, TreeView, Division}
 use Rattle.ca_node.proofs.Divided.{IsNewRoute, AreDivided, with_route, with_route_route, with_route_left, with_route_right, with_route_old, with_route_else, shape_divided}
+use Rattle.ca_node.proofs.Exchanging.{settled_over}
 use Rattle.ca_node.proofs.Holding.{held_row, unclaimed_row}
 use Rattle.ca_node.proofs.Listing.{in_either, in_front, in_back, Relists, listed_again, known_by_one}
 use Rattle.ca_node.proofs.Looking.{R, loses, hangs_still, of_map, knows_upper, in_more}
@@ -390,10 +391,11 @@ module _ (z : Sizes) (s : State (Unit {0}) (View TreeView)) (r : R z s) (id : �
       (role_else base (no_coming base p (ap place_of e)) ne ∙ e) row
       (subst (λ its. IsIn row (items its)) (sym (base_stays base p e)) i))
 
-  -- The range that marked the old base is over: so far none is active.
+  -- The range that marked the old base is over.
   old_over : (pass number : ℕ) → IsMarkedBy (row_at s.words x.old.row) pass number
       → ¬ IsActive s.words pass number
-  old_over pass number _ = r.above.quiet pass number
+  old_over pass number m = settled_over z s r id me.0 at x.old.its u.settled pass number
+      (subst (λ its. IsMarkedBy its pass number) old_true.spells m)
 
   -- What is marked in the new tree was a base of the old one: no range has a base that comes.
   was_marked : (c : ℕ) (p : Place) → role' c ≡ Base p → mark (row_at words' c) ≡ 1

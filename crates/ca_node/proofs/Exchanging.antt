@@ -23,7 +23,6 @@ use Rattle.ca_runs.specs.Runs.{AreRuns}
 use Rattle.ca_runs.specs.Scenes.{Replaces}
 use Rattle.ca_rows.proofs.Relinking.{Change, Stays, Comes, Serves, Goes, IsChange, relinks}
 use Rattle.ca_rows.proofs.Rules.{all_seats}
-use Rattle.ca_node.specs.Copies.{IsSettled}
 use Rattle.ca_node.specs.Inventory.{AreOnce, row_itself, IsInventory}
 use Rattle.ca_node.specs.Laws.{tree_lends, in_nothing}
 use Rattle.ca_node.specs.Links.{IsIn, IsActive, HasBegun, IsBoundOf, IsLinked, by_range, IsLent, IsOfOwnRun, IsNoted, by_note, by_item, by_way, by_link, by_link_item, by_border, by_run, by_run_item, by_shown, by_shown_item}
@@ -37,7 +36,7 @@ use Rattle.ca_node.specs.Scenes.{IsBase, span_of, mark_of, scene_of}
 use Rattle.ca_node.specs.Shape.{Role, Out, Base, Route, place_of, IsBaseAt, IsShape}
 use Rattle.ca_node.specs.Stays.{map_same}
 use Rattle.ca_rows.specs.Told.{relinked}
-use Rattle.ca_node.specs.Told.{MyTree, Update, IsObjectOf, IsNotFrom, IsLastThere, given, lent_out, taken_out, exchanged_inventory}
+use Rattle.ca_node.specs.Told.{MyTree, IsSettled, Update, IsObjectOf, IsNotFrom, IsLastThere, given, lent_out, taken_out, exchanged_inventory}
 use Rattle.ca_node.specs.Tree.{IsTrue, IsTrueWay, Knows, IsTree}
 use Rattle.ca_node.specs.TreeView.{Note, Way, Over, Border, TreeView}
 use Rattle.ca_node.proofs.Holding.{held_row}

@@ -597,6 +597,8 @@ module _ (z : Sizes) where
           known_now s r id me at with_base refl refl refl,
         );
         listed = sized s r id me at (λ y. IsAlone y u → IsListed u.inventory note) base_listed;
+        alike = λ old i same. sym (k.notes old i).spells ∙ (ap (row_at s.words) same
+            ∙ (base_true z r.made s.words (map upper_of s.views) f (get_or s.words link 0) place is).spells);
       }
 
     -- or a route.

@@ -34,7 +34,7 @@ use Rattle.ca_node.specs.May.{MaySwap}
 use Rattle.ca_node.specs.Told.{MyTree, IsKnown, Update, IsUpdate, given, taken_out, updated, one_more_lost, IsUpdated, IsMissed, Updates, HasUpdated}
 use Rattle.ca_node.specs.Tree.{StartsWith, IsLinkOfView, IsTrue, Knows, IsTree}
 use Rattle.ca_node.specs.TreeView.{Note, TreeView}
-use Rattle.ca_node.proofs.Exchanging.{IsExchange, is_old, new_row, old_map, is_last, ins_once, new_its, out_linked, out_unlent, replaced, ranging_keeps, own_notes, old_apart, note_keeps, way_keeps, new_true, exchange_step}
+use Rattle.ca_node.proofs.Exchanging.{IsExchange, settled_over, is_old, new_row, old_map, is_last, ins_once, new_its, out_linked, out_unlent, replaced, ranging_keeps, own_notes, old_apart, note_keeps, way_keeps, new_true, exchange_step}
 use Rattle.ca_node.proofs.Holding.{unclaimed_row}
 use Rattle.ca_node.proofs.Logs.{after_more, state_stays, others_lawful, own_lawful, past_more, ended_more}
 use Rattle.ca_node.proofs.Looking.{R, loses, hangs_still, of_map, knows_upper, fewer_passes, further, longer_past, starts_shorter, in_more}
@@ -84,9 +84,9 @@ module _ (z : Sizes) (s : State (Unit {0}) (View TreeView)) (r : R z s) (id : �
   abbrev ex : IsExchange z me new x
   ex = exchange_of z me new x u
 
-  -- So far no range is active.
+  -- The range that marked the old base is over.
   over : (pass number : ℕ) → IsMarkedBy x.old.its pass number → ¬ IsActive s.words pass number
-  over pass number _ = r.above.quiet pass number
+  over = settled_over z s r id me.0 at x.old.its u.settled
 
   abbrev d : View TreeView
   d = me.0

@@ -95,16 +95,16 @@ above_more way ways (link.Right route) None is = is
 above_more way ways (link.Right route) (Some a) is = (is.0, more_in is.0 way ways is.1, is.2, is.3)
 
 -- So they do of the lower bound.
-low_more : (way : Way) (ways : List Way) (route : Option ℕ) (bound : Bound)
-    → IsLowRoute ways route bound → IsLowRoute (way ∷ ways) route bound
-low_more way ways None bound is = is
-low_more way ways (Some route) bound is = (is.0, more_in is.0 way ways is.1, is.2, is.3)
+low_more : (z : Sizes) (way : Way) (ways : List Way) (route : Option ℕ) (bound : Bound)
+    → IsLowRoute z ways route bound → IsLowRoute z (way ∷ ways) route bound
+low_more z way ways None bound is = is
+low_more z way ways (Some route) bound is = (is.0, more_in is.0 way ways is.1, is.2, is.3, is.4)
 
 -- So they do of the upper bound.
-high_more : (way : Way) (ways : List Way) (route : Option ℕ) (bound : Bound)
-    → IsHighRoute ways route bound → IsHighRoute (way ∷ ways) route bound
-high_more way ways None bound is = is
-high_more way ways (Some route) bound is = (is.0, more_in is.0 way ways is.1, is.2, is.3)
+high_more : (z : Sizes) (way : Way) (ways : List Way) (route : Option ℕ) (bound : Bound)
+    → IsHighRoute z ways route bound → IsHighRoute z (way ∷ ways) route bound
+high_more z way ways None bound is = is
+high_more z way ways (Some route) bound is = (is.0, more_in is.0 way ways is.1, is.2, is.3, is.4)
 
 -- So they do of all that the cursor tells.
 placed_more : (z : Sizes) (way : Way) (ways : List Way) (place : Place) (cursor : Cursor)
@@ -113,8 +113,8 @@ placed_more z way ways place cursor p = record {
   link = p.link;
   inside = p.inside;
   above = above_more way ways cursor.link cursor.above p.above;
-  low = low_more way ways cursor.low place.span.low p.low;
-  high = high_more way ways cursor.high place.span.high p.high;
+  low = low_more z way ways cursor.low place.span.low p.low;
+  high = high_more z way ways cursor.high place.span.high p.high;
 }
 
 -- the cursor one link further, on the left of a route
@@ -142,17 +142,17 @@ right_cursor cursor base =
 -- The routes that were shown lead to a link of the last one.
 module _ (z : Sizes) (ways : List Way) (way : Way) (cursor : Cursor) (base : ℕ) (place : Place)
     (shown : IsIn way ways) (row : way.row ≡ cursor.base)
-    (in_range : way.row ≤ z.rows) (placed : IsPlaced z ways way.place cursor) where
+    (is_route : IsRouteNote z way) (placed : IsPlaced z ways way.place cursor) where
   -- The cursor tells where its left link leads.
   left_placed : place.link ≡ row_words * cursor.base + 1
       → place.span ≡ left_of (route_key way.its) way.place.span
       → IsPlaced z ways place (left_cursor cursor base)
   left_placed link_is span_is = record {
     link = link_is;
-    inside = omega arith;
+    inside = let in_range = is_route.in_range in omega arith;
     above = (way, shown, row, sym placed.link);
-    low = subst (λ (s : Span). IsLowRoute ways cursor.low s.low) (sym span_is) placed.low;
-    high = (way, shown, row, ap (λ (s : Span). s.high) span_is);
+    low = subst (λ (s : Span). IsLowRoute z ways cursor.low s.low) (sym span_is) placed.low;
+    high = (way, shown, row, ap (λ (s : Span). s.high) span_is, is_route);
   }
 
   -- The cursor tells where its right link leads.
@@ -161,10 +161,10 @@ module _ (z : Sizes) (ways : List Way) (way : Way) (cursor : Cursor) (base : ℕ
       → IsPlaced z ways place (right_cursor cursor base)
   right_placed link_is span_is = record {
     link = link_is;
-    inside = omega arith;
+    inside = let in_range = is_route.in_range in omega arith;
     above = (way, shown, row, sym placed.link);
-    low = (way, shown, row, ap (λ (s : Span). s.low) span_is);
-    high = subst (λ (s : Span). IsHighRoute ways cursor.high s.high) (sym span_is) placed.high;
+    low = (way, shown, row, ap (λ (s : Span). s.low) span_is, is_route);
+    high = subst (λ (s : Span). IsHighRoute z ways cursor.high s.high) (sym span_is) placed.high;
   }
 
 -- What a seat knows after one link more, which named a base.
@@ -275,6 +275,8 @@ module _ (z : Sizes) (s : Spot) (m m' m'' : MyTree) (some_rows : 0 < z.rows)
             (λ (x : MyTree). IsListed x.0.upper.inventory led.note) now (led.listed rows_too
             (subst (λ (y : Sizes). IsAlone y m'.0.upper) (sym sizes) (subst
             (λ (x : MyTree). IsAlone z x.0.upper) (sym now) alone)));
+        alike = λ old i. led.alike old
+            (subst (λ (x : MyTree). IsIn old x.0.upper.notes) (sym now) i);
       }
 
   -- The walk came to a route.
@@ -362,7 +364,7 @@ module _ (z : Sizes) (s : Spot) (m : MyTree) (cursor : Cursor) (m' : MyTree)
         (left_of (route_key route) span) left_known at.few
         (sought_left s (route_key route) span side at.sought) (left_cursor cursor base)
         (λ place l p.
-        left_placed z m'.0.upper.ways at.way cursor base place here at.row at.is_route.in_range
+        left_placed z m'.0.upper.ways at.way cursor base place here at.row at.is_route
         at.placed l p) led
 
     -- The walk goes right.
@@ -375,7 +377,7 @@ module _ (z : Sizes) (s : Spot) (m : MyTree) (cursor : Cursor) (m' : MyTree)
         (right_of (route_key route) span) right_known at.few
         (sought_right s (route_key route) span side at.sought) (right_cursor cursor base)
         (λ place l p.
-        right_placed z m'.0.upper.ways at.way cursor base place here at.row at.is_route.in_range
+        right_placed z m'.0.upper.ways at.way cursor base place here at.row at.is_route
         at.placed l p) led
 
 -- One load more of at most so many.
@@ -408,9 +410,9 @@ begins z s m m' from base span some_rows sizes at sought led =
       inside = at.placed.inside;
       above = at.placed.above;
       low = subst
-          (λ (x : Span). IsLowRoute m.0.upper.ways from.low x.low) (sym p) at.placed.low;
+          (λ (x : Span). IsLowRoute z m.0.upper.ways from.low x.low) (sym p) at.placed.low;
       high = subst
-          (λ (x : Span). IsHighRoute m.0.upper.ways from.high x.high) (sym p) at.placed.high;
+          (λ (x : Span). IsHighRoute z m.0.upper.ways from.high x.high) (sym p) at.placed.high;
     }
 
 -- A walk may begin with the root link, to which all keys are led.
@@ -520,6 +522,7 @@ module _ (z : Sizes) (s : Spot) (m : MyTree) (cursor : Cursor) (m' : MyTree) whe
     has = at.has;
     known = at.known;
     listed = at.listed;
+    alike = at.alike;
   }
 
 -- The first word of the base that a walk came to was shown.

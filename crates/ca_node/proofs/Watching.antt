@@ -8,7 +8,7 @@ use Rattle.ca_model.specs.StoreMap.{StoreMap}
 use Rattle.atomic_table.specs.Table.{step, keeps, Allows}
 use Rattle.atomic_table.proofs.Lists.{at_map}
 use Rattle.ca_rows.specs.Calls.{Raises}
-use Rattle.ca_rows.specs.Layout.{row_limit}
+use Rattle.ca_rows.specs.Layout.{row_limit, row_words}
 use Rattle.ca_rows.specs.Rule.{upper_of}
 use Rattle.ca_rows.specs.Words.{result_of}
 use Rattle.ca_rows.specs.declared.sizes.Sizes.{Sizes}
@@ -21,6 +21,7 @@ use Rattle.ca_node.specs.Ranging.{IsOver, IsTrueBorder, IsSoFar}
 use Rattle.ca_node.specs.Reached.{base_at, end_lent}
 use Rattle.ca_node.specs.Row.{row_at, IsBorderRow, mark, mark_owner, mark_number, mark_bound, IsMarkedBy}
 use Rattle.ca_node.specs.Shape.{Role, IsShape}
+use Rattle.ca_node.specs.Stays.{row_long}
 use Rattle.ca_node.specs.Tree.{IsTrue}
 use Rattle.ca_node.specs.May.{MayLoad}
 use Rattle.ca_node.specs.Told.{MyTree, with_upper, over_by, watched, HasWatched, Watches, status_word}
@@ -64,7 +65,7 @@ module _ (z : Sizes) where
   IsLinkedEnd words role border = IsTrueBorder z.rows words border × IsLinked words border.row
 
   abbrev IsEndOf : Note → Border → Type 0
-  IsEndOf note border = (border.row ≡ mark_bound note.its) × (border.row ≤ z.rows) × IsBorderRow border.its
+  IsEndOf note border = (border.row ≡ mark_bound note.its) × (border.row ≤ z.rows) × IsBorderRow border.its × (length border.its ≡ row_words)
 
   -- A base that was shown and that an active range marked names one.
   shown_end : (words : List ℕ) (role : ℕ → Role) (map : StoreMap) → IsShape z words role map → (pass number : ℕ) → IsActive words pass number → (note : Note)
@@ -80,7 +81,7 @@ module _ (z : Sizes) where
           record { some_row = b.some_row; in_range = b.in_range; spells = refl; is_border = b.is_border },
           by_range l.0 (mark_bound note.its) l.1 l.2 l.3,
         ),
-        (refl, b.in_range, b.is_border),
+        (refl, b.in_range, b.is_border, row_long words z.rows (mark_bound note.its) shape.wide b.in_range),
       )
 
   -- So do all of them.
@@ -159,7 +160,7 @@ module _ (z : Sizes) where
               (subst (λ (p : ℕ). IsActive s.words p (word / sequence_unit)) (sym whose) (lo, hi, same ∙ omega arith))))
               (λ l. l) (cases_lt (word / sequence_unit) x.below);
           shown = λ note i active m. let q = ends.2 note i active m in
-              (q.0, q.1, q.2.0, subst (λ (y : Sizes). q.0.row ≤ y.rows) (sym sized) q.2.1, q.2.2);
+              (q.0, q.1, q.2.0, subst (λ (y : Sizes). q.0.row ≤ y.rows) (sym sized) q.2.1, q.2.2, q.2.3);
           idle = λ active. f.quiet pass (word / sequence_unit) (lo, hi, same ∙ omega arith);
           few = λ active notes shown side. subst (λ (y : Sizes). length notes ≤ y.rows) (sym sized) (few_notes z f.role notes
               (λ note i. let has = shown note i in let t = mine.notes note has.0 in

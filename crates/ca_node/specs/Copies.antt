@@ -1,5 +1,5 @@
 -- Bases that are marked for a range: a copy with the range's mark takes the place of a base, and no object comes or goes.
-use Rattle.std.specs.Prelude.{◌≡◌, ◌≢◌, ◌⊎◌, Bool, true, false, ℕ, ◌<◌, ◌≤◌, List, [], ◌∷◌, slice_index}
+use Rattle.std.specs.Prelude.{◌≡◌, ◌≢◌, Bool, true, false, ℕ, ◌<◌, ◌≤◌, List, [], ◌∷◌, slice_index}
 use mathlib.Core.Option.{some, none}
 use Rattle.atomic_table.specs.Table.{Step}
 use Rattle.ca_model.specs.Edges.{Excluded}
@@ -10,13 +10,9 @@ use Rattle.ca_rows.specs.Told.{relinked}
 use Rattle.ca_runs.specs.Runs.{BeginsBefore}
 use Rattle.ca_node.specs.Links.{IsIn}
 use Rattle.ca_node.specs.Place.{HasKey}
-use Rattle.ca_node.specs.Row.{IsBaseRow, IsBorderRow, count, level, items, mark, mark_owner, mark_number, mark_back, mark_bound, IsMarkedBy, IsHeaded}
-use Rattle.ca_node.specs.Told.{MyTree, with_upper, IsLastThere, Update, no_update, given, lent_out, taken_out, exchanged_inventory, one_more_lost, IsMissed}
-use Rattle.ca_node.specs.TreeView.{Note, Over, Begun, Unmarked, Marking, KnownRanges, TreeView, no_note, one_passed}
-
--- No range has the base, or the seat knows that the one is over that marked it.
-abbrev pub IsSettled : TreeView → List ℕ → Type 0
-IsSettled u its = (mark its ≢ 1) ⊎ ((x : Over) × IsIn x u.ranges.over × (mark_owner its ≡ x.pass) × (mark_number its < x.below))
+use Rattle.ca_node.specs.Row.{IsBaseRow, IsBorderRow, count, level, items, mark_back, mark_bound, IsMarkedBy, IsHeaded}
+use Rattle.ca_node.specs.Told.{MyTree, with_upper, IsSettled, IsLastThere, Update, no_update, given, lent_out, taken_out, exchanged_inventory, one_more_lost, IsMissed}
+use Rattle.ca_node.specs.TreeView.{Note, Begun, Unmarked, Marking, KnownRanges, TreeView, no_note, one_passed}
 
 -- A copy: the base that it takes the place of, its words, whose range it is marked for, and that range's number.
 pub record Copy : Type 0 where

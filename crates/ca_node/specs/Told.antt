@@ -98,7 +98,8 @@ led_to_route u more way = record u { seen = u.seen ++ more; ways = way ∷ u.way
 abbrev pub IsPlaceOf : TreeView → ℕ → Place → Type 0
 IsPlaceOf u link place = (place.link ≡ link) × ((least : ℕ) (span : Span) → IsKnownLink u link least span → (least ≤ place.level) × (place.span ≡ span))
 
--- The link was loaded, by a walk or not: it names this base, which has what a state since the pin has of the keys that are led there.
+-- The link was loaded, by a walk or not: it names this base, which has what a state since the pin has of the keys that are led there. Where its row was shown
+-- before as a base, it had these words.
 pub record IsLedToBase (walks : Bool) (link : ℕ) (m : MyTree) (n : ℕ) (m' : MyTree) : Type 0 where
   pub note : Note
   pub more : History
@@ -109,6 +110,7 @@ pub record IsLedToBase (walks : Bool) (link : ℕ) (m : MyTree) (n : ℕ) (m' : 
   pub known : 0 < m.0.sizes.rows → IsBaseNote m.0.sizes note
       × IsKnown m.0.sizes (led_to_base m.0.upper more note (come_to walks m.0.upper note) (come_at walks m.0.upper))
   pub listed : 0 < m.0.sizes.rows → IsAlone m.0.sizes m.0.upper → IsListed m.0.upper.inventory note
+  pub alike : (old : Note) → IsIn old m.0.upper.notes → old.row ≡ note.row → old.its ≡ note.its
 
 -- The link was loaded: it names this route.
 pub record IsLedToRoute (link : ℕ) (m : MyTree) (n : ℕ) (m' : MyTree) : Type 0 where
@@ -203,6 +205,7 @@ pub record HasWatched (pass : ℕ) (m : MyTree) (n : ℕ) (m' : MyTree) : Type 0
   pub ended : (x : Over) → IsIn x m.0.upper.ranges.over → x.pass ≡ pass → n % sequence_unit ≡ row_limit → x.below ≤ n / sequence_unit
   pub shown : (note : Note) → IsIn note m.0.upper.notes → n % sequence_unit ≡ row_limit → IsMarkedBy note.its pass (n / sequence_unit)
       → (border : Border) × IsIn border borders × (border.row ≡ mark_bound note.its) × (border.row ≤ m.0.sizes.rows) × IsBorderRow border.its
+      × (length border.its ≡ row_words)
   -- So far no range begins, so none is active.
   pub idle : n % sequence_unit ≢ row_limit
   -- Such bases that stand side by side are no more than there are rows.
@@ -276,12 +279,18 @@ IsObjectOf m x row its = ((i : ℕ) × (get_elem? (items x.old.its) i ≡ some r
 abbrev pub IsNotFrom : Update → ℕ → ℕ → Type 0
 IsNotFrom x i row = IsIn row (items x.its) → IsIn row x.comes ⊎ ((j : ℕ) × (j ≢ i) × (get_elem? (items x.old.its) j ≡ some row))
 
--- The seat may put the new row in the place of the old base: it is pinned, its last load of that link showed that base, and it holds the new one.
+-- No range has the base, or the seat knows that the one is over that marked it.
+abbrev pub IsSettled : TreeView → List ℕ → Type 0
+IsSettled u its = (mark its ≢ 1) ⊎ ((x : Over) × IsIn x u.ranges.over × (mark_owner its ≡ x.pass) × (mark_number its < x.below))
+
+-- The seat may put the new row in the place of the old base: it is pinned, its last load of that link showed that base, which no range has, and it holds the
+-- new one.
 pub record IsUpdate (z : Sizes) (m : MyTree) (new : ℕ) (x : Update) : Type 0 where
   pub is_pinned : m.0.pin.pinned ≡ true
   pub is_pass : 0 < m.0.upper.number
   pub shown : IsLastThere x.old m.0.upper.notes
   pub old_base : IsBaseRow x.old.its
+  pub settled : IsSettled m.0.upper x.old.its
   pub held : claim_of m.0.claims new ≡ some (Holds x.its)
   pub is_base : IsBaseRow x.its
   pub level_is : level x.its ≡ x.old.place.level
@@ -382,13 +391,14 @@ pub record IsHalf (z : Sizes) (level_above : ℕ) (these : List ℕ) (objects : 
   pub items_are : items its ≡ these
   pub headed : IsHeaded its objects
 
--- The seat may put the route in the place of the old base: it is pinned, its last load of that link showed that base, which stands above the last level,
--- and it holds the route and the halves.
+-- The seat may put the route in the place of the old base: it is pinned, its last load of that link showed that base, which no range has and which stands
+-- above the last level, and it holds the route and the halves.
 pub record IsDivision (z : Sizes) (m : MyTree) (x : Division) : Type 0 where
   pub is_pinned : m.0.pin.pinned ≡ true
   pub is_pass : 0 < m.0.upper.number
   pub shown : IsLastThere x.old m.0.upper.notes
   pub old_base : IsBaseRow x.old.its
+  pub settled : IsSettled m.0.upper x.old.its
   pub above : x.old.place.level < z.levels
   pub held_route : claim_of m.0.claims x.route ≡ some (Holds x.route_its)
   pub held_left : claim_of m.0.claims x.left ≡ some (Holds x.left_its)

@@ -218,7 +218,7 @@ left_over Left = Left
 
 -- It is pinned, or not any more.
 abbrev pub pinned : TreeView → TreeView
-pinned u = record u { since = u.seen; ranges = record u.ranges { own = left_over u.ranges.own } }
+pinned u = record u { since = u.seen; ranges = record u.ranges { own = left_over u.ranges.own; unfinished = [] } }
 
 abbrev pub unpinned : TreeView → TreeView
 unpinned u = record u {

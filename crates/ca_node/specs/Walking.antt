@@ -71,13 +71,13 @@ pub record IsRouteShown (u : TreeView) (row : ℕ) (its : List ℕ) : Type 0 whe
   pub short : count its ≤ 1000
 
 -- The route, if one is named, is one that was shown, and its key is the lower bound, or the upper one.
-abbrev pub IsLowRoute : List Way → Option ℕ → Bound → Type 0
-IsLowRoute ways None bound = bound ≡ Unbounded
-IsLowRoute ways (Some route) bound = (way : Way) × IsIn way ways × (way.row ≡ route) × (bound ≡ Included (route_key way.its))
+abbrev pub IsLowRoute : Sizes → List Way → Option ℕ → Bound → Type 0
+IsLowRoute z ways None bound = bound ≡ Unbounded
+IsLowRoute z ways (Some route) bound = (way : Way) × IsIn way ways × (way.row ≡ route) × (bound ≡ Included (route_key way.its)) × IsRouteNote z way
 
-abbrev pub IsHighRoute : List Way → Option ℕ → Bound → Type 0
-IsHighRoute ways None bound = bound ≡ Unbounded
-IsHighRoute ways (Some route) bound = (way : Way) × IsIn way ways × (way.row ≡ route) × (bound ≡ Excluded (route_key way.its))
+abbrev pub IsHighRoute : Sizes → List Way → Option ℕ → Bound → Type 0
+IsHighRoute z ways None bound = bound ≡ Unbounded
+IsHighRoute z ways (Some route) bound = (way : Way) × IsIn way ways × (way.row ≡ route) × (bound ≡ Excluded (route_key way.its)) × IsRouteNote z way
 
 -- The link, if one is named, is the one on which the route hung whose link the other one is.
 abbrev pub IsAbove : List Way → Link → Option Link → Type 0
@@ -88,13 +88,13 @@ IsAbove ways (link.Right route) None = ⊥
 IsAbove ways (link.Right route) (Some above) = (way : Way) × IsIn way ways × (way.row ≡ route) × (link_word above ≡ way.place.link)
 
 -- The cursor tells the base that was shown, and where it hung.
-pub record IsCursor (ways : List Way) (note : Note) (cursor : Cursor) : Type 0 where
+pub record IsCursor (z : Sizes) (ways : List Way) (note : Note) (cursor : Cursor) : Type 0 where
   pub base : note.row ≡ cursor.base
   pub link : note.place.link ≡ link_word cursor.link
   pub level : note.place.level ≡ cursor.level
   pub above : IsAbove ways cursor.link cursor.above
-  pub low : IsLowRoute ways cursor.low note.place.span.low
-  pub high : IsHighRoute ways cursor.high note.place.span.high
+  pub low : IsLowRoute z ways cursor.low note.place.span.low
+  pub high : IsHighRoute z ways cursor.high note.place.span.high
 
 -- What is looked for is left of this key, or it isn't.
 abbrev pub IsSide : Bool → Spot → List ℕ → Type 0
@@ -108,8 +108,8 @@ pub record IsPlaced (z : Sizes) (ways : List Way) (place : Place) (cursor : Curs
   pub link : place.link ≡ link_word cursor.link
   pub inside : link_word cursor.link < row_words * z.rows + row_words
   pub above : IsAbove ways cursor.link cursor.above
-  pub low : IsLowRoute ways cursor.low place.span.low
-  pub high : IsHighRoute ways cursor.high place.span.high
+  pub low : IsLowRoute z ways cursor.low place.span.low
+  pub high : IsHighRoute z ways cursor.high place.span.high
 
 -- A walk may begin with the cursor's link: it is the root link, or one of a route that is remembered as living. These keys are led there, and the cursor
 -- tells where it hangs.
@@ -152,12 +152,14 @@ pub record IsAtBase (z : Sizes) (spot : Spot) (m : MyTree) (cursor : Cursor) (m'
   pub has : HasState z m'.0.upper note
   pub known : IsKnown z m'.0.upper
   pub listed : IsAlone z m.0.upper → IsListed m.0.upper.inventory note
+  pub alike : (old : Note) → IsIn old m.0.upper.notes → old.row ≡ note.row → old.its ≡ note.its
 
 -- The walk came to a base or to a route.
 abbrev pub IsWalking : Sizes → Spot → MyTree → Cursor → MyTree → Type 0
 IsWalking z spot m cursor m' = IsAtBase z spot m cursor m' ⊎ IsAtRoute z spot m cursor m'
 
--- The walk came to the base that was looked for. It loaded a link at least, and at most one more than there are levels.
+-- The walk came to the base that was looked for. It loaded a link at least, and at most one more than there are levels. Where the base's row was shown before,
+-- it had these words.
 pub record IsWalked (z : Sizes) (spot : Spot) (m : MyTree) (cursor : Cursor) (m' : MyTree) : Type 0 where
   pub note : Note
   pub more : History
@@ -167,7 +169,7 @@ pub record IsWalked (z : Sizes) (spot : Spot) (m : MyTree) (cursor : Cursor) (m'
   pub some : 0 < loads
   pub few : loads ≤ z.levels + 1
   pub sought : IsSought spot note.place.span
-  pub cursor_is : IsCursor m'.0.upper.ways note cursor
+  pub cursor_is : IsCursor z m'.0.upper.ways note cursor
   -- The link is within the table, and another walk may begin with it.
   pub inside : link_word cursor.link < row_words * z.rows + row_words
   pub begins : IsBegin z m'.0.upper note.place.span cursor
@@ -175,3 +177,4 @@ pub record IsWalked (z : Sizes) (spot : Spot) (m : MyTree) (cursor : Cursor) (m'
   pub has : HasState z m'.0.upper note
   pub known : IsKnown z m'.0.upper
   pub listed : IsAlone z m.0.upper → IsListed m.0.upper.inventory note
+  pub alike : (old : Note) → IsIn old m.0.upper.notes → old.row ≡ note.row → old.its ≡ note.its

@@ -18,7 +18,7 @@ pub fn load_status(space: &TreeSpace, pass: &mut TreePass, owner: u32) -> RangeS
     requires reading { IsReading space.now pass.old }
     requires owner { (0 < owner) × (owner ≤ 64) }
     ensures frame { KeepsList pass.old pass.new }
-    ensures watched { (word : ℕ) × (result ≡ status_of word) × HasWatched owner (known pass.old) word (known pass.new) }
+    ensures watched { (word : ℕ) × (result ≡ status_of word) × HasWatched owner (known pass.old) word (known pass.new) × (word < 18446744073709551616) }
 {
     let word = status_word_of(space, owner);
     state_of(space.load::<Watch>(pass, word))

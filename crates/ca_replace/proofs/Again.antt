@@ -1,5 +1,5 @@
 -- Attempts that come to a stop, and what the next one begins with under the same pin.
-use Rattle.std.proofs.Common.{◌≡◌, ℕ, ◌<◌, ◌≤◌, List, length, Option, Some, Result, Ok, Err, sym, refl, ap, ◌∙◌, subst, arith}
+use Rattle.std.proofs.Common.{◌≡◌, ℕ, ◌<◌, ◌≤◌, List, [], length, Option, Some, Result, Ok, Err, sym, refl, ap, ◌∙◌, subst, arith}
 use Rattle.ca_adapt.specs.declared.tuning.Tuning.{Tuning}
 use Rattle.ca_base.specs.declared.stop.Stop.{Stop}
 use Rattle.ca_base.specs.Progress.{IsFurther}
@@ -49,30 +49,33 @@ begin_as z u v span cursor same b = record {
 
 -- So it may begin with the link of the base that was looked at.
 stays_with : (z : Sizes) (key : List ℕ) (cursor : Cursor) (u v : TreeView)
-    → IsLooking z u key cursor → v.since ≡ u.since → v.ways ≡ u.ways
-    → (v.since ≡ u.since) × BeginsAt z key v (Some cursor)
-stays_with z key cursor u v l since ways = (
+    → IsLooking z u key cursor → v.since ≡ u.since → v.ways ≡ u.ways → v.ranges.unfinished ≡ u.ranges.unfinished
+    → (v.since ≡ u.since) × BeginsAt z key v (Some cursor) × (v.ranges.unfinished ≡ u.ranges.unfinished)
+stays_with z key cursor u v l since ways met = (
   since,
   (
     (first_note u.notes).place.span,
     begin_as z u v (first_note u.notes).place.span cursor ways l.begins,
     l.about,
   ),
+  met,
 )
 
 stopped_stays : (z : Sizes) (key : List ℕ) (cursor : Cursor) (why : Stop) (u v : TreeView)
     → IsLooking z u key cursor → v ≡ stopped why u
-    → (v.since ≡ u.since) × BeginsAt z key v (Some cursor)
+    → (v.since ≡ u.since) × BeginsAt z key v (Some cursor) × (v.ranges.unfinished ≡ u.ranges.unfinished)
 stopped_stays z key cursor why u v l is = let same = is ∙ stopped_same why u in
     stays_with z key cursor u v l (ap (λ (x : TreeView). x.since) same)
-    (ap (λ (x : TreeView). x.ways) same)
+    (ap (λ (x : TreeView). x.ways) same) (ap (λ (x : TreeView). x.ranges.unfinished) same)
 
 -- Behind a try to split the base.
 pub split_stays : (z : Sizes) (key : List ℕ) (cursor : Cursor) (many attempt : ℕ)
     (r : Result (Unit {0}) Stop) (u v : TreeView) → IsLooking z u key cursor
-    → HasSplit many attempt r u v → (v.since ≡ u.since) × BeginsAt z key v (Some cursor)
+    → HasSplit many attempt r u v
+    → (v.since ≡ u.since) × BeginsAt z key v (Some cursor) × (v.ranges.unfinished ≡ u.ranges.unfinished)
 split_stays z key cursor many attempt (Ok x) u v l h = stays_with z key cursor u v l
     (ap (λ (x : TreeView). x.since) h.2) (ap (λ (x : TreeView). x.ways) h.2)
+    (ap (λ (x : TreeView). x.ranges.unfinished) h.2)
 split_stays z key cursor many attempt (Err why) u v l h = stopped_stays z key cursor why u v l h
 
 pub split_alike : (many attempt : ℕ) (r : Result (Unit {0}) Stop) (u v : TreeView)
@@ -90,8 +93,9 @@ split_alike many attempt (Err why) u v h = let same = h ∙ stopped_same why u i
 
 -- Behind none.
 pub deep_stays : (z : Sizes) (key : List ℕ) (cursor : Cursor) (u : TreeView)
-    → IsLooking z u key cursor → (u.since ≡ u.since) × BeginsAt z key u (Some cursor)
-deep_stays z key cursor u l = stays_with z key cursor u u l refl refl
+    → IsLooking z u key cursor
+    → (u.since ≡ u.since) × BeginsAt z key u (Some cursor) × (u.ranges.unfinished ≡ u.ranges.unfinished)
+deep_stays z key cursor u l = stays_with z key cursor u u l refl refl refl
 
 -- What is noted of a split of a full base is no cursor.
 pub again_after : {T : Type 0} (r : Result T Stop) (c : Course) → (course_after r c).again ≡ c.again
@@ -115,29 +119,32 @@ settled_stays {z} {k = k} {m'' = m''} (Err why) key cursor s l = subst
 
 -- Behind a look, and what followed it.
 pub stays_behind : {T : Type 0} (z : Sizes) (key : List ℕ) (r : Result T Halt) (u w v : TreeView)
-    (again : Option Cursor) → w.since ≡ u.since → StaysAt z key r w v again
-    → StaysAt z key r u v again
-stays_behind z key (Ok x) u w v again since h = tt
-stays_behind z key (Err why) u w v again since h = (h.0 ∙ since, h.1)
+    (again : Option Cursor) → w.since ≡ u.since → w.ranges.unfinished ≡ u.ranges.unfinished
+    → StaysAt z key r w v again → StaysAt z key r u v again
+stays_behind z key (Ok x) u w v again since met h = tt
+stays_behind z key (Err why) u w v again since met h = (h.0 ∙ since, h.1, h.2 ∙ met)
 
 -- Since it was pinned it learnt of others' edits alone.
 pub asking_further : (u : TreeView) → IsAsking u → IsFurther (at_pin u) u
 asking_further u a = record { number = refl; seen = a.before; log = refl; counts = refl }
 
 -- Still so, where it learnt of others' edits alone.
-pub asking_still : (u v : TreeView) → IsAsking u → IsFurther u v → v.since ≡ u.since → IsAsking v
-asking_still u v a f since = record {
+pub asking_still : (u v : TreeView) → IsAsking u → IsFurther u v → v.since ≡ u.since
+    → v.ranges.unfinished ≡ u.ranges.unfinished → IsAsking v
+asking_still u v a f since met = record {
   before = subst (StartsWith v.seen) (sym since)
       (further_on (at_pin u) u v (asking_further u a) f).seen;
   unanswered = subst (λ (x : History × List Entry). ArePast (length x.0) x.1)
       (λ i. (sym since i, sym f.log i)) a.unanswered;
+  none_met = met ∙ a.none_met;
 }
 
 -- As it pins it has answered none.
-pub asking_pinned : (z : Sizes) (u : TreeView) → IsKnown z u → u.since ≡ u.seen → IsAsking u
-asking_pinned z u k first = record {
+pub asking_pinned : (z : Sizes) (u : TreeView) → IsKnown z u → u.since ≡ u.seen → u.ranges.unfinished ≡ [] → IsAsking u
+asking_pinned z u k first none = record {
   before = subst (StartsWith u.seen) (sym first) (starts_whole u.seen);
   unanswered = none_since z u k first;
+  none_met = none;
 }
 
 -- What it had seen as it was pinned is what it had seen before a look.
@@ -179,7 +186,7 @@ known_since tells z (Err why) u v h = (h.1, h.0.number)
 -- An attempt that may be followed by another one.
 next_stays : {T : Type 0} (z : Sizes) (key : List ℕ) (r : Result T Halt) (u v : TreeView)
     (again : Option Cursor) → HasNext r → StaysAt z key r u v again
-    → (v.since ≡ u.since) × BeginsAt z key v again
+    → (v.since ≡ u.since) × BeginsAt z key v again × (v.ranges.unfinished ≡ u.ranges.unfinished)
 next_stays z key (Ok x) u v again next h = absurd next
 next_stays z key (Err why) u v again next h = h
 
@@ -211,7 +218,7 @@ module _ {R : Type 0} {space : Space R TreeView} {pass new : Pass R TreeView} wh
       let next = next_stays z key r u v again next stays in record {
         ready = ready_after may.ready s (subst (λ n. 0 < n) (sym f.number) may.ready.number);
         known = (known_since tells z r u v tried).0;
-        asking = asking_still u v may.asking f next.0;
+        asking = asking_still u v may.asking f next.0 next.2;
         begins = next.1;
         tallied = s.tally may.tallied;
       }

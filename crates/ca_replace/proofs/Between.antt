@@ -67,10 +67,10 @@ module _ {R : Type 0} (space : Space R TreeView) (pass new : Pass R TreeView) wh
       → AreHeld space.table.shared.key.rows pass.kept.rows pass.seat.me.0 [] → IsKnown space.table.shared.key pass.seat.me.0.upper
       → IsTallied pass.tally pass.seat.me.0.upper → IsSame pass.seat new.seat → new.number ≡ pass.number
       → new.kept ≡ pass.kept → new.tally ≡ pass.tally → pin.pinned ≡ true
-      → pin.number ≡ pass.seat.me.0.pin.number
+      → pin.number ≡ pass.seat.me.0.pin.number → ranges.unfinished ≡ []
       → new.seat.me ≡ moved pass.seat.me pin pass.seat.me.0.upper.seen notes ways ranges → MayBegin space key None new
   may_pinned key pin notes ways ranges own numbered some none known tallied same number kept tally is_pinned
-      pin_number is = let now : IsKnown space.table.shared.key new.seat.me.0.upper = subst
+      pin_number unmet is = let now : IsKnown space.table.shared.key new.seat.me.0.upper = subst
       (λ (x : MyTree). IsKnown space.table.shared.key x.0.upper) (sym is)
       record {
         lawful =
@@ -92,7 +92,8 @@ module _ {R : Type 0} (space : Space R TreeView) (pass new : Pass R TreeView) wh
         known = now;
         asking = asking_pinned space.table.shared.key new.seat.me.0.upper now
             (ap (λ (x : MyTree). x.0.upper.since) is
-            ∙ sym (ap (λ (x : MyTree). x.0.upper.seen) is));
+            ∙ sym (ap (λ (x : MyTree). x.0.upper.seen) is))
+            (ap (λ (x : MyTree). x.0.upper.ranges.unfinished) is ∙ unmet);
         begins = tt;
         tallied = tallied_still pass.tally new.tally pass.seat.me.0.upper new.seat.me.0.upper tally
             (ap (λ (x : MyTree). x.0.upper.splits) is)
@@ -109,7 +110,7 @@ module _ {R : Type 0} (space : Space R TreeView) (pass new : Pass R TreeView) wh
       (announced told moment pass.seat.me).0.upper.ranges r.of
       r.numbered (subst (λ n. 0 < n) (sym r.same_number) r.numbered.1)
       (holds_none space.table.shared.table_id space.table.shared.key pass.number pass.kept.rows pass.seat r) r.known
-      r.tallied same number kept tally refl refl is
+      r.tallied same number kept tally refl refl refl is
 
   -- So may one that pinned anew.
   pub may_anew : {before : _} (key : List ℕ) (told moment : ℕ) → MayBegin space key before pass
@@ -120,7 +121,7 @@ module _ {R : Type 0} (space : Space R TreeView) (pass new : Pass R TreeView) wh
       may_pinned key (announced told moment (left pass.seat.me)).0.pin [] []
       (announced told moment (left pass.seat.me)).0.upper.ranges may.ready.own
       may.ready.numbered may.ready.number may.ready.none may.known may.tallied same number kept
-      tally refl refl is
+      tally refl refl refl is
 
   -- What it knows is what it knew, but for the pin.
   pub goes_anew : {before : _} (key : List ℕ) (told moment : ℕ) → MayBegin space key before pass

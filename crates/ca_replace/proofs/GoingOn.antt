@@ -25,6 +25,7 @@ use Rattle.ca_node.specs.declared.cursor.Spot.TheVariants as spot
 use Rattle.ca_node.specs.Laws.{starts_whole}
 use Rattle.ca_node.specs.Links.{IsIn}
 use Rattle.ca_node.specs.Place.{HasKey, edit_key}
+use Rattle.ca_node.specs.Row.{IsUnmarked}
 use Rattle.ca_node.specs.Told.{MyTree, IsEntered, IsKnown, one_more_lost}
 use Rattle.ca_node.specs.TreeView.{Inventory, Note, Renewal, TreeView, Turns, one_passed, unpinned}
 use Rattle.ca_node.specs.Walking.{IsWalked}
@@ -178,6 +179,9 @@ is_new met z edit word placed (Ok x) u w about h row won = record {
   lost_are = h.same_lost ∙ ap (λ (r : Renewal). r.lost) (sym h.renewal);
   loads_are = h.same_loads ∙ ap (λ (r : Renewal). r.loads) (sym h.renewal);
   met_are = ap (λ (r : Renewal). r.met) (sym h.renewal);
+  noted = subst (λ (r : Renewal). IsIn r.new w.notes) (sym h.renewal)
+      (subst (λ (ns : List Note). IsIn (first_note w.notes) ns) (sym h.notes) (0, refl));
+  unmarked = subst (λ (r : Renewal). IsUnmarked r.new.its) (sym h.renewal) h.unmarked;
   listed = let x = h.inventory.0 in (
     x.old.place,
     subst (λ (n : ℕ). IsIn (n, x.old.place) w.inventory.bases) (ap

@@ -19,7 +19,7 @@ use Rattle.ca_node.specs.Inventory.{IsListed}
 use Rattle.ca_node.specs.Laws.{starts_whole}
 use Rattle.ca_node.specs.States.{HasState, IsAlone, IsAtPin, IsReadSince, IsUnanswered, OfSomeState}
 use Rattle.ca_node.specs.Row.{object, pair}
-use Rattle.ca_node.specs.Told.{MyTree, with_upper, IsEntered, IsKnown, led_to_base, led_to_route, IsLed, IsLedToBase, IsLedToRoute}
+use Rattle.ca_node.specs.Told.{MyTree, with_upper, IsEntered, IsKnown, IsSettled, led_to_base, led_to_route, IsLed, IsLedToBase, IsLedToRoute}
 use Rattle.ca_node.specs.TreeView.{Note, TreeView}
 use Rattle.ca_node.specs.Walking.{walked, IsBegin, IsWalked}
 use Rattle.ca_node.proofs.Parts.{part_map, part_get}
@@ -136,9 +136,13 @@ led_further z link m m' row led sized some_rows = let rows : 0 < m.0.sizes.rows 
 
 -- So it is the one that an update takes the place of.
 pub shown_last : (z : Sizes) (u : TreeView) (key : List ℕ) (cursor : Cursor)
-    → IsLooking z u key cursor → IsShownLast z u cursor.base
-shown_last z u key cursor l =
-    record { noted = l.readable.noted; here = l.readable.here; is_base = l.readable.is_base }
+    → IsLooking z u key cursor → IsSettled u (first_note u.notes).its → IsShownLast z u cursor.base
+shown_last z u key cursor l settled = record {
+  noted = l.readable.noted;
+  here = l.readable.here;
+  is_base = l.readable.is_base;
+  settled = settled;
+}
 
 -- Nothing changed.
 pub stopped_same : (why : Stop) (u : TreeView)

@@ -18,6 +18,7 @@ use Rattle.ca_model.specs.declared.outcome.Outcome.{Outcome}
 use Rattle.ca_model.specs.declared.outcome.Outcome.TheVariants as outcome
 use Rattle.ca_node.specs.Links.{IsIn}
 use Rattle.ca_node.specs.Place.{HasKey, Place}
+use Rattle.ca_node.specs.Row.{IsUnmarked}
 use Rattle.ca_node.specs.Told.{MyTree}
 use Rattle.ca_node.specs.TreeView.{Note, Renewal, TreeView}
 use Rattle.ca_replace.specs.declared.adapting.Adapting.{Adapting}
@@ -34,7 +35,7 @@ abbrev pub HasLostSince : Bool → Bool → ℕ → ℕ → Type 0
 HasLostSince before now few many = ((now ≡ before) × (many ≡ few)) ⊎ ((now ≡ true) × (few < many))
 
 -- The base with this row was just put in place, by an update that is about this key; it was shown last. So many splits and losses were counted as it
--- was, and are now; and so many links were loaded.
+-- was, and are now; and so many links were loaded. No range marked it.
 pub record IsNew (placed : ℕ) (key : List ℕ) (met : Met) (u : TreeView) : Type 0 where
   pub row : placed ≡ u.renewal.new.row
   pub last : u.last ≡ u.renewal.new
@@ -43,6 +44,8 @@ pub record IsNew (placed : ℕ) (key : List ℕ) (met : Met) (u : TreeView) : Ty
   pub lost_are : u.lost ≡ u.renewal.lost
   pub loads_are : u.loads ≡ u.renewal.loads
   pub met_are : met ≡ u.renewal.met
+  pub noted : IsIn u.renewal.new u.notes
+  pub unmarked : IsUnmarked u.renewal.new.its
   -- It is listed at a place to which the key is led.
   pub listed : (place : Place) × IsIn (u.renewal.new.row, place) u.inventory.bases × (placed ≡ u.renewal.new.row) × HasKey place.span key
 

@@ -66,20 +66,21 @@ HasTriedTo tells z (Err why) u v = IsFurther u v × IsKnown z v
 abbrev pub at_pin : TreeView → TreeView
 at_pin u = record u { seen = u.since }
 
--- Since it was pinned the pass learnt of others' edits alone.
+-- Since it was pinned the pass learnt of others' edits alone, and found no range of another pass unfinished.
 pub record IsAsking (u : TreeView) : Type 0 where
   pub before : StartsWith u.seen u.since
   pub unanswered : IsUnanswered u
+  pub none_met : u.ranges.unfinished ≡ []
 
 -- The attempt did the call, which is told so, at a place that isn't before the pin; or it came to a stop, and learnt of others' edits alone.
 abbrev pub HasTriedSince : {T : Type 0} → (T → Event → Type 0) → Sizes → Result T Halt → TreeView → TreeView → Type 0
 HasTriedSince tells z (Ok x) u v = HasDoneSuch (tells x) (at_pin u) v × IsKnown z v
 HasTriedSince tells z (Err why) u v = IsFurther u v × IsKnown z v
 
--- Where an attempt came to a stop another one may follow under the same pin, which begins so.
+-- Where an attempt came to a stop another one may follow under the same pin, which begins so. No other range was found unfinished.
 abbrev pub StaysAt : {T : Type 0} → Sizes → List ℕ → Result T Halt → TreeView → TreeView → Option Cursor → Type 0
 StaysAt z key (Ok x) u v again = Unit {0}
-StaysAt z key (Err why) u v again = (v.since ≡ u.since) × BeginsAt z key v again
+StaysAt z key (Err why) u v again = (v.since ≡ u.since) × BeginsAt z key v again × (v.ranges.unfinished ≡ u.ranges.unfinished)
 
 -- what an attempt comes to that tried to split a full base, given what became of it
 abbrev pub split_to : {T : Type 0} → Result T Stop → Halt

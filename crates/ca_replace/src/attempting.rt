@@ -8,7 +8,7 @@ ghost use Rattle.ca_replace.specs.declared.attempting.Halt.TheVariants.{Deep as 
 ghost use Rattle.ca_replace.specs.Causes.{IsFullSince};
 ghost use Rattle.ca_replace.specs.Cutting.{IsFullFor};
 ghost use Rattle.ca_replace.specs.Attempting.{BeginsAt, IsAsking, IsLooking, HasFetched, HasSeenAlike, HasTriedSince, HasTriedTo, StaysAt, split_to};
-ghost use Rattle.ca_node.specs.Told.{IsKnown};
+ghost use Rattle.ca_node.specs.Told.{IsKnown, IsSettled};
 ghost use Rattle.ca_node.specs.Walking.{IsWalked};
 ghost use Rattle.ca_node.specs.declared.cursor.Spot.TheVariants.{At as IsAt};
 ghost use Rattle.ca_node.specs.States.{IsUnanswered};
@@ -30,6 +30,7 @@ use ca_adapt::{first_attempt, word_of};
 use ca_base::{Insertion, Removal, Stop, Target, count, put_at, remove_at, search, split_at};
 use ca_model::Code;
 use ca_node::{Cursor, Spot, TreePass, TreeSpace, walk, walk_from};
+use ca_range::look_at_mark;
 
 /// Why an attempt came to nothing.
 #[derive(Clone, Copy)]
@@ -104,6 +105,7 @@ pub(crate) fn find(
     requires unanswered { IsUnanswered (tree_of pass.old) }
     requires begins { BeginsAt (sizes space.now) key.now (tree_of pass.old) again }
     ensures looked { HasLooked space.now key.now result.0 result.1 pass.old pass.new }
+    ensures met { (tree_of pass.new).ranges.unfinished ≡ (tree_of pass.old).ranges.unfinished }
 {
     let cursor = walk_again(space, pass, key, again);
     let place = search(space, pass, cursor.base, key);
@@ -137,6 +139,7 @@ pub(crate) fn fetch(
     requires unanswered { IsUnanswered (tree_of pass.old) }
     requires begins { BeginsAt (sizes space.now) key.now (tree_of pass.old) again }
     ensures looked { HasLooked space.now key.now result.0 result.1 pass.old pass.new }
+    ensures met { (tree_of pass.new).ranges.unfinished ≡ (tree_of pass.old).ranges.unfinished }
     ensures fetched { HasFetched (sizes space.now) (tree_of pass.new) key.now result.1 old.new.items }
 {
     let (cursor, place) = find(space, pass, key, again);
@@ -148,6 +151,7 @@ pub(crate) fn fetch(
 }
 
 /// Puts an object at its key's place in the base that was shown last, where there is room; else it splits the base, if that isn't at the last level.
+/// Before that it looks at the base's mark: a base that a range has isn't exchanged.
 pub(crate) fn put_there(
     tree: &Tree,
     pass: &mut TreePass,
@@ -157,6 +161,36 @@ pub(crate) fn put_there(
 ) -> Result<(), Halt>
     requires ready { IsReady tree.now.space pass.old }
     requires looking { IsLooking (sizes tree.now.space) (tree_of pass.old) (key_in insertion.now.keyed) cursor }
+    requires unanswered { IsUnanswered (tree_of pass.old) }
+    requires none_met { (tree_of pass.old).ranges.unfinished ≡ [] }
+    requires keyed { IsKeyed (sizes tree.now.space).keypos insertion.now.keyed }
+    requires place { IsPlace (map pair (shown_last pass.old).objects) (key_in insertion.now.keyed) insertion.now.place }
+    requires call { IsFor insertion.now.why insertion.now.place }
+    ensures frame { StaysReady tree.now.space pass.old pass.new }
+    ensures tried { HasTriedTo (λ _ event. event ≡ event_of insertion.now (shown_last pass.old).objects) (sizes tree.now.space) result (tree_of pass.old)
+        (tree_of pass.new) }
+    ensures stays { StaysAt (sizes tree.now.space) (key_in insertion.now.keyed) result (tree_of pass.old) (tree_of pass.new) course.new.again }
+    ensures deep { OnOk insertion.now.place (result ≢ Err IsDeep) }
+    ensures no_split { OnOk insertion.now.place (result ≢ Err IsSplit) }
+    ensures full { result ≡ Err IsDeep → IsFullSince (sizes tree.now.space) (Some (key_in insertion.now.keyed)) (tree_of pass.new) }
+    ensures turn { IsTurn (λ _. true) (Some (key_in insertion.now.keyed)) (sizes tree.now.space) tree.now.tuning course.old course.new (met_of (known pass.new))
+        result (known pass.old) (known pass.new) }
+{
+    look_at_mark(&tree.space, pass, cursor.base);
+    put_settled(tree, pass, cursor, insertion, course)
+}
+
+// The same where it is known that no range has the base.
+fn put_settled(
+    tree: &Tree,
+    pass: &mut TreePass,
+    cursor: Cursor,
+    insertion: &Insertion<'_>,
+    course: &mut Course,
+) -> Result<(), Halt>
+    requires ready { IsReady tree.now.space pass.old }
+    requires looking { IsLooking (sizes tree.now.space) (tree_of pass.old) (key_in insertion.now.keyed) cursor }
+    requires settled { IsSettled (tree_of pass.old) (shown_last pass.old).its }
     requires keyed { IsKeyed (sizes tree.now.space).keypos insertion.now.keyed }
     requires place { IsPlace (map pair (shown_last pass.old).objects) (key_in insertion.now.keyed) insertion.now.place }
     requires call { IsFor insertion.now.why insertion.now.place }
@@ -201,6 +235,7 @@ fn make_room(
 ) -> Halt
     requires ready { IsReady tree.now.space pass.old }
     requires looking { (key : List ℕ) × IsLooking (sizes tree.now.space) (tree_of pass.old) key cursor }
+    requires settled { IsSettled (tree_of pass.old) (shown_last pass.old).its }
     requires many { (many ≡ length (shown_last pass.old).objects) × (tree.now.tuning.leaf ≤ many) }
     ensures frame { StaysReady tree.now.space pass.old pass.new }
     ensures further { IsFurther (tree_of pass.old) (tree_of pass.new) × IsKnown (sizes tree.now.space) (tree_of pass.new) }
@@ -243,7 +278,7 @@ fn halt_of(split: Result<(), Stop>) -> Halt
     }
 }
 
-/// Removes the object at its key's place in the base that was shown last.
+/// Removes the object at its key's place in the base that was shown last, once it looked at the base's mark.
 pub(crate) fn remove_there(
     tree: &Tree,
     pass: &mut TreePass,
@@ -253,6 +288,32 @@ pub(crate) fn remove_there(
 ) -> Result<(), Halt>
     requires ready { IsReady tree.now.space pass.old }
     requires looking { IsLooking (sizes tree.now.space) (tree_of pass.old) removal.now.key.now cursor }
+    requires unanswered { IsUnanswered (tree_of pass.old) }
+    requires none_met { (tree_of pass.old).ranges.unfinished ≡ [] }
+    requires place { IsPlace (map pair (shown_last pass.old).objects) removal.now.key.now (Ok removal.now.at) }
+    ensures frame { StaysReady tree.now.space pass.old pass.new }
+    ensures tried { HasTriedTo (λ _ event. event ≡ Remove removal.now.key.now (Some (object_at (Ok removal.now.at) (shown_last pass.old).objects))) (sizes tree.now.space) result
+        (tree_of pass.old) (tree_of pass.new) }
+    ensures stays { StaysAt (sizes tree.now.space) removal.now.key.now result (tree_of pass.old) (tree_of pass.new) course.new.again }
+    ensures deep { result ≢ Err IsDeep }
+    ensures turn { IsTurn (λ _. true) None (sizes tree.now.space) tree.now.tuning course.old course.new (met_of (known pass.new)) result
+        (known pass.old) (known pass.new) }
+{
+    look_at_mark(&tree.space, pass, cursor.base);
+    remove_settled(tree, pass, cursor, removal, course)
+}
+
+// The same where it is known that no range has the base.
+fn remove_settled(
+    tree: &Tree,
+    pass: &mut TreePass,
+    cursor: Cursor,
+    removal: &Removal<'_>,
+    course: &mut Course,
+) -> Result<(), Halt>
+    requires ready { IsReady tree.now.space pass.old }
+    requires looking { IsLooking (sizes tree.now.space) (tree_of pass.old) removal.now.key.now cursor }
+    requires settled { IsSettled (tree_of pass.old) (shown_last pass.old).its }
     requires place { IsPlace (map pair (shown_last pass.old).objects) removal.now.key.now (Ok removal.now.at) }
     ensures frame { StaysReady tree.now.space pass.old pass.new }
     ensures tried { HasTriedTo (λ _ event. event ≡ Remove removal.now.key.now (Some (object_at (Ok removal.now.at) (shown_last pass.old).objects))) (sizes tree.now.space) result

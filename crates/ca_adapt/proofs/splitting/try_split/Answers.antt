@@ -47,7 +47,7 @@ split_at-requires-clause-target c = let z = c.args.space.now.table.shared.key in
       leaf = let most = c.requires.tuned.allowed.most_leaf in let leaf = c.requires.tuned.leaf in
           omega arith;
       shown = subst (λ (m : MyTree). IsShownLast z m.0.upper c.args.cursor.base) same
-          record { noted = r.noted; here = r.here; is_base = r.is_base };
+          record { noted = r.noted; here = r.here; is_base = r.is_base; settled = c.requires.settled };
       at = subst
           (λ (m : MyTree). IsAtCursor z (first_note m.0.upper.notes) c.args.cursor) same
           c.requires.at;

@@ -1,7 +1,7 @@
 use Rattle.std.proofs.Common.{[], ◌≤◌, length, ℕ, List, ◌∷◌, sym, refl, ap, subst, ◌∙◌, true, false, get_or, arith, rules}
 use Rattle.ca_base.specs.Counting.{losses}
 use Rattle.ca_base.proofs.Alone.{not_missed}
-use Rattle.ca_base.proofs.Counts.{back_both, met_both, none_back, none_spent}
+use Rattle.ca_base.proofs.Counts.{back_both, met_both, none_back, none_spent, one_spent, spent_both}
 use Rattle.ca_base.specs.Taking.{HasHeld}
 use Rattle.ca_base.proofs.Renewing.{met_still, renewed, placed}
 use Rattle.ca_base.specs.Putting.{IsRenewed}
@@ -162,3 +162,14 @@ returns-then-not-replace_base-clause-back g c = let m = c.args.pass.now.seat.me 
     (omega arith) (let more = c.give_back.ensures.counted.more in omega arith)
     (none_back 1 m n c.args.pass.now.kept c.replace_base.new.pass.kept (omega arith)
     c.replace_base.ensures.frame.kept) c.give_back.ensures.back) c.give_back_all.ensures.back
+
+pub returns-then-not-replace_base-clause-counted : goal.returns-then-not-replace_base-clause-counted
+returns-then-not-replace_base-clause-counted g c =
+    spent_both c.args.spent.now c.give_back.new.spent c.give_back_all.new.spent c.args.pass.now.seat.me c.give_back.new.pass.seat.me
+    c.give_back_all.new.pass.seat.me
+    (spent_both c.args.spent.now c.lose.new.spent c.give_back.new.spent c.args.pass.now.seat.me c.replace_base.new.pass.seat.me
+    c.give_back.new.pass.seat.me
+    (one_spent c.args.spent.now c.lose.new.spent c.args.pass.now.seat.me c.replace_base.new.pass.seat.me c.lose.ensures.lost c.lose.ensures.others
+    (ap losses c.if-not-replace_base.ensures.done ∙ omega arith))
+    c.give_back.ensures.counted)
+    c.give_back_all.ensures.counted

@@ -15,4 +15,5 @@ returns-clause-watched c = (
       c.status_word_of-word.result c.load.result c.args.space.now.table.shared.table_id.slots
       c.load.new.pass.seat.me c.requires.reading.own.1 c.requires.owner.0
       c.status_word_of-word.ensures.word c.load.ensures.told,
+  c.load.type_inv,
 )

@@ -1,4 +1,4 @@
-use Rattle.std.proofs.Common.{[], ap, refl, inl, arith, rules}
+use Rattle.std.proofs.Common.{[], ◌≡◌, sym, subst, ◌∙◌, ap, refl, inl, arith, rules}
 use Rattle.ca_base.specs.Putting.{first_note}
 use Rattle.ca_node.specs.declared.cursor.Spot.TheVariants as spot
 use Rattle.ca_replace.proofs.Tuning.{tuned_on}
@@ -11,7 +11,8 @@ use Rattle.ca_replace.proofs.DueCauses.{elsewhere_met, split_met}
 use Rattle.ca_replace.proofs.Growing.{alone_on, due_grows}
 use Rattle.ca_replace.proofs.Cutting.{due_there}
 use Rattle.ca_replace.proofs.Winning.{comes_there, due_won}
-use Rattle.ca_node.specs.Told.{MyTree}
+use Rattle.ca_node.specs.Row.{mark}
+use Rattle.ca_node.specs.Told.{MyTree, IsSettled}
 use Rattle.ca_replace.proofs.Numbering.{numbered_as}
 use Rattle.ca_replace.proofs.adapting.split_again.Goals as goal
 
@@ -291,3 +292,11 @@ returns-else-was_split-clause-won c alone =
     (c.try_split-adapted.ensures.won here (walked_listed z (spot.At c.args.placed.now.key)
     c.args.pass.now.seat.me c.walk-cursor.new.pass.seat.me c.walk-cursor.result
     c.walk-cursor.ensures.walked alone))
+
+-- It is the new base, so it has that one's words, and no range marked it.
+pub try_split-adapted-requires-clause-settled : goal.try_split-adapted-requires-clause-settled
+try_split-adapted-requires-clause-settled c = let w = c.walk-cursor.ensures.walked in let n = c.requires.placed in
+    let new = c.args.pass.now.seat.me.0.upper.renewal.new in
+    let same = w.alike new n.noted (sym n.row ∙ (sym c.if-cursor-placed.false ∙ sym w.cursor_is.base)) in
+    let none : mark w.note.its ≡ 0 = ap mark (sym same) ∙ n.unmarked in
+    subst (λ (m : MyTree). IsSettled m.0.upper (first_note m.0.upper.notes).its) (sym w.now) (inl (λ one. let two : mark w.note.its ≡ 1 = one in omega arith))

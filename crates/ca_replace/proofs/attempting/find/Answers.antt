@@ -60,4 +60,6 @@ returns c = record {
         c.walk_again-cursor.new.pass.seat.me c.walk_again-cursor.result c.walk_again-cursor.ensures.walked
         c.requires.unanswered);
   };
+  met = ap (λ (m : MyTree). m.0.upper.ranges.unfinished) c.search-place.ensures.frame.still
+      ∙ ap (λ (m : MyTree). m.0.upper.ranges.unfinished) c.walk_again-cursor.ensures.walked.now;
 }

@@ -27,7 +27,7 @@ split_at-split-requires-clause-target c = let l = c.requires.looking.1 in record
   leaf = let most = (tuned_on c.args.tree.now).allowed.most_leaf in
       let leaf = (tuned_on c.args.tree.now).leaf in omega arith;
   shown = shown_last c.args.tree.now.space.table.shared.key c.args.pass.now.seat.me.0.upper _
-      c.args.cursor l;
+      c.args.cursor l c.requires.settled;
   at = l.at;
   many_are = c.requires.many.0;
 }
@@ -67,7 +67,7 @@ returns-clause-stays c key looking = let z = c.args.tree.now.space.table.shared.
       spent = c.split_at-split.new.spent;
       again = Some c.args.cursor;
     } in
-    subst (λ (again : Option Cursor). (v.since ≡ u.since) × BeginsAt z key v again)
+    subst (λ (again : Option Cursor). (v.since ≡ u.since) × BeginsAt z key v again × (v.ranges.unfinished ≡ u.ranges.unfinished))
     (sym (ap (λ (x : Course). x.again) c.note_split.ensures ∙ again_after r course))
     (split_stays z key c.args.cursor c.args.many _ r u v looking c.split_at-split.ensures.split)
 

@@ -244,4 +244,11 @@ returns-in-Err-clause-stays g c = let key : List ℕ = c.args.self.now.key.now i
           BeginsAt z q.0 c.put_there.new.pass.seat.me.0.upper c.put_there.new.course.again)
           (pair_of_bytes c.as_slice-2.result.now c.f.new.arg3.items key
           c.f.new.arg4 c.as_slice-2.ensures.value l.key) c.in-Err.ensures.stays.1,
+      c.in-Err.ensures.stays.2 ∙ c.fetch-place.ensures.met,
     )
+
+pub put_there-requires-clause-unanswered : goal.put_there-requires-clause-unanswered
+put_there-requires-clause-unanswered g c = c.fetch-place.ensures.looked.unanswered
+
+pub put_there-requires-clause-none_met : goal.put_there-requires-clause-none_met
+put_there-requires-clause-none_met g c = c.fetch-place.ensures.met ∙ c.requires.asking.none_met

@@ -1,7 +1,7 @@
 use Rattle.ca_replace.proofs.Again.{since_tried, stays_behind}
 use Rattle.std.specs.Prelude.{slice_range}
 use Rattle.ca_model.specs.Event.{Event, Write}
-use Rattle.std.proofs.Common.{◌≡◌, true}
+use Rattle.std.proofs.Common.{◌≡◌, ◌∙◌, true}
 use Rattle.ca_replace.proofs.Showing.{tried_on}
 use Rattle.std.proofs.Common.{Some}
 use Rattle.ca_base.specs.Targets.{key_in}
@@ -43,4 +43,10 @@ pub returns-clause-stays : goal.returns-clause-stays
 returns-clause-stays c = stays_behind c.args.tree.now.space.table.shared.key
     (key_in c.args.self.now.keyed) c.put_there.result c.args.pass.now.seat.me.0.upper
     c.find-place.new.pass.seat.me.0.upper c.put_there.new.pass.seat.me.0.upper
-    c.put_there.new.course.again c.find-place.ensures.looked.since c.put_there.ensures.stays
+    c.put_there.new.course.again c.find-place.ensures.looked.since c.find-place.ensures.met c.put_there.ensures.stays
+
+pub put_there-requires-clause-unanswered : goal.put_there-requires-clause-unanswered
+put_there-requires-clause-unanswered c = c.find-place.ensures.looked.unanswered
+
+pub put_there-requires-clause-none_met : goal.put_there-requires-clause-none_met
+put_there-requires-clause-none_met c = c.find-place.ensures.met ∙ c.requires.asking.none_met

@@ -101,4 +101,11 @@ pub returns-in-Err-clause-stays : goal.returns-in-Err-clause-stays
 returns-in-Err-clause-stays c = (
   c.in-Err.ensures.stays.0 ∙ c.find-place.ensures.looked.since,
   c.in-Err.ensures.stays.1,
+  c.in-Err.ensures.stays.2 ∙ c.find-place.ensures.met,
 )
+
+pub put_there-requires-clause-unanswered : goal.put_there-requires-clause-unanswered
+put_there-requires-clause-unanswered c = c.find-place.ensures.looked.unanswered
+
+pub put_there-requires-clause-none_met : goal.put_there-requires-clause-none_met
+put_there-requires-clause-none_met c = c.find-place.ensures.met ∙ c.requires.asking.none_met

@@ -107,4 +107,11 @@ pub returns-in-Err-clause-stays : goal.returns-in-Err-clause-stays
 returns-in-Err-clause-stays c = (
   c.in-Err.ensures.stays.0 ∙ c.fetch-place.ensures.looked.since,
   c.in-Err.ensures.stays.1,
+  c.in-Err.ensures.stays.2 ∙ c.fetch-place.ensures.met,
 )
+
+pub remove_there-requires-clause-unanswered : goal.remove_there-requires-clause-unanswered
+remove_there-requires-clause-unanswered c = c.fetch-place.ensures.looked.unanswered
+
+pub remove_there-requires-clause-none_met : goal.remove_there-requires-clause-none_met
+remove_there-requires-clause-none_met c = c.fetch-place.ensures.met ∙ c.requires.asking.none_met

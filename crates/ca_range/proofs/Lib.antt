@@ -1,0 +1,12 @@
+pub mod Basing
+pub mod Bounding
+pub mod Chains
+pub mod Copied
+pub mod Filled
+pub mod Learning
+pub mod Noting
+pub mod Readied
+pub mod Spelled
+pub mod Spends
+pub mod Stepping
+pub mod Watched

@@ -1,0 +1,54 @@
+-- A pass is ready still after steps that only raised what it knows of the tree.
+use Rattle.std.proofs.Common.{◌≡◌, ℕ, ◌<◌, [], sym, ap, ◌∙◌, subst}
+use Rattle.ca_base.specs.Readiness.{IsReady, StaysReady}
+use Rattle.ca_base.specs.Taking.{AreHeld}
+use Rattle.ca_node.specs.Told.{MyTree, with_upper}
+use Rattle.ca_node.specs.TreeView.{TreeView}
+use Rattle.ca_rows.specs.Calls.{IsNumbered}
+use Rattle.ca_rows.specs.Passes.{KeepsList, OnlyReads}
+use Rattle.ca_rows.specs.declared.kept.KeptRows.{KeptRows}
+use Rattle.ca_rows.specs.declared.space.Pass.{Pass}
+use Rattle.ca_rows.specs.declared.space.Space.{Space}
+use Rattle.ca_rows.specs.declared.view.Pin.{Pin}
+use Rattle.ca_range.specs.Staying.{OnlySteps}
+
+module _ {R : Type 0} (space : Space R TreeView) (pass new : Pass R TreeView) where
+  pub ready_still : IsReady space pass → KeepsList pass new → new.seat.me ≡ with_upper pass.seat.me new.seat.me.0.upper
+      → OnlySteps pass.seat.me.0.upper new.seat.me.0.upper → IsReady space new
+  ready_still r k raised steps = record {
+    own = (k.same.0 ∙ r.own.0, ap (λ (x : MyTree). x.0.sizes) raised ∙ r.own.1);
+    numbered = subst (λ (p : ℕ × Pin). IsNumbered p.0 p.1) (λ i. (sym k.number i, sym (ap (λ (x : MyTree). x.0.pin) raised) i)) r.numbered;
+    pinned = ap (λ (x : MyTree). x.0.pin.pinned) raised ∙ r.pinned;
+    number = subst (λ (n : ℕ). 0 < n) (sym (ap (λ (u : TreeView). u.number) steps.only)) r.number;
+    none = subst (λ (x : MyTree × KeptRows). AreHeld space.table.shared.key.rows x.1.rows x.0.0 []) (λ i. (sym raised i, sym k.kept i))
+        (r.none.0, record { now = r.none.1.now; ever = r.none.1.ever });
+  }
+
+  pub ready_reads : IsReady space pass → OnlyReads pass new → IsReady space new
+  ready_reads r k = record {
+    own = (k.same.0 ∙ r.own.0, ap (λ (x : MyTree). x.0.sizes) k.still ∙ r.own.1);
+    numbered = subst (λ (p : ℕ × Pin). IsNumbered p.0 p.1) (λ i. (sym k.number i, sym (ap (λ (x : MyTree). x.0.pin) k.still) i)) r.numbered;
+    pinned = ap (λ (x : MyTree). x.0.pin.pinned) k.still ∙ r.pinned;
+    number = subst (λ (n : ℕ). 0 < n) (sym (ap (λ (x : MyTree). x.0.upper.number) k.still)) r.number;
+    none = subst (λ (x : MyTree × KeptRows). AreHeld space.table.shared.key.rows x.1.rows x.0.0 []) (λ i. (sym k.still i, sym k.kept i)) r.none;
+  }
+
+module _ {R : Type 0} (space : Space R TreeView) where
+  pub ready_after : (pass new : Pass R TreeView) → IsReady space pass → StaysReady space pass new → OnlySteps pass.seat.me.0.upper new.seat.me.0.upper
+      → IsReady space new
+  ready_after pass new r s steps = record {
+    own = (s.same.0 ∙ r.own.0, s.pin.0 ∙ r.own.1);
+    numbered = subst (λ (p : ℕ × Pin). IsNumbered p.0 p.1) (λ i. (sym s.number i, sym s.pin.1 i)) r.numbered;
+    pinned = ap (λ (p : Pin). p.pinned) s.pin.1 ∙ r.pinned;
+    number = subst (λ (n : ℕ). 0 < n) (sym (ap (λ (u : TreeView). u.number) steps.only)) r.number;
+    none = s.none;
+  }
+
+  pub stays_both : (a b c : Pass R TreeView) → StaysReady space a b → StaysReady space b c → StaysReady space a c
+  stays_both a b c x y = record {
+    same = (y.same.0 ∙ x.same.0, y.same.1 ∙ x.same.1);
+    number = y.number ∙ x.number;
+    tally = λ t. y.tally (x.tally t);
+    pin = (y.pin.0 ∙ x.pin.0, y.pin.1 ∙ x.pin.1);
+    none = y.none;
+  }

@@ -1,0 +1,49 @@
+use Rattle.std.proofs.Common.{◌≡◌, ◌+◌, ℕ, get_or, ap, sym, refl, ◌∙◌, subst, arith}
+use Rattle.ca_base.specs.Finding.{IsBaseShown}
+use Rattle.ca_base.specs.Writing.{IsHeld}
+use Rattle.ca_base.proofs.Filling.{begins, goes_on_behind}
+use Rattle.ca_node.specs.Told.{MyTree, IsShownWord}
+use Rattle.ca_node.specs.TreeView.{TreeView}
+use Rattle.ca_rows.specs.declared.view.Pin.{Pin}
+use Rattle.ca_range.proofs.Basing.{base_word, some_word}
+use Rattle.ca_range.proofs.copying.copy_words.Goals as goal
+
+pub loop-place-init : goal.loop-place-init
+loop-place-init c = record {
+  number = refl;
+  kept = refl;
+  tally = refl;
+  filled = λ note s. begins _ _ c.args.row 7 (λ k word. word ≡ get_or note.its (7 + k) 0) c.args.pass.now.seat c.requires.row.reading.own
+      c.requires.row.held.1;
+}
+
+pub load_word-word-requires-clause-reading : goal.load_word-word-requires-clause-reading
+load_word-word-requires-clause-reading c = let s = c.requires.shown in let f = c.loop-place.invariant.filled s.0 s.1 in record {
+  own = f.of;
+  pinned = ap (λ (p : Pin). p.pinned) f.still.3 ∙ c.requires.row.reading.pinned;
+}
+
+pub load_word-word-requires-clause-shown : goal.load_word-word-requires-clause-shown
+load_word-word-requires-clause-shown c = let s = c.requires.shown in let f = c.loop-place.invariant.filled s.0 s.1 in
+    subst (λ (u : TreeView). (word : ℕ) × IsShownWord u c.args.base (7 + c.loop-place.place) word) (sym f.still.4)
+    (some_word c.args.space.now.table.shared.key c.args.pass.now.seat.me.0.upper c.args.base (7 + c.loop-place.place) s)
+
+pub set_word-requires-clause-row : goal.set_word-requires-clause-row
+set_word-requires-clause-row c = let s = c.requires.shown in let f = c.loop-place.invariant.filled s.0 s.1 in record {
+  own = (c.load_word-word.ensures.frame.same.0 ∙ f.of.0, ap (λ (m : MyTree). m.0.sizes) c.load_word-word.ensures.frame.still ∙ f.of.1);
+  held = (c.requires.row.held.0, subst (λ (m : MyTree). IsHeld m c.args.row) (sym c.load_word-word.ensures.frame.still) f.held);
+}
+
+pub loop-place-preserved : goal.loop-place-preserved
+loop-place-preserved c = let i = c.loop-place.invariant in record {
+  number = c.set_word.ensures.frame.number ∙ (c.load_word-word.ensures.frame.number ∙ i.number);
+  kept = c.set_word.ensures.frame.kept ∙ (c.load_word-word.ensures.frame.kept ∙ i.kept);
+  tally = c.set_word.ensures.frame.tally ∙ (c.load_word-word.ensures.frame.tally ∙ i.tally);
+  filled = λ note s. let f = i.filled note s in
+      let shown = subst (λ (u : TreeView). IsBaseShown c.args.space.now.table.shared.key u c.args.base note) (sym f.still.4) s in
+      let word = c.load_word-word.ensures.word (get_or note.its (7 + c.loop-place.place) 0)
+      (base_word c.args.space.now.table.shared.key c.loop-place.pass.seat.me.0.upper c.args.base (7 + c.loop-place.place) note shown) in
+      goes_on_behind _ _ c.args.row 7 (λ k word. word ≡ get_or note.its (7 + k) 0) c.args.pass.now.seat c.loop-place.pass.seat c.load_word-word.new.pass.seat
+      c.set_word.new.pass.seat c.loop-place.place _ _ (omega arith) (omega arith) word f c.load_word-word.ensures.frame.same
+      c.load_word-word.ensures.frame.still c.set_word.ensures.frame.same c.set_word.ensures.set;
+}

@@ -1,0 +1,47 @@
+use Rattle.std.proofs.Common.{rules, [], ◌∷◌, refl, ap, ◌∙◌}
+use Rattle.ca_node.specs.Laws.{in_nothing}
+use Rattle.ca_node.specs.Told.{MyTree}
+use Rattle.ca_node.specs.TreeView.{TreeView}
+use Rattle.ca_node.proofs.Tallies.{tallied_still}
+use Rattle.ca_base.proofs.Unlinking.{held_still, none_left}
+use Rattle.ca_range.proofs.Copied.{copied_rows}
+use Rattle.ca_range.proofs.marking.put_copy.Goals as goal
+
+pub returns-then-not-mark_next-clause-frame : goal.returns-then-not-mark_next-clause-frame
+returns-then-not-mark_next-clause-frame g c = record {
+  same = search rules;
+  number = search rules;
+  tally = let now = c.give_back.ensures.frame.same.4 ∙ ap (λ (m : MyTree). m.0.upper) c.if-not-mark_next.ensures.done in
+      tallied_still c.args.pass.now.tally c.give_back.new.pass.tally c.args.pass.now.seat.me.0.upper c.give_back.new.pass.seat.me.0.upper
+      (c.give_back.ensures.frame.tally ∙ c.mark_next.ensures.frame.tally) (ap (λ (y : TreeView). y.splits) now) (ap (λ (y : TreeView). y.joins) now);
+  pin = search rules;
+  none = c.give_back.ensures.given [] (in_nothing c.args.row [] refl) (held_still c.args.space.now.table.shared.key.rows c.args.pass.now.kept
+      c.mark_next.new.pass.kept c.args.pass.now.seat.me c.mark_next.new.pass.seat.me (c.args.row ∷ []) c.if-not-mark_next.ensures.done
+      c.mark_next.ensures.frame.kept c.requires.held);
+}
+
+pub retire_unlinked-requires-clause-unlinked : goal.retire_unlinked-requires-clause-unlinked
+retire_unlinked-requires-clause-unlinked g c = (
+  [],
+  in_nothing c.args.next.base [] refl,
+  copied_rows c.args.space.now.table.shared.key.rows c.args.pass.now.kept c.mark_next.new.pass.kept c.args.pass.now.seat.me c.mark_next.new.pass.seat.me
+      c.args.pass.now.seat.me.0.upper.ranges c.args.row g.K.Marking.copy c.args.next.base c.requires.at.base c.if-not-mark_next.ensures.done
+      c.mark_next.ensures.frame.kept c.requires.held,
+)
+
+pub returns-clause-frame : goal.returns-clause-frame
+returns-clause-frame g c = record {
+  same = search rules;
+  number = search rules;
+  tally = let now = c.retire_unlinked.ensures.frame.same.4 ∙ ap (λ (m : MyTree). m.0.upper) c.if-not-mark_next.ensures.done.now in
+      tallied_still c.args.pass.now.tally c.retire_unlinked.new.pass.tally c.args.pass.now.seat.me.0.upper c.retire_unlinked.new.pass.seat.me.0.upper
+      (c.retire_unlinked.ensures.frame.tally ∙ c.mark_next.ensures.frame.tally) (ap (λ (y : TreeView). y.splits) now)
+      (ap (λ (y : TreeView). y.joins) now);
+  pin = search rules;
+  none = let rows = c.args.space.now.table.shared.key.rows in
+      none_left rows c.retire_unlinked.new.pass.kept.rows c.retire_unlinked.new.pass.seat.me.0
+      (c.retire_unlinked.ensures.retired [] (in_nothing c.args.next.base [] refl)
+      (copied_rows rows c.args.pass.now.kept c.mark_next.new.pass.kept c.args.pass.now.seat.me c.mark_next.new.pass.seat.me
+      c.args.pass.now.seat.me.0.upper.ranges c.args.row g.K.Marking.copy c.args.next.base c.requires.at.base c.if-not-mark_next.ensures.done
+      c.mark_next.ensures.frame.kept c.requires.held));
+}

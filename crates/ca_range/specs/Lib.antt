@@ -1,0 +1,9 @@
+pub mod Ahead
+pub mod Along
+pub mod Copying
+pub mod Filling
+pub mod Marked
+pub mod Meeting
+pub mod Reaching
+pub mod Spending
+pub mod Staying

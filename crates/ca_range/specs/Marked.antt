@@ -1,0 +1,59 @@
+-- A base is marked as the next one of a range.
+use Rattle.std.specs.Prelude.{◌≡◌, ℕ, List, [], ◌∷◌, Result, Ok, Err, slice_index}
+use Rattle.ca_model.specs.Edges.{Excluded}
+use Rattle.ca_base.specs.Putting.{first_note, stopped, words_of}
+use Rattle.ca_base.specs.declared.stop.Stop.{Stop}
+use Rattle.ca_node.specs.Copies.{Copy, copied, copy_note}
+use Rattle.ca_node.specs.Links.{IsIn}
+use Rattle.ca_node.specs.Notes.{IsBaseNote}
+use Rattle.ca_node.specs.Place.{HasKey}
+use Rattle.ca_node.specs.Row.{mark_bound, mark_number, mark_owner, IsMarkedBy}
+use Rattle.ca_node.specs.Told.{MyTree}
+use Rattle.ca_node.specs.TreeView.{Note, TreeView, no_note}
+use Rattle.ca_rows.specs.Claims.{claim_of}
+use Rattle.ca_rows.specs.declared.sizes.Sizes.{Sizes}
+use Rattle.ca_range.specs.declared.copying.Mark.{Mark}
+
+-- the base that was shown before the last one
+abbrev pub second_note : List Note → Note
+second_note [] = no_note
+second_note (note ∷ notes) = first_note notes
+
+-- the copy that a seat wrote to this row, of the base that it was shown last
+abbrev pub copy_of : MyTree → ℕ → Copy
+copy_of m row = record {
+  old = first_note m.0.upper.notes;
+  its = words_of (claim_of m.0.claims row);
+  pass = mark_owner (words_of (claim_of m.0.claims row));
+  number = mark_number (words_of (claim_of m.0.claims row));
+}
+
+-- The base is the next one behind this one, which was shown, too, and which the range marked.
+pub record IsNextTo (u : TreeView) (mark : Mark) (left note : Note) : Type 0 where
+  pub shown : IsIn left u.notes
+  pub marked : IsMarkedBy left.its mark.range.owner mark.range.number
+  pub bound_is : mark.bound ≡ mark_bound left.its
+  pub back_is : mark.back ≡ left.row
+  pub key : List ℕ
+  pub ends : left.place.span.high ≡ Excluded key
+  pub has : HasKey note.place.span key
+
+-- A copy of the base with this mark took its place.
+pub record IsMarkedNow (z : Sizes) (note : Note) (mark : Mark) (row : ℕ) (u v : TreeView) : Type 0 where
+  pub copy : Copy
+  pub old_is : copy.old ≡ note
+  pub is_base : IsBaseNote z (copy_note row copy)
+  pub marked : IsMarkedBy copy.its mark.range.owner mark.range.number
+  pub bound_is : mark_bound copy.its ≡ mark.bound
+  pub statistic_is : slice_index copy.its 1 ≡ mark.statistic
+  pub now : v ≡ copied [] u.ranges row copy u
+
+-- So it was, or it came to nothing.
+abbrev pub HasMarked : Sizes → Note → Mark → Result ℕ Stop → TreeView → TreeView → Type 0
+HasMarked z note mark (Ok row) u v = IsMarkedNow z note mark row u v
+HasMarked z note mark (Err why) u v = v ≡ stopped why u
+
+-- The copy took the base's place, or it came to nothing.
+abbrev pub HasPut : Copy → ℕ → Result (Unit {0}) Stop → TreeView → TreeView → Type 0
+HasPut copy row (Ok x) u v = v ≡ copied [] u.ranges row copy u
+HasPut copy row (Err why) u v = v ≡ stopped why u

@@ -1,0 +1,22 @@
+//! What a call notes as it helps ranges.
+use ca_model::Spent;
+
+/// A range: whose it is, and its number.
+#[derive(Clone, Copy)]
+pub struct Range {
+    pub owner: u32,
+    pub number: u64,
+}
+
+/// The ranges of other passes that a pass found unfinished since it was pinned: at the place of each pass's number that of one, or none.
+#[derive(Clone, Copy)]
+pub struct Met {
+    pub numbers: [Option<u64>; 65],
+}
+
+/// What a call spent, and what it met of ranges.
+#[derive(Clone, Copy)]
+pub struct Account {
+    pub spent: Spent,
+    pub met: Met,
+}
