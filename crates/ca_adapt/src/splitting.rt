@@ -20,10 +20,10 @@ use ca_node::{Cursor, TreePass, TreeSpace};
 // The last value of an attempt to join what is under a route. No space is made with a greater one.
 const LAST_ATTEMPT: u64 = (1 << 62) - 1;
 
-/// Splits the base under the cursor, which was shown last and which no range has: a route takes its place, over two bases with its halves, whose statistic is 0. That is
-/// `NotSplit` with `OneObject` where it has fewer than two objects, with `AtLevel` where it stands at the last level, with `NoRow` and `Worn` where
-/// no row was free and where the pool's tag can rise no more, and with `Lost` where an exchange was lost, of the base or of the pool's head. Of a
-/// base that it lists, a pass that is alone loses none.
+/// Splits the base under the cursor, which was shown last and which no range has: a route takes its place, over two bases with its halves, whose
+/// statistic is 0. That is `NotSplit` with `OneObject` where it has fewer than two objects, with `AtLevel` where it stands at the last level, with
+/// `NoRow` and `Worn` where no row was free and where the pool's tag can rise no more, and with `Lost` where an exchange was lost, of the base or of
+/// the pool's head. Of a base that it lists, a pass that is alone loses none.
 pub fn split(space: &TreeSpace, pass: &mut TreePass, cursor: &Cursor, tuning: &Tuning) -> Adapted
     requires ready { IsReady space.now pass.old }
     requires tuned { IsTuned (sizes space.now) tuning.now }

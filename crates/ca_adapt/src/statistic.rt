@@ -1,7 +1,7 @@
 //! How a base's statistic moves, and what is due by it.
 ghost use Rattle.std.specs.Prelude.{◌≡◌, cond, neg_ℤ, pos};
 ghost use Rattle.ca_adapt.specs.Allowed.{IsAllowed, IsWithin};
-ghost use Rattle.ca_adapt.specs.Statistics.{IsAfter, IsDue, IsKept, IsStatisticOf, IsWordOf};
+ghost use Rattle.ca_adapt.specs.Statistics.{IsAfter, IsDue, IsKept, IsPast, IsStatisticOf, IsWordOf};
 
 use crate::tuning::Tuning;
 use ca_base::STATISTIC;
@@ -49,6 +49,16 @@ impl Tuning {
         ensures { IsAfter self.now old lost result }
     {
         self.kept(old) + self.step(lost)
+    }
+
+    /// The statistic of the copy of a base that a range marks behind its first one: the base's, or 0 where that is outside of its bounds, and a step
+    /// of a range, but no less than the lower bound: by ranges alone no join is due.
+    pub fn statistic_past(&self, old: i32) -> i32
+        requires { IsAllowed self.now }
+        ensures { IsPast self.now old result }
+    {
+        let moved = self.kept(old) + self.range;
+        if moved < self.low { self.low } else { moved }
     }
 
     /// What is due to a base with this statistic.

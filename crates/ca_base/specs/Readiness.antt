@@ -22,10 +22,11 @@ module _ {R : Type 0} where
     pub number : 0 < pass.seat.me.0.upper.number
     pub none : AreHeld space.table.shared.key.rows pass.kept.rows pass.seat.me.0 []
 
-  -- It is the same pass, pinned as before. It counted what it carried out, and holds no row.
+  -- It is the same pass, pinned as before. It counted what it carried out, and holds no row. Its own range is as far as it was.
   pub record StaysReady (space : Space R TreeView) (pass new : Pass R TreeView) : Type 0 where
     pub same : IsSame pass.seat new.seat
     pub number : new.number ≡ pass.number
     pub tally : IsTallied pass.tally pass.seat.me.0.upper → IsTallied new.tally new.seat.me.0.upper
     pub pin : (new.seat.me.0.sizes ≡ pass.seat.me.0.sizes) × (new.seat.me.0.pin ≡ pass.seat.me.0.pin)
+    pub own_range : new.seat.me.0.upper.ranges.own ≡ pass.seat.me.0.upper.ranges.own
     pub none : AreHeld space.table.shared.key.rows new.kept.rows new.seat.me.0 []

@@ -278,7 +278,7 @@ module _ (z : Sizes) (s : State (Unit {0}) (View TreeView)) (r : R z s) (id : â„
           has_now others_have served serve served_once new_end u'
           (own_notes z s r id me at new (update_of x) ex hit over r.above.history mark bounded has_now
           others_have served serve served_once new_end u' refl refl borders run shown)
-          refl f.edits f.by_passes f.quiet (runs_now fits) own_knows own others_know
+          refl f.edits f.by_passes (runs_now fits) own_knows own others_know
 
       pub copied_now : IsCopied served ranges new x me (d', me.1)
       copied_now = record {

@@ -106,7 +106,6 @@ module _ (z : Sizes) (s : State (Unit {0}) (View TreeView)) (r : R z s) (id : �
         (shape' z s r pass number word' end) f.ranged.ends
         (runs' z s r pass number word' end)
         (λ p n now. f.ranged.made_before p n (active_before z s r pass number word' end p n now).0)
-        (λ p n now. f.quiet p n (active_before z s r pass number word' end p n now).0)
         own_knows own_ranging others (without top) (listed' z s r pass number word' end) same_inventory
 
     pub ends_step : R z record { words = set s.words (own_word s.words pass + 1) word'; homes = s.homes; views = set s.views id (relinked me me.0.claims u').0 }

@@ -834,8 +834,6 @@ module _ (z : Sizes) (s : State (Unit {0}) (View TreeView)) (r : R z s) (id : �
           subst (λ (w : TreeView). IsRanging z words' role' (f.ranged.ends w.number) w.since
           f.history w.number w.ranges) y.2 (ranging_still j y.0 y.1));
     };
-    quiet = λ pass number now. f.quiet pass number
-        (active_back z s.words words' role role' same_ranges pass number now);
     each_seat =
         all_seats (Knows z.rows r.made words' role' (set (map upper_of s.views) id u') f.history)
         (map upper_of s.views) id u' own_knows

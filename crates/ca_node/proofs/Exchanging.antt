@@ -790,7 +790,6 @@ module _ (z : Sizes) (s : State (Unit {0}) (View TreeView)) (r : R z s) (id : �
           ⊎ IsLinked (set s.words x.old.place.link new) row)
           (same_inventory : u'.inventory ≡ exchanged_inventory served new x d.upper.inventory)
           (edits : AreEdits z.keypos next) (by_passes : AreByPasses r.made next)
-          (quiet : (pass number : ℕ) → ¬ IsActive s.words pass number)
           (runs : AreRuns (scene_of (set s.words x.old.place.link new) role') r.above.ranged.ends)
           (own_knows : Knows z.rows r.made (set s.words x.old.place.link new) role'
           (set (map upper_of s.views) id u') next id u')
@@ -893,8 +892,6 @@ module _ (z : Sizes) (s : State (Unit {0}) (View TreeView)) (r : R z s) (id : �
                 v.number v.ranges) (map upper_of s.views) id u' own_ranging
                 (λ j v ne here. (others_know j v ne here).1);
           };
-          quiet = λ pass number now.
-              quiet pass number (active_back z s.words words' role role' same_ranges pass number now);
           each_seat =
               all_seats (Knows z.rows r.made words' role' (set (map upper_of s.views) id u') next)
               (map upper_of s.views) id u' own_knows (λ j v ne here. (others_know j v ne here).0);

@@ -121,7 +121,6 @@ front_more z made words uppers id u f at = let next : List TreeView = uppers ++ 
             (no_ranging z words f.role (f.ranged.ends 0) f.history))
             (at_place uppers (front_of u) v j here);
       };
-      quiet = f.quiet;
       each_seat = λ j v here. ⊎_elim
           (λ (was : get_elem? uppers j ≡ some v). let k = f.each_seat j v was in record {
             made_before = k.made_before;

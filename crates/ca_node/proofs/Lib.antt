@@ -20,7 +20,7 @@ pub mod Named
 mod Neighbours
 pub mod OwnDeciding
 pub mod OwnEnding
-pub mod OwnLeaving
+pub mod OwnOpening
 pub mod OwnWatching
 pub mod OwnWord
 pub mod Parts

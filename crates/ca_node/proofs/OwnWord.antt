@@ -235,7 +235,7 @@ module _ (z : Sizes) (s : State (Unit {0}) (View TreeView)) (r : R z s) (pass wo
   -- The rule holds again, where the shape stands, what ranges marked are runs, and each seat knows what is so.
   pub tree_with : (id : ℕ) (d : View TreeView) → get_elem? s.views id ≡ some d → 0 < d.upper.number → (u' : TreeView)
       → IsShape z words' r.above.role (after r.above.history []) → (ends' : ℕ → Ends) → AreRuns (scene_of words' r.above.role) ends'
-      → ((p n : ℕ) → IsActive words' p n → p ≤ r.made) → ((p n : ℕ) → ¬ IsActive words' p n)
+      → ((p n : ℕ) → IsActive words' p n → p ≤ r.made)
       → Knows z.rows r.made words' r.above.role (set (map upper_of s.views) id u') r.above.history id u'
       → IsRanging z words' r.above.role (ends' u'.number) u'.since r.above.history u'.number u'.ranges
       → ((j : ℕ) (y : View TreeView) → j ≢ id → get_elem? s.views j ≡ some y
@@ -243,7 +243,7 @@ module _ (z : Sizes) (s : State (Unit {0}) (View TreeView)) (r : R z s) (pass wo
       × IsRanging z words' r.above.role (ends' y.upper.number) y.upper.since r.above.history y.upper.number y.upper.ranges)
       → (change : Inventory → Inventory) → IsInventory words' r.above.role (change r.above.inventory) → u'.inventory ≡ change d.upper.inventory
       → IsTree z r.made words' (set (map upper_of s.views) id u')
-  tree_with id d at is_pass u' shape' ends' runs' made_before quiet own_knows own_ranging others change listed same_inventory = record {
+  tree_with id d at is_pass u' shape' ends' runs' made_before own_knows own_ranging others change listed same_inventory = record {
     usable = f.usable;
     history = f.history;
     edits = f.edits;
@@ -261,7 +261,6 @@ module _ (z : Sizes) (s : State (Unit {0}) (View TreeView)) (r : R z s) (pass wo
           (map upper_of s.views) id u' own_ranging (λ j v ne here. let y = of_map upper_of s.views j v here in
           subst (λ (w : TreeView). IsRanging z words' role (ends' w.number) w.since f.history w.number w.ranges) y.2 (others j y.0 ne y.1).1);
     };
-    quiet = quiet;
     each_seat = all_seats (Knows z.rows r.made words' role (set (map upper_of s.views) id u') f.history)
         (map upper_of s.views) id u' own_knows (λ j v ne here. let y = of_map upper_of s.views j v here in
         subst (Knows z.rows r.made words' role (set (map upper_of s.views) id u') f.history j) y.2 (others j y.0 ne y.1).0);

@@ -32,12 +32,12 @@ tallied_split false x m m' t t' d c h =
     tallied_still t t' m.0.upper m'.0.upper c (ap (λ (y : MyTree). y.0.upper.splits) d) (ap
     (λ (y : MyTree). y.0.upper.joins) d) h
 
--- The load of a link is neither a split nor a join.
+-- The load of a link is neither a split nor a join, and tells nothing of the own range.
 pub led_counts : (walks : Bool) (link : ℕ) (m m' : MyTree) (row : ℕ) → IsLed walks link m row m'
-    → (m'.0.upper.splits ≡ m.0.upper.splits) × (m'.0.upper.joins ≡ m.0.upper.joins)
+    → (m'.0.upper.splits ≡ m.0.upper.splits) × (m'.0.upper.joins ≡ m.0.upper.joins) × (m'.0.upper.ranges.own ≡ m.0.upper.ranges.own)
 led_counts walks link m m' row led = ⊎_elim
     (λ (b : IsLedToBase walks link m row m').
-    (ap (λ (y : MyTree). y.0.upper.splits) b.now, ap (λ (y : MyTree). y.0.upper.joins) b.now))
+    (ap (λ (y : MyTree). y.0.upper.splits) b.now, ap (λ (y : MyTree). y.0.upper.joins) b.now, ap (λ (y : MyTree). y.0.upper.ranges.own) b.now))
     (λ (w : IsLedToRoute link m row m').
-    (ap (λ (y : MyTree). y.0.upper.splits) w.now, ap (λ (y : MyTree). y.0.upper.joins) w.now))
+    (ap (λ (y : MyTree). y.0.upper.splits) w.now, ap (λ (y : MyTree). y.0.upper.joins) w.now, ap (λ (y : MyTree). y.0.upper.ranges.own) w.now))
     led

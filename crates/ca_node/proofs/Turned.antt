@@ -161,7 +161,6 @@ module _ (z : Sizes) (s : State (Unit {0}) (View TreeView)) (r : R z s) (pass wo
       (same : 0 < u'.number → u'.number ≡ d.upper.number) (same_inventory : u'.inventory ≡ d.upper.inventory)
       (ends' : ℕ → Ends) (ends_else : (p : ℕ) → p ≢ pass → ends' p ≡ r.above.ranged.ends p)
       (runs' : AreRuns (scene_of (set s.words (own_word s.words pass + 1) word') r.above.role) ends')
-      (quiet' : (p n : ℕ) → ¬ IsActive (set s.words (own_word s.words pass + 1) word') p n)
       (own_notes : (row : ℕ) → IsNoted (set s.words (own_word s.words pass + 1) word') u' row → IsNoted s.words d.upper row)
       (own_knows : Knows z.rows r.made (set s.words (own_word s.words pass + 1) word') r.above.role (set (map upper_of s.views) id u') r.above.history id u')
       (own_ranging : IsRanging z (set s.words (own_word s.words pass + 1) word') r.above.role (ends' u'.number) u'.since r.above.history u'.number
@@ -174,7 +173,7 @@ module _ (z : Sizes) (s : State (Unit {0}) (View TreeView)) (r : R z s) (pass wo
         (λ p n now. dite (ℕ_discrete p pass)
         (λ e. subst (λ q. q ≤ r.made) (mine ∙ sym e) (knows_upper z s r id d at).made_before)
         (λ ne. f.ranged.made_before p n (else_before z s r pass word' lo hi p n ne now)))
-        quiet' own_knows own_ranging
+        own_knows own_ranging
         (λ j y ne here. (
           knows_then z s r pass word' lo hi id d at true_then j y here u' same,
           subst (λ (e : Ends). IsRanging z words' role e y.upper.since f.history y.upper.number y.upper.ranges)

@@ -161,7 +161,11 @@ module _ (z : Sizes) where
               (λ l. l) (cases_lt (word / sequence_unit) x.below);
           shown = λ note i active m. let q = ends.2 note i active m in
               (q.0, q.1, q.2.0, subst (λ (y : Sizes). q.0.row ≤ y.rows) (sym sized) q.2.1, q.2.2, q.2.3);
-          idle = λ active. f.quiet pass (word / sequence_unit) (lo, hi, same ∙ omega arith);
+          made = λ active. let most = f.ranged.made_before pass (word / sequence_unit) (lo, hi, same ∙ omega arith) in let within = r.within in
+              subst (λ (y : Sizes). pass ≤ y.passes) (sym sized) (omega arith);
+          own = λ active whose quiet. subst (λ (x : Ranging). IsSoFar z s.words f.role (f.ranged.ends d.upper.number) d.upper.since f.history
+              d.upper.number d.upper.ranges.borders x) quiet (known.own (subst (λ (p : ℕ). 0 < p) whose lo)) (word / sequence_unit)
+              (subst (λ (p : ℕ). IsActive s.words p (word / sequence_unit)) whose (lo, hi, same ∙ omega arith));
           few = λ active notes shown side. subst (λ (y : Sizes). length notes ≤ y.rows) (sym sized) (few_notes z f.role notes
               (λ note i. let has = shown note i in let t = mine.notes note has.0 in
               ((t.marks pass (word / sequence_unit) has.1).1 (lo, hi, same ∙ omega arith), t.some_row, t.in_range)) side);

@@ -274,7 +274,6 @@ module _ (z : Sizes) (made : ℕ) (uppers : List TreeView) (words others : List 
     role = f.role;
     shape = shape_now;
     ranged = ranged_now;
-    quiet = λ pass number now. f.quiet pass number ((active pass number).0 now);
     each_seat = λ j u at. let k = f.each_seat j u at in record {
       made_before = k.made_before;
       alone = k.alone;
@@ -363,7 +362,6 @@ seat_changed z made words uppers id u u' f at same has k ranging = record {
     each = all_seats (λ j v. IsRanging z words f.role (f.ranged.ends v.number) v.since f.history v.number v.ranges) uppers id u' ranging
         (λ j v n here. f.ranged.each j v here);
   };
-  quiet = f.quiet;
   each_seat = all_seats (Knows z.rows made words f.role (set uppers id u') f.history) uppers id u' k
       (λ j v n here. relisted z.rows made words f.role uppers (set uppers id u') f.history j v (numbered uppers id u u' at same) (f.each_seat j v here));
   inventory = f.inventory;
@@ -527,7 +525,6 @@ tree_making = record {
           (λ number now. let before = f.ranged.made_before (made + 1) number now in omega arith)))
           (at_place uppers (blank (made + 1)) u j here);
     };
-    quiet = f.quiet;
     each_seat = λ j u here. ⊎_elim
         (λ (was : get_elem? uppers j ≡ some u). let k = f.each_seat j u was in let low = k.made_before in record {
           made_before = omega arith;
@@ -793,7 +790,6 @@ module _ (z : Sizes) (words : List ℕ) (bounds : AreInBounds z) (usable : AreUs
       role = role_of;
       shape = shape_there;
       ranged = ranged_there;
-      quiet = quiet;
       each_seat = only;
       inventory = first_inventory;
       listed = listed_first;

@@ -6,7 +6,7 @@ use Rattle.ca_model.specs.Known.{Counts}
 use Rattle.ca_node.specs.Copies.{Copy, Copies}
 use Rattle.ca_node.specs.Endings.{Helps}
 use Rattle.ca_node.specs.Told.{MyTree, Leads, Reads, ReadsLast, IsRise, Refuses, Watches, IsLastThere, Update, Updates, Divides}
-use Rattle.ca_node.specs.OwnRanges.{WatchesOwn, DecidesOwn, Aborts, Leaves}
+use Rattle.ca_node.specs.OwnRanges.{Opens, WatchesOwn, DecidesOwn, Aborts, Leaves}
 use Rattle.ca_node.specs.TreeView.{Note, Border, Begun, Division, KnownRanges, TreeView}
 
 -- All that a load may tell of the tree: that of a link, that of a word that was shown, the ends of calls, which edit nothing or are refused, and how far a
@@ -31,3 +31,7 @@ MaySwap st m n m' = ((x : Update) × IsShownLast m.0.upper st x.old × Updates x
     ⊎ (((x : Division) × IsShownLast m.0.upper st x.old × Divides x st m n m')
     ⊎ (((x : Copy) × (served : List ℕ) × (ranges : KnownRanges) × IsShownLast m.0.upper st x.old × Copies served ranges x st m n m')
     ⊎ (((pass : ℕ) × (number : ℕ) × (border : ℕ) × Helps pass number border st m n m') ⊎ SwapsOwn st m n m')))
+
+-- All that a store may tell: the seat began a range.
+abbrev pub MayStore : Step (Unit {0}) → MyTree → ℕ → MyTree → Type 0
+MayStore st m n m' = (begun : Begun) × Opens begun st m n m'

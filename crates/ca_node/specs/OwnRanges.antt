@@ -1,5 +1,5 @@
--- What a pass does with its own range: it looks how far it is, decides it, or gives it up.
-use Rattle.std.specs.Prelude.{◌≡◌, ◌≢◌, ◌⊎◌, Bool, true, false, ℕ, ◌/◌, ◌%◌, ◌<◌, List, ◌∷◌, ◌++◌}
+-- What a pass does with its own range: it begins it, looks how far it is, decides it, or gives it up.
+use Rattle.std.specs.Prelude.{◌≡◌, ◌≢◌, ◌⊎◌, Bool, true, false, ℕ, ◌+◌, ◌/◌, ◌%◌, ◌<◌, List, ◌∷◌, ◌++◌}
 use mathlib.Core.Option.{some}
 use Rattle.atomic_table.specs.Table.{Step}
 use Rattle.ca_model.specs.History.{History}
@@ -13,6 +13,23 @@ use Rattle.ca_node.specs.Ranging.{IsRunShown, Reaches}
 use Rattle.ca_node.specs.Row.{IsMarkedBy}
 use Rattle.ca_node.specs.Told.{MyTree, with_upper, IsKnown, status_word}
 use Rattle.ca_node.specs.TreeView.{Note, Border, Begun, Ranging, Quiet, Unmarked, Marking, Left, KnownRanges, TreeView}
+
+-- The seat may begin a range: it is pinned, its last one is over, and this one has the next number.
+pub record IsOpening (m : MyTree) (begun : Begun) : Type 0 where
+  pub is_pinned : m.0.pin.pinned ≡ true
+  pub is_pass : 0 < m.0.upper.number
+  pub quiet : m.0.upper.ranges.own ≡ Quiet
+  pub last : ℕ
+  pub sequence : m.0.upper.ranges.sequence ≡ some last
+  pub next : begun.number ≡ last + 1
+
+-- what a seat knows once it began a range
+abbrev pub opened : Begun → TreeView → TreeView
+opened begun u = record u { ranges = record u.ranges { own = Unmarked begun; sequence = some begun.number } }
+
+-- The word of the seat's range was stored, and the range is active.
+abbrev pub Opens : Begun → Step (Unit {0}) → MyTree → ℕ → MyTree → Type 0
+Opens begun st m n m' = IsOpening m begun × (m' ≡ with_upper m (opened begun m.0.upper))
 
 -- what a seat knows of ranges whose own one is over, and which was shown this run
 abbrev pub ended_with_run : ℕ → ℕ → List Note → KnownRanges → KnownRanges

@@ -26,7 +26,7 @@ use Rattle.ca_node.specs.Place.{Span, all_keys, left_of, right_of, HasKey, Place
 use Rattle.ca_node.specs.Row.{IsObjectRow, IsBaseRow, IsRouteRow, IsBorderRow, count, level, items, mark, mark_owner, mark_number, mark_bound, IsMarkedBy, IsUnmarked, IsIdle, key, route_key, pair, IsHeaded}
 use Rattle.ca_node.specs.States.{HasState, IsAlone, IsReadAt}
 use Rattle.ca_node.specs.Tree.{ArePast, IsFixed}
-use Rattle.ca_node.specs.TreeView.{Note, Way, Over, Unfinished, Border, Turns, Renewal, Division, Inventory, TreeView, blank, no_note, one_passed}
+use Rattle.ca_node.specs.TreeView.{Note, Way, Over, Quiet, Unfinished, Border, Turns, Renewal, Division, Inventory, TreeView, blank, no_note, one_passed}
 use Rattle.ca_rows.specs.Layout.{row_words, pass_words, row_limit}
 use Rattle.ca_node.specs.Layout.{root_word, sequence_unit}
 
@@ -206,8 +206,9 @@ pub record HasWatched (pass : ℕ) (m : MyTree) (n : ℕ) (m' : MyTree) : Type 0
   pub shown : (note : Note) → IsIn note m.0.upper.notes → n % sequence_unit ≡ row_limit → IsMarkedBy note.its pass (n / sequence_unit)
       → (border : Border) × IsIn border borders × (border.row ≡ mark_bound note.its) × (border.row ≤ m.0.sizes.rows) × IsBorderRow border.its
       × (length border.its ≡ row_words)
-  -- So far no range begins, so none is active.
-  pub idle : n % sequence_unit ≢ row_limit
+  -- A range that is active is one of a pass of the space. The seat's own is active only where it began one.
+  pub made : n % sequence_unit ≡ row_limit → pass ≤ m.0.sizes.passes
+  pub own : n % sequence_unit ≡ row_limit → pass ≡ m.0.upper.number → m.0.upper.ranges.own ≢ Quiet
   -- Such bases that stand side by side are no more than there are rows.
   pub few : n % sequence_unit ≡ row_limit → (notes : List Note)
       → ((note : Note) → IsIn note notes → IsIn note m.0.upper.notes × IsMarkedBy note.its pass (n / sequence_unit)) → AreSideBySide notes

@@ -8,7 +8,7 @@ use Rattle.ca_model.specs.Lawful.{IsLawful}
 use Rattle.ca_rows.specs.declared.sizes.Sizes.{Sizes}
 use Rattle.ca_rows.specs.Opening.{AreUsable}
 use Rattle.ca_node.specs.Inventory.{IsInventory}
-use Rattle.ca_node.specs.Links.{IsIn, IsActive}
+use Rattle.ca_node.specs.Links.{IsIn}
 use Rattle.ca_node.specs.Place.{IsLinkOf}
 use Rattle.ca_node.specs.Ranging.{AreRanged}
 use Rattle.ca_node.specs.Row.{route_key}
@@ -80,8 +80,6 @@ pub record IsTree (z : Sizes) (made : ℕ) (words : List ℕ) (uppers : List Tre
   pub role : ℕ → Role
   pub shape : IsShape z words role (after history [])
   pub ranged : AreRanged z made words role uppers history
-  -- So far no range is begun.
-  pub quiet : (pass number : ℕ) → ¬ IsActive words pass number
   pub each_seat : (j : ℕ) (u : TreeView) → get_elem? uppers j ≡ some u → Knows z.rows made words role uppers history j u
   -- What the tree has is listed. Until a pass was made that is what it has at first, and a pass that is the only one knows the list.
   pub inventory : Inventory

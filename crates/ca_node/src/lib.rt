@@ -30,7 +30,7 @@ pub use layout::{
 };
 pub use link::Link;
 pub use marking::{mark_first, mark_next};
-pub use own_ranges::{abort_own, decide_own, leave_range, load_own_status};
+pub use own_ranges::{abort_own, decide_own, leave_range, load_own_status, open_range};
 pub use plays::{Finishing, Intent, Marking, Owning, Plan};
 pub use range_state::RangeState;
 pub use ranges::{decide_for, load_status};

@@ -1,14 +1,14 @@
 //! Single steps on the word of the pass's own range.
 ghost use Rattle.std.specs.Prelude.{◌≡◌, ℕ, ◌<◌, ◌≤◌};
-ghost use Rattle.ca_node.specs.OwnRanges.{IsFoundSo, IsOwnEnding, HasDecidedOwn, given_up, IsLeaving, IsGivingUp, HasAborted};
-ghost use Rattle.ca_node.specs.Told.{status_of};
+ghost use Rattle.ca_node.specs.OwnRanges.{IsOpening, opened, IsFoundSo, IsOwnEnding, HasDecidedOwn, given_up, IsLeaving, IsGivingUp, HasAborted};
+ghost use Rattle.ca_node.specs.Told.{status_of, with_upper};
 ghost use Rattle.ca_node.specs.TreePasses.{tree_of, IsOwner};
 ghost use Rattle.ca_rows.specs.Layout.{last_sequence, row_limit};
 ghost use Rattle.ca_rows.specs.Passes.{KeepsList, known, view};
 ghost use Rattle.ca_rows.specs.Told.{relinked};
 
 use crate::layout::SEQUENCE;
-use crate::plays::{AbortOwn, DecideOwn, LeaveOwn, Owning, WatchOwn};
+use crate::plays::{AbortOwn, DecideOwn, LeaveOwn, OpenOwn, Owning, WatchOwn};
 use crate::range_state::RangeState;
 use crate::ranges::{state_of, status_word_of};
 use crate::rule::{TreePass, TreeSpace};
@@ -23,6 +23,18 @@ pub fn load_own_status(space: &TreeSpace, pass: &mut TreePass) -> RangeState
 {
     let word = status_word_of(space, pass.number());
     state_of(space.load::<WatchOwn>(pass, word))
+}
+
+/// One store, by which a range begins, which `K` names: it is active from then on, and its number is the one behind that of the pass's last range.
+pub fn open_range<K: Owning>(space: &TreeSpace, pass: &mut TreePass, number: u64)
+    requires owner { IsOwner space.now pass.old }
+    requires opening { IsOpening (known pass.old) K.begun }
+    requires number { (K.begun.number ≡ number) × (number ≤ last_sequence) }
+    ensures frame { KeepsList pass.old pass.new }
+    ensures opened { known pass.new ≡ with_upper (known pass.old) (opened K.begun (tree_of pass.old)) }
+{
+    let word = status_word_of(space, pass.number());
+    space.store::<OpenOwn<K>>(pass, word, SEQUENCE * number + ROW_LIMIT);
 }
 
 /// One exchange by which the pass gives its own range up, for which it had marked nothing, so nobody else can have ended it.

@@ -2,7 +2,7 @@
 ghost use Rattle.std.specs.Prelude.{ℕ, List, [], ◌∷◌, true, false};
 ghost use Rattle.ca_node.specs.Copies.{Copy, no_copy, Copies, marking_now};
 ghost use Rattle.ca_node.specs.Endings.{Helps};
-ghost use Rattle.ca_node.specs.OwnRanges.{WatchesOwn, DecidesOwn, Aborts, Leaves};
+ghost use Rattle.ca_node.specs.OwnRanges.{Opens, WatchesOwn, DecidesOwn, Aborts, Leaves};
 ghost use Rattle.ca_node.specs.Row.{mark_bound};
 ghost use Rattle.ca_node.specs.Told.{Leads, Reads, Watches, Update, Updates, no_update, Divides, no_division, front_of, learnt};
 ghost use Rattle.ca_node.specs.TreeView.{blank, no_note, no_border, none_begun, Note, Border, Begun, Division};
@@ -119,8 +119,8 @@ impl Play<(), View<Knowledge>> for WatchOwn {
     ghost then = { WatchesOwn };
 }
 
-/// Which range of its own a pass ends: as it was begun, the row that says up to where it goes, and the base with which it decides it. It exists in proofs
-/// alone.
+/// Which range of its own a pass begins, or ends: as it was begun, the row that says up to where it goes, and the base with which it decides it. It exists
+/// in proofs alone.
 pub trait Owning {
     ghost begun: { Begun };
 
@@ -135,6 +135,15 @@ impl Owning for Brand {
     ghost border = { no_border };
 
     ghost last = { no_note };
+}
+
+/// The store by which a pass begins a range.
+pub struct OpenOwn<K> {
+    beginning: PhantomData<K>,
+}
+
+impl<K: Owning> Play<(), View<Knowledge>> for OpenOwn<K> {
+    ghost then = { Opens K.begun };
 }
 
 /// The exchange by which a pass gives up a range for which it marked nothing.

@@ -2,7 +2,7 @@
 ghost use Rattle.ca_node.specs.Laws.{tree_frames, tree_lends, tree_pinning, tree_making, tree_closing, tree_opening};
 ghost use Rattle.ca_node.specs.Links.{IsLinked, IsLent, IsNoted};
 ghost use Rattle.ca_node.specs.Opened.{opens_at, result_at};
-ghost use Rattle.ca_node.specs.May.{MayLoad, MaySwap};
+ghost use Rattle.ca_node.specs.May.{MayLoad, MaySwap, MayStore};
 ghost use Rattle.ca_node.specs.Told.{learnt};
 ghost use Rattle.ca_node.specs.Tree.{IsTree};
 ghost use Rattle.ca_node.specs.TreeView.{blank, ended_with, pinned, unpinned};
@@ -44,6 +44,8 @@ impl RowRule for TreeRule {
     ghost loads = { MayLoad };
 
     ghost swaps = { MaySwap };
+
+    ghost stores = { MayStore };
 
     ghost learns = { learnt };
 

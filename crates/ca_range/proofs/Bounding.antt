@@ -29,7 +29,8 @@ module _ (its key : List ℕ) where
 
   -- The range goes up to a key that is less.
   pub reaches_included : edge_form its ≡ 1 → is_lt (bytes_cmp (route_key its) key) ≡ true → Reaches its (Excluded key)
-  reaches_included one less = subst IsBelow (sym (ap (λ (n : ℕ). cond (eqb n 0) Unbounded (cond (eqb n 1) (Included (route_key its)) (Excluded (route_key its)))) one))
+  reaches_included one less = subst IsBelow
+      (sym (ap (λ (n : ℕ). cond (eqb n 0) Unbounded (cond (eqb n 1) (Included (route_key its)) (Excluded (route_key its)))) one))
       (λ k up. by k (bytes_cmp k (route_key its)) refl up)
     where
       by : (k : List ℕ) (o : Ordering) → bytes_cmp k (route_key its) ≡ o → not (is_gt o) ≡ true → is_lt (bytes_cmp k key) ≡ true
@@ -42,7 +43,8 @@ module _ (its key : List ℕ) where
   reaches_excluded some other less = subst IsBelow (sym top) (λ k up. by k (bytes_cmp (route_key its) key) refl less (is_less (bytes_cmp k (route_key its)) up))
     where
       top : top_of its ≡ Excluded (route_key its)
-      top = ap (λ (b : Bool). cond b Unbounded (cond (eqb (edge_form its) 1) (Included (route_key its)) (Excluded (route_key its)))) (ne_eqb (edge_form its) 0 some)
+      top = ap (λ (b : Bool). cond b Unbounded (cond (eqb (edge_form its) 1) (Included (route_key its)) (Excluded (route_key its))))
+          (ne_eqb (edge_form its) 0 some)
           ∙ ap (λ (b : Bool). cond b (Included (route_key its)) (Excluded (route_key its))) (ne_eqb (edge_form its) 1 other)
 
       by : (k : List ℕ) (o : Ordering) → bytes_cmp (route_key its) key ≡ o → is_le o ≡ true → bytes_cmp k (route_key its) ≡ Less
@@ -52,26 +54,25 @@ module _ (its key : List ℕ) where
       by k Greater e l less' = cc
 
   -- So it is told by comparing.
-  pub by_included : edge_form its ≡ 1 → is_lt (bytes_cmp (route_key its) key) ≡ true → reaches_by its (Excluded key) ≡ true
-  by_included one less = ap (λ (n : ℕ). cond (eqb n 0) false (cond (eqb n 1) (is_lt (bytes_cmp (route_key its) key)) (is_le (bytes_cmp (route_key its) key)))) one ∙ less
+  pub of_none : edge_form its ≡ 0 → reaches_by its (Excluded key) ≡ false
+  of_none none = ap (λ (n : ℕ). cond (eqb n 0) false (cond (eqb n 1) (is_lt (bytes_cmp (route_key its) key)) (is_le (bytes_cmp (route_key its) key)))) none
 
-  pub by_excluded : edge_form its ≢ 0 → edge_form its ≢ 1 → is_le (bytes_cmp (route_key its) key) ≡ true → reaches_by its (Excluded key) ≡ true
-  by_excluded some other less =
+  pub of_included : edge_form its ≡ 1 → reaches_by its (Excluded key) ≡ is_lt (bytes_cmp (route_key its) key)
+  of_included one = ap (λ (n : ℕ). cond (eqb n 0) false (cond (eqb n 1) (is_lt (bytes_cmp (route_key its) key)) (is_le (bytes_cmp (route_key its) key)))) one
+
+  pub of_excluded : edge_form its ≢ 0 → edge_form its ≢ 1 → reaches_by its (Excluded key) ≡ is_le (bytes_cmp (route_key its) key)
+  of_excluded some other =
       ap (λ (b : Bool). cond b false (cond (eqb (edge_form its) 1) (is_lt (bytes_cmp (route_key its) key)) (is_le (bytes_cmp (route_key its) key))))
       (ne_eqb (edge_form its) 0 some)
-      ∙ (ap (λ (b : Bool). cond b (is_lt (bytes_cmp (route_key its) key)) (is_le (bytes_cmp (route_key its) key))) (ne_eqb (edge_form its) 1 other) ∙ less)
+      ∙ ap (λ (b : Bool). cond b (is_lt (bytes_cmp (route_key its) key)) (is_le (bytes_cmp (route_key its) key))) (ne_eqb (edge_form its) 1 other)
 
   -- What is told so is so.
   told : reaches_by its (Excluded key) ≡ true → Reaches its (Excluded key)
   told is = dite (ℕ_discrete (edge_form its) 0)
-      (λ (e : edge_form its ≡ 0). let no : false ≡ true = sym (ap (λ (n : ℕ). cond (eqb n 0) false (cond (eqb n 1) (is_lt (bytes_cmp (route_key its) key))
-      (is_le (bytes_cmp (route_key its) key)))) e) ∙ is in absurd cc)
+      (λ (e : edge_form its ≡ 0). let no : false ≡ true = sym (of_none e) ∙ is in absurd cc)
       (λ n. dite (ℕ_discrete (edge_form its) 1)
-      (λ (e : edge_form its ≡ 1). reaches_included e (sym (ap (λ (n : ℕ). cond (eqb n 0) false (cond (eqb n 1) (is_lt (bytes_cmp (route_key its) key))
-      (is_le (bytes_cmp (route_key its) key)))) e) ∙ is))
-      (λ m. reaches_excluded n m (sym (ap (λ (b : Bool). cond b false (cond (eqb (edge_form its) 1) (is_lt (bytes_cmp (route_key its) key))
-      (is_le (bytes_cmp (route_key its) key)))) (ne_eqb (edge_form its) 0 n)
-      ∙ ap (λ (b : Bool). cond b (is_lt (bytes_cmp (route_key its) key)) (is_le (bytes_cmp (route_key its) key))) (ne_eqb (edge_form its) 1 m)) ∙ is)))
+      (λ (e : edge_form its ≡ 1). reaches_included e (sym (of_included e) ∙ is))
+      (λ m. reaches_excluded n m (sym (of_excluded n m) ∙ is)))
 
 pub reaches_told : (its : List ℕ) (high : Bound) → reaches_by its high ≡ true → Reaches its high
 reaches_told its Unbounded is = λ key up. refl

@@ -24,6 +24,11 @@ use Rattle.ca_range.specs.Copying.{SpellsCopy}
 use Rattle.ca_range.specs.Marked.{IsMarkedNow, IsNextTo, copy_of, second_note}
 use Rattle.ca_range.specs.declared.copying.Mark.{Mark}
 
+-- The base that was shown last was shown still, where the same is known of the tree.
+pub shown_still : (z : Sizes) (m m' : MyTree) (base : ℕ) → m'.0.upper ≡ m.0.upper → IsBaseShown z m.0.upper base (first_note m.0.upper.notes)
+    → IsBaseShown z m'.0.upper base (first_note m.0.upper.notes)
+shown_still z m m' base same shown = subst (λ (u : TreeView). IsBaseShown z u base (first_note m.0.upper.notes)) (sym same) shown
+
 -- What is in a list of one row is that row.
 is_one : (r row : ℕ) → IsIn r (row ∷ []) → row ≡ r
 is_one r row i = ⊎_elim (λ (e : row ≡ r). e) (λ (j : IsIn r []). absurd (in_nothing r [] refl j)) (in_more row r [] i)
@@ -114,8 +119,8 @@ module _ (z : Sizes) (m0 m : MyTree) (row base : ℕ) (its : List ℕ) (mark : M
   }
 
   -- It took the base's place.
-  pub marked_now : (v : TreeView) → IsBaseShown z m0.0.upper base (first_note m0.0.upper.notes) → 0 < row → row ≤ z.rows → 0 < mark.range.owner → mark.range.owner ≤ 64
-      → v ≡ copied [] m.0.upper.ranges row (copy_of m row) m.0.upper → IsMarkedNow z (first_note m0.0.upper.notes) mark row m0.0.upper v
+  pub marked_now : (v : TreeView) → IsBaseShown z m0.0.upper base (first_note m0.0.upper.notes) → 0 < row → row ≤ z.rows → 0 < mark.range.owner
+      → mark.range.owner ≤ 64 → v ≡ copied [] m.0.upper.ranges row (copy_of m row) m.0.upper → IsMarkedNow z (first_note m0.0.upper.notes) mark row m0.0.upper v
   marked_now v shown lo hi owner less e = record {
     copy = copy;
     old_is = refl;

@@ -1,31 +1,34 @@
 -- A gap behind the bases that a range marked is filled.
-use Rattle.std.proofs.Common.{◌≡◌, ℕ, ◌≤◌, List, sym, refl, ap, ◌∙◌, subst, arith}
+use Rattle.std.specs.Prelude.{slice_index}
+use Rattle.std.proofs.Common.{◌≡◌, ◌⊎◌, ℕ, ◌<◌, ◌≤◌, List, sym, refl, ap, ◌∙◌, subst, inl, inr, ⊎_elim, arith}
+use Rattle.ca_model.specs.declared.outcome.Spent.{Spent}
 use Rattle.ca_base.specs.Counting.{HasMet, losses}
 use Rattle.ca_base.proofs.Counts.{met_both}
-use Rattle.ca_range.specs.Filling.{HasStepped, IsEnded}
+use Rattle.ca_range.specs.Farther.{reach, reach_to}
+use Rattle.ca_range.specs.Filling.{GoesTo, HasStepped, IsCopyOf, IsEnded, IsHelpedTo, IsInUse, IsOneOver, IsPassedOn}
 use Rattle.ca_range.specs.declared.account.Range.{Range}
 use Rattle.ca_range.specs.declared.filling.Step.{Step}
 use Rattle.ca_range.specs.declared.filling.Step.TheVariants as step
 use Rattle.ca_range.specs.declared.helped.Helped.{Helped}
 use Rattle.ca_range.specs.declared.helped.Helped.TheVariants as helped
 use Rattle.ca_base.specs.Finding.{IsAtCursor, IsBaseShown}
-use Rattle.ca_base.specs.Putting.{first_note, stopped}
-use Rattle.ca_base.specs.declared.stop.Exchange.TheVariants as exchange
-use Rattle.ca_base.specs.declared.stop.Stop.{Stop}
-use Rattle.ca_base.specs.declared.stop.Stop.TheVariants as stop
+use Rattle.ca_base.specs.Putting.{first_note}
+use Rattle.ca_adapt.specs.Statistics.{IsPastWord}
+use Rattle.ca_adapt.specs.declared.tuning.Tuning.{Tuning}
 use Rattle.ca_node.specs.declared.cursor.Cursor.{Cursor}
 use Rattle.ca_node.specs.Links.{IsIn}
 use Rattle.ca_node.specs.Notes.{IsBaseNote}
 use Rattle.ca_node.specs.Told.{MyTree, with_upper}
-use Rattle.ca_node.specs.TreeView.{Note, Way, TreeView}
+use Rattle.ca_node.specs.TreeView.{Note, Way, Unfinished, TreeView}
 use Rattle.ca_node.specs.Walking.{IsHighRoute}
 use Rattle.ca_rows.specs.declared.sizes.Sizes.{Sizes}
-use Rattle.ca_range.specs.Ahead.{IsAtLast, IsAtMarked}
+use Rattle.ca_range.specs.Ahead.{IsAtLast, IsAtMarked, IsKnownOver}
 use Rattle.ca_range.specs.Filling.{RemembersAll}
 use Rattle.ca_range.specs.Marked.{IsMarkedNow}
-use Rattle.ca_range.specs.Staying.{OnlySteps}
+use Rattle.ca_range.specs.Staying.{IsCounted, OnlySteps}
 use Rattle.ca_range.specs.declared.copying.Mark.{Mark}
-use Rattle.ca_range.proofs.Stepping.{steps_lost, steps_none}
+use Rattle.ca_range.specs.declared.marks.MarkedBase.{MarkedBase}
+use Rattle.ca_range.proofs.Stepping.{counted_both}
 
 -- The same base was shown last.
 pub at_same : (z : Sizes) (u v : TreeView) (cursor : Cursor) → RemembersAll u v → IsAtLast z u cursor → IsAtLast z v cursor
@@ -60,28 +63,108 @@ at_copy z mark u v next row at k = subst (λ (x : TreeView). IsAtMarked z x mark
   marked = k.marked;
 }
 
--- A try that came to nothing.
-pub steps_stopped : (u : TreeView) (why : Stop) → OnlySteps u (stopped why u)
-steps_stopped u (stop.Lost exchange.Link) = steps_lost u
-steps_stopped u (stop.Lost exchange.Head) = steps_none u
-steps_stopped u stop.Empty = steps_none u
-steps_stopped u stop.Worn = steps_none u
+-- It is a copy of that base, with the word of its mark for its statistic.
+pub copy_is : (z : Sizes) (mark : Mark) (w u v : TreeView) (next : Cursor) (row : ℕ) → u.notes ≡ w.notes → IsMarkedNow z (first_note u.notes) mark row u v
+    → IsCopyOf (first_note w.notes) mark.statistic (step.Marked next) v
+copy_is z mark w u v next row same k = subst (IsCopyOf (first_note w.notes) mark.statistic (step.Marked next)) (sym k.now) (
+  ap first_note same,
+  ap (λ (n : Note). n.place) k.old_is ∙ ap (λ (ns : List Note). (first_note ns).place) same,
+  ap (λ (n : Note). n.objects) k.old_is ∙ ap (λ (ns : List Note). (first_note ns).objects) same,
+  k.statistic_is,
+)
+
+-- So it has what a range makes of the base's statistic, where that word is for it.
+pub passed_on : (t : Tuning) (s : Step) (u v : TreeView) (word : ℕ) → IsPastWord t (slice_index (first_note u.notes).its 1) word
+    → IsCopyOf (first_note u.notes) word s v → IsPassedOn t s v
+passed_on t (step.Marked next) u v word p c = (
+  c.1 ∙ sym (ap (λ (n : Note). n.place) c.0),
+  c.2 ∙ sym (ap (λ (n : Note). n.objects) c.0),
+  subst (λ (x : Note × ℕ). IsPastWord t (slice_index x.0.its 1) x.1) (λ i. (sym c.0 i, sym c.3 i)) p,
+)
+passed_on t (step.Met next) u v word p c = tt
+passed_on t (step.Ended helped) u v word p c = tt
 
 -- Of the pool nothing was met.
 pub raised_met : (m m' : MyTree) (u : TreeView) → m' ≡ with_upper m u → HasMet 0 0 m m'
 raised_met m m' u is = let e = ap (λ (x : MyTree). x.0.empty) is in let w = ap (λ (x : MyTree). x.0.worn) is in (omega arith, omega arith)
 
 -- A step came after others that met nothing of the pool.
-ended_after : (z : Sizes) (range : Range) (h : Helped) (k m n : MyTree) → HasMet 0 0 k m → losses k ≤ losses m → IsEnded z range h m n → IsEnded z range h k n
-ended_after z range helped.Finished k m n met lost e = (e.0, met_both 0 0 0 0 k m n met e.1)
-ended_after z range (helped.Met next) k m n met lost e = (e.0, e.1, met_both 0 0 0 0 k m n met e.2)
-ended_after z range helped.Lost k m n met lost e = let more = e.0 in (omega arith, met_both 0 0 0 0 k m n met e.1)
-ended_after z range (helped.Busy spent) k m n met lost e = e
-ended_after z range helped.NoRow k m n met lost e = met_both 0 0 1 0 k m n met e
-ended_after z range (helped.Worn counter) k m n met lost e = met_both 0 0 0 1 k m n met e
+ended_after : (z : Sizes) (range : Range) (h : Helped) (k m n : MyTree) → HasMet 0 0 k m → OnlySteps z 0 k.0.upper m.0.upper → losses k ≤ losses m
+    → m.0.upper.turns.helped ≤ n.0.upper.turns.helped → IsEnded z range h m n → IsEnded z range h k n
+ended_after z range helped.Finished k m n met steps lost more e =
+    (e.0, counted_both range k.0.upper m.0.upper n.0.upper steps more e.1, met_both 0 0 0 0 k m n met e.2)
+ended_after z range (helped.Lost exchange) k m n met steps lost more e = let some = e.0 in (omega arith, met_both 0 0 0 0 k m n met e.1)
+ended_after z range (helped.Busy spent) k m n met steps lost more e = e
+ended_after z range helped.NoRow k m n met steps lost more e = met_both 0 0 1 0 k m n met e
+ended_after z range (helped.Worn counter) k m n met steps lost more e = met_both 0 0 0 1 k m n met e
 
-pub stepped_after : (z : Sizes) (range : Range) (s : Step) (k m n : MyTree) → m ≡ with_upper k m.0.upper → losses k ≤ losses m
-    → k.0.upper.turns.passed ≤ m.0.upper.turns.passed → HasStepped z range s m n → HasStepped z range s k n
-stepped_after z range (step.Marked next) k m n raised lost passed h = let less = h.1 in
+pub stepped_after : (z : Sizes) (range : Range) (s : Step) (k m n : MyTree) → m ≡ with_upper k m.0.upper → OnlySteps z 0 k.0.upper m.0.upper
+    → losses k ≤ losses m → k.0.upper.turns.passed ≤ m.0.upper.turns.passed → m.0.upper.turns.helped ≤ n.0.upper.turns.helped → HasStepped z range s m n
+    → HasStepped z range s k n
+stepped_after z range (step.Marked next) k m n raised steps lost passed more h = let less = h.1 in
     (h.0, omega arith, met_both 0 0 0 0 k m n (raised_met k m m.0.upper raised) h.2)
-stepped_after z range (step.Ended h) k m n raised lost passed e = ended_after z range h k m n (raised_met k m m.0.upper raised) lost e
+stepped_after z range (step.Met next) k m n raised steps lost passed more h =
+    (h.0, h.1, met_both 0 0 0 0 k m n (raised_met k m m.0.upper raised) h.2)
+stepped_after z range (step.Ended h) k m n raised steps lost passed more e = ended_after z range h k m n (raised_met k m m.0.upper raised) steps lost more e
+
+-- The help goes on with this range: it is the one that it began with, or was found unfinished, or one was counted.
+abbrev pub IsHelpedNow : Range → Range → TreeView → TreeView → Type 0
+IsHelpedNow first now u v = (now ≡ first) ⊎ (IsIn {A = Unfinished} (record { pass = now.owner; number = now.number }) v.ranges.unfinished
+    ⊎ (u.turns.helped < v.turns.helped))
+
+-- So it does after more steps.
+pub now_still : {z : Sizes} (first now : Range) (u v w : TreeView) → OnlySteps z 0 u v → OnlySteps z 0 v w → IsHelpedNow first now u v
+    → IsHelpedNow first now u w
+now_still first now u v w a b (inl same) = inl same
+now_still first now u v w a b (inr (inl met)) = let less = a.helped in
+    ⊎_elim (λ (i : IsIn {A = Unfinished} (record { pass = now.owner; number = now.number }) w.ranges.unfinished). inr (inl i))
+    (λ (l : v.turns.helped < w.turns.helped). inr (inr (omega arith))) (b.unfinished (record { pass = now.owner; number = now.number }) met)
+now_still first now u v w a b (inr (inr more)) = let less = b.helped in inr (inr (omega arith))
+
+-- Its end is counted.
+pub one_over : {z : Sizes} (first now : Range) (u v w : TreeView) → OnlySteps z 0 u v → v.turns.helped ≤ w.turns.helped → IsHelpedNow first now u v
+    → IsKnownOver w now → IsCounted now v w → IsOneOver first u w
+one_over first now u v w a more (inl same) over counted = record {
+  last = now;
+  over = over;
+  which = inl same;
+  counted = counted_both first u v w a more (subst (λ (r : Range). IsCounted r v w) same counted);
+}
+one_over first now u v w a more (inr (inl met)) over counted = let less = a.helped in let then = counted met in record {
+  last = now;
+  over = over;
+  which = inr (omega arith);
+  counted = λ i. omega arith;
+}
+one_over first now u v w a more (inr (inr one)) over counted = record { last = now; over = over; which = inr (omega arith); counted = λ i. omega arith }
+
+-- So the help ended.
+pub helped_after : (z : Sizes) (first now : Range) (budget : ℕ) (spent : Spent) (h : Helped) (k m n : MyTree) → HasMet 0 0 k m
+    → OnlySteps z 0 k.0.upper m.0.upper → losses k ≤ losses m → m.0.upper.turns.helped ≤ n.0.upper.turns.helped
+    → IsHelpedNow first now k.0.upper m.0.upper → IsEnded z now h m n → IsHelpedTo z first budget spent h k n
+helped_after z first now budget spent helped.Finished k m n met steps lost more goes e =
+    (one_over first now k.0.upper m.0.upper n.0.upper steps more goes e.0 e.1, met_both 0 0 0 0 k m n met e.2)
+helped_after z first now budget spent (helped.Lost exchange) k m n met steps lost more goes e = let some = e.0 in
+    (omega arith, met_both 0 0 0 0 k m n met e.1)
+helped_after z first now budget spent (helped.Busy told) k m n met steps lost more goes e = absurd e
+helped_after z first now budget spent helped.NoRow k m n met steps lost more goes e = met_both 0 0 1 0 k m n met e
+helped_after z first now budget spent (helped.Worn counter) k m n met steps lost more goes e = met_both 0 0 0 1 k m n met e
+
+-- The base of another range was marked by it.
+pub at_met : (z : Sizes) (u : TreeView) (next : MarkedBase) → IsAtLast z u next.cursor → IsInUse u (first_note u.notes) next.range
+    → IsAtMarked z u next.range next.cursor
+at_met z u next at used = record { at = at; marked = used.marked }
+
+-- It goes as far as the one that was shown before.
+pub far_same : (u v : TreeView) → RemembersAll u v → reach v ≡ reach u
+far_same u v all = ap (λ (ns : List Note). reach_to (first_note ns).place.span.high) all.notes
+
+pub far_copy : (z : Sizes) (mark : Mark) (w u v : TreeView) (row : ℕ) → u.notes ≡ w.notes → IsMarkedNow z (first_note u.notes) mark row u v → reach v ≡ reach w
+far_copy z mark w u v row same k = ap reach k.now ∙ (ap (λ (n : Note). reach_to n.place.span.high) k.old_is
+    ∙ ap (λ (ns : List Note). reach_to (first_note ns).place.span.high) same)
+
+-- The least of how far it goes is less before other steps.
+pub goes_to : (n m : ℕ) (s : Step) (u : TreeView) → n ≤ m → GoesTo m s u → GoesTo n s u
+goes_to n m (step.Marked next) u less g = omega arith
+goes_to n m (step.Met next) u less g = omega arith
+goes_to n m (step.Ended helped) u less g = tt

@@ -1,10 +1,26 @@
--- What the word of a range tells that isn't active, where none of another pass was found unfinished.
-use Rattle.std.proofs.Common.{◌≡◌, ◌≢◌, ℕ, ◌+◌, ◌/◌, ◌%◌, Bool, true, false, cond, eqb, List, [], ◌∷◌, refl, ap, ◌∙◌, arith, ne_eqb}
-use Rattle.ca_node.specs.Layout.{sequence_unit}
-use Rattle.ca_node.specs.Told.{MyTree, with_upper, HasWatched, finished_by, met_by, turned_by, unfinished_by, watched}
-use Rattle.ca_node.specs.TreeView.{KnownRanges, Turns, TreeView, Unfinished}
-use Rattle.ca_rows.specs.Layout.{row_limit}
-use Rattle.ca_range.specs.Staying.{LearnsOfRanges}
+-- What the word of a range tells a pass that found none of another pass unfinished.
+use Rattle.std.proofs.Common.{◌≡◌, ◌≢◌, ℕ, ◌+◌, ◌<◌, ◌≤◌, Bool, true, false, cond, eqb, Some, [], refl, ap, ◌∙◌, subst, sym, inr, arith}
+use Rattle.ca_base.proofs.Counts.{met_both}
+use Rattle.ca_base.specs.Counting.{losses, HasMet}
+use Rattle.ca_base.specs.Putting.{first_note}
+use Rattle.ca_model.specs.declared.outcome.Spent.{Spent}
+use Rattle.ca_node.specs.Links.{IsIn}
+use Rattle.ca_node.specs.Row.{IsMarkedBy}
+use Rattle.ca_node.specs.Told.{MyTree, with_upper, IsSettled, HasWatched, finished_by, turned_by, watched}
+use Rattle.ca_node.specs.TreeView.{Note, KnownRanges, Quiet, Turns, TreeView, Unfinished}
+use Rattle.ca_rows.specs.Passes.{KeepsList, OnlyReads}
+use Rattle.ca_rows.specs.declared.sizes.Sizes.{Sizes}
+use Rattle.ca_rows.specs.declared.space.Pass.{Pass}
+use Rattle.ca_range.specs.Clearing.{HasGone, LearnsOfRanges, none_spent}
+use Rattle.ca_range.specs.Filling.{IsHelpedTo}
+use Rattle.ca_range.specs.Meeting.{active_of}
+use Rattle.ca_range.specs.Spending.{IsSpentOn}
+use Rattle.ca_range.specs.Staying.{OnlySteps}
+use Rattle.ca_range.specs.declared.account.Range.{Range}
+use Rattle.ca_range.specs.declared.helped.Helped.{Helped}
+use Rattle.ca_range.specs.declared.helped.Helped.TheVariants as helped
+use Rattle.ca_range.proofs.Stepping.{steps_by_word}
+use Rattle.ca_range.proofs.Watched.{is_active, over_now}
 
 -- None is counted as helped.
 as_many : (b : Bool) (t : Turns) (k : ℕ) → k ≡ 0 → cond b t (record t { helped = t.helped + k }) ≡ t
@@ -14,19 +30,66 @@ as_many false t k none = let same : t.helped + k ≡ t.helped = omega arith in a
 none_turned : (pass word : ℕ) (u : TreeView) → u.ranges.unfinished ≡ [] → turned_by pass word u ≡ u.turns
 none_turned pass word u none = as_many (eqb pass u.number) u.turns (finished_by pass word u.ranges.unfinished) (ap (finished_by pass word) none)
 
--- None is found unfinished.
-none_there : (b : Bool) (pass word : ℕ) → word % sequence_unit ≢ row_limit → cond b [] (unfinished_by pass word []) ≡ []
-none_there true pass word idle = refl
-none_there false pass word idle = ap (λ (c : Bool). cond {A = List Unfinished} c (record { pass = pass; number = word / sequence_unit } ∷ []) [])
-    (ne_eqb (word % sequence_unit) row_limit idle)
-
-none_met : (pass word : ℕ) (u : TreeView) → u.ranges.unfinished ≡ [] → word % sequence_unit ≢ row_limit → met_by pass word u ≡ []
-none_met pass word u none idle = ap (λ (xs : List Unfinished). cond (eqb pass u.number) xs (unfinished_by pass word xs)) none
-    ∙ none_there (eqb pass u.number) pass word idle
-
-pub learns : (pass word : ℕ) (m m' : MyTree) → HasWatched pass m word m' → m.0.upper.ranges.unfinished ≡ [] → LearnsOfRanges m m'
+pub learns : (pass word : ℕ) (m m' : MyTree) → HasWatched pass m word m' → m.0.upper.ranges.unfinished ≡ [] → LearnsOfRanges true m m'
 learns pass word m m' h none = let u = m.0.upper in let ranges : KnownRanges = (watched u pass word h.borders).ranges in (
   ranges,
-  none_met pass word u none h.idle,
+  (λ e. let no : true ≡ false = e in cc),
+  refl,
   h.now ∙ ap (λ (t : Turns). with_upper m (record u { ranges = ranges; turns = t })) (none_turned pass word u none),
 )
+
+-- It raised what is known of the tree alone.
+pub raised_by_word : (pass word : ℕ) (m m' : MyTree) → HasWatched pass m word m' → m' ≡ with_upper m m'.0.upper
+raised_by_word pass word m m' h = h.now ∙ ap (λ (x : MyTree). with_upper m x.0.upper) (sym h.now)
+
+-- A base that was marked by a range which isn't the one that is active is one that no range has.
+pub settled_now : (range : Range) (m m' : MyTree) (word : ℕ) (note : Note) → HasWatched range.owner m word m' → IsIn note m.0.upper.notes
+    → IsMarkedBy note.its range.owner range.number → ¬ (active_of word ≡ Some range.number) → IsSettled m'.0.upper note.its
+settled_now range m m' word note h noted mark off = let over = over_now range m m' word note h noted mark off in
+    inr (over.0, over.1, mark.1 ∙ sym over.2, subst (λ (n : ℕ). n < over.0.below) (sym mark.2) over.3)
+
+-- Loads, and a step that keeps the rows.
+pub reads_keep : {R : Type 0} {pass mid new : Pass R TreeView} → OnlyReads pass mid → KeepsList mid new → KeepsList pass new
+reads_keep r k = record {
+  same = (k.same.0 ∙ r.same.0, k.same.1 ∙ r.same.1);
+  number = k.number ∙ r.number;
+  tally = k.tally ∙ r.tally;
+  kept = k.kept ∙ r.kept;
+}
+
+-- The word of a range was loaded behind loads of words that were shown.
+module _ {R : Type 0} (z : Sizes) (pass mid new : Pass R TreeView) (owner word : ℕ) (reads : OnlyReads pass mid) (keep : KeepsList mid new)
+    (h : HasWatched owner mid.seat.me word new.seat.me) where
+  pub keeps_then : KeepsList pass new
+  keeps_then = reads_keep reads keep
+
+  pub raised_then : new.seat.me ≡ with_upper pass.seat.me new.seat.me.0.upper
+  raised_then = subst (λ (x : MyTree). new.seat.me ≡ with_upper x new.seat.me.0.upper) reads.still (raised_by_word owner word mid.seat.me new.seat.me h)
+
+  pub steps_then : OnlySteps z 0 pass.seat.me.0.upper new.seat.me.0.upper
+  steps_then = subst (λ (x : MyTree). OnlySteps z 0 x.0.upper new.seat.me.0.upper) reads.still (steps_by_word owner word mid.seat.me new.seat.me h)
+
+  pub notes_then : first_note new.seat.me.0.upper.notes ≡ first_note pass.seat.me.0.upper.notes
+  notes_then = ap (λ (x : MyTree). first_note x.0.upper.notes) h.now ∙ ap (λ (x : MyTree). first_note x.0.upper.notes) reads.still
+
+  pub noted_then : (note : Note) → IsIn note pass.seat.me.0.upper.notes → IsIn note mid.seat.me.0.upper.notes
+  noted_then note i = subst (λ (x : MyTree). IsIn note x.0.upper.notes) (sym reads.still) i
+
+  -- The own range isn't the one that is active.
+  pub other_then : (number : ℕ) → active_of word ≡ Some number → pass.seat.me.0.upper.ranges.own ≡ Quiet → owner ≢ mid.seat.me.0.upper.number
+  other_then number on quiet own = h.own (is_active word number on).0 own (ap (λ (x : MyTree). x.0.upper.ranges.own) reads.still ∙ quiet)
+
+-- A help that began with a range which was found unfinished, and with a budget, spent a turn, or found no row.
+module _ (z : Sizes) (range : Range) (budget : ℕ) (spent : Spent) (m m' n : MyTree) (some : 1 ≤ budget) (first : HasMet 0 0 m m')
+    (met : IsIn {A = Unfinished} (record { pass = range.owner; number = range.number }) m'.0.upper.ranges.unfinished)
+    (lost : losses m ≤ losses m') (helps : m.0.upper.turns.helped ≤ m'.0.upper.turns.helped) (all : IsSpentOn none_spent spent m n) where
+  pub has_gone : (helped : Helped) → IsHelpedTo z range budget spent helped m' n → HasGone helped m n
+  has_gone helped.Finished h = let more = h.0.counted met in let up = all.lost.more in let on = all.passed.more in
+      (met_both 0 0 0 0 m m' n first h.1, omega arith)
+  has_gone (helped.Lost exchange) h = let more = h.0 in let up = all.helped.more in let on = all.passed.more in
+      (met_both 0 0 0 0 m m' n first h.1, omega arith)
+  has_gone (helped.Busy told) h = let enough = h.1 in let a = all.lost.more in let b = all.helped.more in let c = all.passed.more in
+      let x = all.lost.now_is (omega arith) in let y = all.helped.now_is (omega arith) in let w = all.passed.now_is (omega arith) in
+      (met_both 0 0 0 0 m m' n first h.2, omega arith)
+  has_gone helped.NoRow h = met_both 0 0 1 0 m m' n first h
+  has_gone (helped.Worn counter) h = met_both 0 0 0 1 m m' n first h

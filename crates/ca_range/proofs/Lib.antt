@@ -1,10 +1,11 @@
 pub mod Basing
 pub mod Bounding
-pub mod Chains
 pub mod Copied
 pub mod Filled
+pub mod Gaps
 pub mod Learning
 pub mod Noting
+pub mod Ranking
 pub mod Readied
 pub mod Spelled
 pub mod Spends

@@ -1,5 +1,5 @@
 -- What is noted of ranges that were found unfinished.
-use Rattle.std.proofs.Common.{◌≡◌, ◌≢◌, ℕ, ◌+◌, ◌*◌, ◌/◌, ◌%◌, ◌<◌, Bool, true, false, cond, eqb, List, [], ◌∷◌, length, Option, None, Some, get_or, set, sym, refl, ap, ◌∙◌, subst, arith, eq-eqb, ne_eqb, get_or-set_same, get_or-set_other}
+use Rattle.std.proofs.Common.{◌≡◌, ◌≢◌, ℕ, ◌+◌, ◌*◌, ◌/◌, ◌%◌, ◌<◌, zero, suc, Bool, true, false, cond, eqb, List, [], ◌∷◌, length, Option, None, Some, get_or, set, sym, refl, ap, ◌∙◌, subst, arith, eq-eqb, ne_eqb, get_or-set_same, get_or-set_other}
 use mathlib.Core.Logic.{dite}
 use native.Mathlib.Decide.{ℕ_discrete}
 use Rattle.ca_rows.specs.Layout.{row_limit}
@@ -92,3 +92,18 @@ helped_met numbers m m' won pass owner number border same inside h met = by won 
     by : (won : Bool) → HasHelped won pass number border m m' → AreMet (set numbers owner None) m'.0.upper.ranges.unfinished
     by true e = subst (λ (x : MyTree). AreMet (set numbers owner None) x.0.upper.ranges.unfinished) (sym e) there
     by false e = subst (λ (x : MyTree). AreMet (set numbers owner None) x.0.upper.ranges.unfinished) (sym e) there
+
+-- No number is noted.
+abbrev pub none_in : List (Option ℕ) → Bool
+none_in [] = true
+none_in (None ∷ xs) = none_in xs
+none_in (Some n ∷ xs) = false
+
+none_at : (xs : List (Option ℕ)) (k : ℕ) → none_in xs ≡ true → get_or xs k None ≡ None
+none_at [] k e = refl
+none_at (None ∷ xs) zero e = refl
+none_at (None ∷ xs) (suc k) e = none_at xs k e
+none_at (Some n ∷ xs) k e = absurd cc
+
+pub none_noted : (numbers : List (Option ℕ)) → none_in numbers ≡ true → AreMet numbers []
+none_noted numbers e pass word lo hi = ap (finished_of word) (sym (none_at numbers pass e))

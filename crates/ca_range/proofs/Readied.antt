@@ -4,6 +4,7 @@ use Rattle.ca_base.specs.Readiness.{IsReady, StaysReady}
 use Rattle.ca_base.specs.Taking.{AreHeld}
 use Rattle.ca_node.specs.Told.{MyTree, with_upper}
 use Rattle.ca_node.specs.TreeView.{TreeView}
+use Rattle.ca_node.proofs.Tallies.{tallied_still}
 use Rattle.ca_rows.specs.Calls.{IsNumbered}
 use Rattle.ca_rows.specs.Passes.{KeepsList, OnlyReads}
 use Rattle.ca_rows.specs.declared.kept.KeptRows.{KeptRows}
@@ -14,7 +15,7 @@ use Rattle.ca_range.specs.Staying.{OnlySteps}
 
 module _ {R : Type 0} (space : Space R TreeView) (pass new : Pass R TreeView) where
   pub ready_still : IsReady space pass → KeepsList pass new → new.seat.me ≡ with_upper pass.seat.me new.seat.me.0.upper
-      → OnlySteps pass.seat.me.0.upper new.seat.me.0.upper → IsReady space new
+      → OnlySteps space.table.shared.key 0 pass.seat.me.0.upper new.seat.me.0.upper → IsReady space new
   ready_still r k raised steps = record {
     own = (k.same.0 ∙ r.own.0, ap (λ (x : MyTree). x.0.sizes) raised ∙ r.own.1);
     numbered = subst (λ (p : ℕ × Pin). IsNumbered p.0 p.1) (λ i. (sym k.number i, sym (ap (λ (x : MyTree). x.0.pin) raised) i)) r.numbered;
@@ -22,6 +23,19 @@ module _ {R : Type 0} (space : Space R TreeView) (pass new : Pass R TreeView) wh
     number = subst (λ (n : ℕ). 0 < n) (sym (ap (λ (u : TreeView). u.number) steps.only)) r.number;
     none = subst (λ (x : MyTree × KeptRows). AreHeld space.table.shared.key.rows x.1.rows x.0.0 []) (λ i. (sym raised i, sym k.kept i))
         (r.none.0, record { now = r.none.1.now; ever = r.none.1.ever });
+  }
+
+  -- So it is after a step that leaves it ready.
+  pub stays_then : (last : Pass R TreeView) → KeepsList pass new → new.seat.me ≡ with_upper pass.seat.me new.seat.me.0.upper
+      → OnlySteps space.table.shared.key 0 pass.seat.me.0.upper new.seat.me.0.upper → StaysReady space new last → StaysReady space pass last
+  stays_then last k raised steps s = record {
+    same = (s.same.0 ∙ k.same.0, s.same.1 ∙ k.same.1);
+    number = s.number ∙ k.number;
+    tally = λ t. s.tally (tallied_still pass.tally new.tally pass.seat.me.0.upper new.seat.me.0.upper k.tally
+        (ap (λ (u : TreeView). u.splits) steps.only) (ap (λ (u : TreeView). u.joins) steps.only) t);
+    pin = (s.pin.0 ∙ ap (λ (x : MyTree). x.0.sizes) raised, s.pin.1 ∙ ap (λ (x : MyTree). x.0.pin) raised);
+    own_range = s.own_range ∙ ap (λ (u : TreeView). u.ranges.own) steps.only;
+    none = s.none;
   }
 
   pub ready_reads : IsReady space pass → OnlyReads pass new → IsReady space new
@@ -34,8 +48,8 @@ module _ {R : Type 0} (space : Space R TreeView) (pass new : Pass R TreeView) wh
   }
 
 module _ {R : Type 0} (space : Space R TreeView) where
-  pub ready_after : (pass new : Pass R TreeView) → IsReady space pass → StaysReady space pass new → OnlySteps pass.seat.me.0.upper new.seat.me.0.upper
-      → IsReady space new
+  pub ready_after : (pass new : Pass R TreeView) → IsReady space pass → StaysReady space pass new
+      → OnlySteps space.table.shared.key 0 pass.seat.me.0.upper new.seat.me.0.upper → IsReady space new
   ready_after pass new r s steps = record {
     own = (s.same.0 ∙ r.own.0, s.pin.0 ∙ r.own.1);
     numbered = subst (λ (p : ℕ × Pin). IsNumbered p.0 p.1) (λ i. (sym s.number i, sym s.pin.1 i)) r.numbered;
@@ -50,5 +64,6 @@ module _ {R : Type 0} (space : Space R TreeView) where
     number = y.number ∙ x.number;
     tally = λ t. y.tally (x.tally t);
     pin = (y.pin.0 ∙ x.pin.0, y.pin.1 ∙ x.pin.1);
+    own_range = y.own_range ∙ x.own_range;
     none = y.none;
   }

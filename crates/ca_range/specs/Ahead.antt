@@ -1,18 +1,18 @@
 -- Along the bases that a range marked, to the right.
-use Rattle.std.specs.Prelude.{◌≡◌, ℕ, ◌<◌, ◌≤◌, true, List, ◌∷◌, length}
+use Rattle.std.specs.Prelude.{◌≡◌, ℕ, ◌<◌, ◌≤◌, true, false, List, ◌∷◌}
 use Rattle.ca_model.specs.Edges.{Excluded}
 use Rattle.ca_base.specs.Finding.{IsAtCursor, IsBaseShown}
 use Rattle.ca_base.specs.Putting.{first_note}
 use Rattle.ca_node.specs.declared.cursor.Cursor.{Cursor}
 use Rattle.ca_node.specs.Links.{IsIn}
-use Rattle.ca_node.specs.Notes.{AreSideBySide}
 use Rattle.ca_node.specs.Place.{HasKey}
-use Rattle.ca_node.specs.Row.{mark_bound, IsMarkedBy}
+use Rattle.ca_node.specs.Row.{count, mark_bound, IsMarkedBy}
 use Rattle.ca_node.specs.TreeView.{Note, Over, Unfinished, Border, TreeView}
 use Rattle.ca_node.specs.Walking.{IsHighRoute}
 use Rattle.ca_rows.specs.Layout.{last_sequence}
 use Rattle.ca_rows.specs.declared.sizes.Sizes.{Sizes}
-use Rattle.ca_range.specs.Reaching.{reaches_by}
+use Rattle.ca_range.specs.Reaching.{IsBorderShown, reaches_by}
+use Rattle.ca_range.specs.Staying.{IsCounted}
 use Rattle.ca_range.specs.declared.account.Range.{Range}
 use Rattle.ca_range.specs.declared.ahead.Ahead.{Ahead}
 use Rattle.ca_range.specs.declared.ahead.Ahead.TheVariants as ahead
@@ -41,23 +41,23 @@ pub record IsWhole (u : TreeView) (range : Range) : Type 0 where
   pub reaches : reaches_by border.its (first_note u.notes).place.span.high ≡ true
   pub small : range.number ≤ last_sequence
 
--- Bases of the range that were shown and stand side by side are no more than there are rows.
-abbrev pub AreFew : Sizes → List Note → Range → Type 0
-AreFew z shown range = (notes : List Note) → ((note : Note) → IsIn note notes → IsIn note shown × IsMarkedBy note.its range.owner range.number)
-    → AreSideBySide notes → length notes ≤ z.rows
+-- A row was shown that says up to where the range goes which marked this base, and by none the base has all keys up to there.
+abbrev pub GoesBeyond : TreeView → Note → Type 0
+GoesBeyond u note = ((x : Border) × IsBorderShown u (mark_bound note.its) x)
+    × ((x : Border) → IsBorderShown u (mark_bound note.its) x → count x.its ≤ 1000 → reaches_by x.its note.place.span.high ≡ false)
 
--- The next base was shown behind the one that was shown last before.
+-- The next base was shown behind the one that was shown last before, up to which the range goes on.
 pub record IsBefore (z : Sizes) (range : Range) (next : Cursor) (u v : TreeView) : Type 0 where
   pub notes : v.notes ≡ first_note v.notes ∷ u.notes
   pub at : IsAtLast z v next
   pub key : List ℕ
   pub ends : (first_note u.notes).place.span.high ≡ Excluded key
   pub has : HasKey (first_note v.notes).place.span key
-  pub few : AreFew z u.notes range
+  pub beyond : GoesBeyond v (first_note u.notes)
   pub bound : mark_bound (first_note u.notes).its ≤ z.rows
 
 -- What is ahead of a base that the range marked: nothing, as the range is over; or all is marked; or the next base, which was shown.
 abbrev pub IsAhead : Sizes → Range → Cursor → Ahead → TreeView → TreeView → Type 0
-IsAhead z range left ahead.Over u v = IsKnownOver v range
+IsAhead z range left ahead.Over u v = IsKnownOver v range × IsCounted range u v
 IsAhead z range left ahead.Whole u v = IsAtMarked z v range left × IsWhole v range
 IsAhead z range left (ahead.Next next) u v = IsBefore z range next u v

@@ -1,5 +1,5 @@
 -- Where the bases that a range marked end.
-use Rattle.std.specs.Prelude.{◌≡◌, ◌≤◌, ℕ, List}
+use Rattle.std.specs.Prelude.{◌≡◌, ◌<◌, ◌≤◌, ℕ, List}
 use Rattle.ca_model.specs.Edges.{Excluded}
 use Rattle.ca_base.specs.Finding.{IsBaseShown}
 use Rattle.ca_base.specs.Putting.{first_note}
@@ -8,8 +8,10 @@ use Rattle.ca_node.specs.Place.{HasKey}
 use Rattle.ca_node.specs.Row.{mark_bound, IsMarkedBy}
 use Rattle.ca_node.specs.TreeView.{TreeView}
 use Rattle.ca_rows.specs.declared.sizes.Sizes.{Sizes}
-use Rattle.ca_range.specs.Ahead.{IsAtLast, IsAtMarked, IsKnownOver, IsWhole}
+use Rattle.ca_range.specs.Ahead.{GoesBeyond, IsAtLast, IsAtMarked, IsKnownOver, IsWhole}
+use Rattle.ca_range.specs.Farther.{reach}
 use Rattle.ca_range.specs.Marked.{second_note}
+use Rattle.ca_range.specs.Staying.{IsCounted}
 use Rattle.ca_range.specs.declared.account.Range.{Range}
 use Rattle.ca_range.specs.declared.along.Reached.{Reached}
 use Rattle.ca_range.specs.declared.along.Reached.TheVariants as reached
@@ -22,11 +24,13 @@ pub record IsGap (z : Sizes) (u : TreeView) (range : Range) (left next : Cursor)
   pub key : List ℕ
   pub ends : (second_note u.notes).place.span.high ≡ Excluded key
   pub has : HasKey (first_note u.notes).place.span key
+  pub beyond : GoesBeyond u (second_note u.notes)
   pub bound : mark_bound (second_note u.notes).its ≤ z.rows
   pub other : ¬ IsMarkedBy (first_note u.notes).its range.owner range.number
 
--- The range is over, or all is marked, or there is a gap.
-abbrev pub IsReached : Sizes → Range → Reached → TreeView → Type 0
-IsReached z range reached.Over u = IsKnownOver u range
-IsReached z range (reached.Whole last) u = IsAtMarked z u range last × IsWhole u range
-IsReached z range (reached.Before left next) u = IsGap z u range left next
+-- The range is over, and was counted where it was found unfinished; or all is marked; or there is a gap, and the base behind it goes farther than that which
+-- was shown last before.
+abbrev pub IsReached : Sizes → Range → Reached → TreeView → TreeView → Type 0
+IsReached z range reached.Over u v = IsKnownOver v range × IsCounted range u v
+IsReached z range (reached.Whole last) u v = IsAtMarked z v range last × IsWhole v range
+IsReached z range (reached.Before left next) u v = IsGap z v range left next × (reach u < reach v)

@@ -1,6 +1,8 @@
 pub mod Ahead
 pub mod Along
+pub mod Clearing
 pub mod Copying
+pub mod Farther
 pub mod Filling
 pub mod Marked
 pub mod Meeting

@@ -1,9 +1,11 @@
 -- What stays of what a pass knows as it helps ranges.
-use Rattle.std.specs.Prelude.{◌≡◌, [], ◌++◌}
+use Rattle.std.specs.Prelude.{◌≡◌, ◌⊎◌, ℕ, ◌+◌, ◌<◌, ◌≤◌, ◌++◌}
 use Rattle.ca_model.specs.History.{History}
 use Rattle.ca_node.specs.Links.{IsIn}
-use Rattle.ca_node.specs.Told.{MyTree, with_upper}
-use Rattle.ca_node.specs.TreeView.{Over, KnownRanges, TreeView}
+use Rattle.ca_node.specs.Told.{IsKnown}
+use Rattle.ca_node.specs.TreeView.{Over, Unfinished, TreeView}
+use Rattle.ca_rows.specs.declared.sizes.Sizes.{Sizes}
+use Rattle.ca_range.specs.declared.account.Range.{Range}
 
 -- what a seat knows, with what another one has seen, was shown, met of others' ranges, loaded and counted
 abbrev pub with_steps_of : TreeView → TreeView → TreeView
@@ -21,12 +23,18 @@ with_steps_of u v = record u {
 }
 
 -- It has seen no less, knows of no fewer ranges that they are over, and else only what it was shown, loaded and counted changed: its log, its refusals, its
--- own range and what it edited are as before.
-pub record OnlySteps (u v : TreeView) : Type 0 where
+-- own range and what it edited are as before. It lost so many exchanges of a link.
+pub record OnlySteps (z : Sizes) (lost : ℕ) (u v : TreeView) : Type 0 where
   pub only : v ≡ with_steps_of u v
   pub seen : (more : History) × (v.seen ≡ u.seen ++ more)
   pub over : (x : Over) → IsIn x u.ranges.over → IsIn x v.ranges.over
+  pub lost_is : v.lost ≡ u.lost + lost
+  -- A history as it may know it is one still.
+  pub known : IsKnown z u → IsKnown z v
+  -- A range that was found unfinished is so still, or one was counted as helped.
+  pub helped : u.turns.helped ≤ v.turns.helped
+  pub unfinished : (x : Unfinished) → IsIn x u.ranges.unfinished → IsIn x v.ranges.unfinished ⊎ (u.turns.helped < v.turns.helped)
 
--- It learnt of ranges alone, and found none of another pass unfinished.
-abbrev pub LearnsOfRanges : MyTree → MyTree → Type 0
-LearnsOfRanges m m' = (ranges : KnownRanges) × (ranges.unfinished ≡ []) × (m' ≡ with_upper m (record m.0.upper { ranges = ranges }))
+-- Where the range was found unfinished, it was counted as helped.
+abbrev pub IsCounted : Range → TreeView → TreeView → Type 0
+IsCounted range u v = IsIn {A = Unfinished} (record { pass = range.owner; number = range.number }) u.ranges.unfinished → u.turns.helped < v.turns.helped

@@ -1,4 +1,8 @@
 //! What a call notes as it helps ranges.
+ghost use Rattle.std.specs.Prelude.{◌≡◌, []};
+ghost use Rattle.ca_range.specs.Clearing.{none_spent};
+ghost use Rattle.ca_range.specs.Meeting.{AreMet};
+
 use ca_model::Spent;
 
 /// A range: whose it is, and its number.
@@ -19,4 +23,23 @@ pub struct Met {
 pub struct Account {
     pub spent: Spent,
     pub met: Met,
+}
+
+impl Account {
+    /// Nothing was spent, and no range met.
+    pub fn new() -> Account
+        ensures spent { result.spent ≡ none_spent }
+        ensures met { AreMet result.met.numbers [] }
+    {
+        let numbers = [None; 65];
+        let spent = Spent {
+            lost: 0,
+            helped: 0,
+            passed: 0,
+        };
+        Account {
+            spent,
+            met: Met { numbers },
+        }
+    }
 }

@@ -40,7 +40,7 @@ pub(crate) fn look_ahead(
     requires at { IsAtMarked (sizes space.now) (tree_of pass.old) range left.now }
     ensures frame { KeepsList pass.old pass.new }
     ensures raised { known pass.new ≡ with_upper (known pass.old) (tree_of pass.new) }
-    ensures steps { OnlySteps (tree_of pass.old) (tree_of pass.new) }
+    ensures steps { OnlySteps (sizes space.now) 0 (tree_of pass.old) (tree_of pass.new) }
     ensures met { AreMet account.new.met.numbers (tree_of pass.new).ranges.unfinished }
     ensures ahead { IsAhead (sizes space.now) range left.now result (tree_of pass.old) (tree_of pass.new) }
     ensures counted { IsSpentOn account.old.spent account.new.spent (known pass.old) (known pass.new) }

@@ -25,7 +25,7 @@ pub(crate) enum Reached {
     Before(Cursor, Cursor),
 }
 
-/// Goes along the bases that a range of another pass marked, from the one that was shown last. They are no more than there are rows.
+/// Goes along the bases that a range of another pass marked, from the one that was shown last. Each goes farther than the one before.
 pub(crate) fn go_along(
     space: &TreeSpace,
     pass: &mut TreePass,
@@ -40,9 +40,9 @@ pub(crate) fn go_along(
     requires at { IsAtMarked (sizes space.now) (tree_of pass.old) range from }
     ensures frame { KeepsList pass.old pass.new }
     ensures raised { known pass.new ≡ with_upper (known pass.old) (tree_of pass.new) }
-    ensures steps { OnlySteps (tree_of pass.old) (tree_of pass.new) }
+    ensures steps { OnlySteps (sizes space.now) 0 (tree_of pass.old) (tree_of pass.new) }
     ensures met { AreMet account.new.met.numbers (tree_of pass.new).ranges.unfinished }
-    ensures reached { IsReached (sizes space.now) range result (tree_of pass.new) }
+    ensures reached { IsReached (sizes space.now) range result (tree_of pass.old) (tree_of pass.new) }
     ensures counted { IsSpentOn account.old.spent account.new.spent (known pass.old) (known pass.new) }
 {
     let mut left = from;

@@ -28,9 +28,10 @@ pub(crate) fn decide(
     requires at { IsAtMarked (sizes space.now) (tree_of pass.old) range last.now }
     requires whole { IsWhole (tree_of pass.old) range }
     ensures frame { StaysReady space.now pass.old pass.new }
-    ensures steps { OnlySteps (tree_of pass.old) (tree_of pass.new) }
+    ensures steps { OnlySteps (sizes space.now) 0 (tree_of pass.old) (tree_of pass.new) }
     ensures met { AreMet account.new.met.numbers (tree_of pass.new).ranges.unfinished }
     ensures over { IsKnownOver (tree_of pass.new) range }
+    ensures helped { (tree_of pass.old).turns.helped < (tree_of pass.new).turns.helped }
     ensures counted { IsSpentOn account.old.spent account.new.spent (known pass.old) (known pass.new) }
     ensures pool { HasMet 0 0 (known pass.old) (known pass.new) }
 {

@@ -4,20 +4,21 @@
 mod account;
 mod ahead;
 mod along;
+mod clearing;
 mod copying;
 mod deciding;
 mod filling;
 mod helped;
 mod helping;
-mod looking;
 mod marking;
 mod marks;
 mod reaching;
 mod watching;
 
 pub use account::{Account, Met, Range};
+pub use clearing::{Way, clear};
+pub use filling::range_in_use;
 pub use helped::Helped;
-pub use helping::help_range;
-pub use looking::look_at_mark;
-pub use marks::range_of;
+pub use helping::help_ranges;
+pub use marks::{MarkedBase, range_of};
 pub use watching::{finish, watch};

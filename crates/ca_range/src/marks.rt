@@ -8,7 +8,14 @@ ghost use Rattle.ca_range.specs.Meeting.{IsRangeOf};
 ghost use Rattle.ca_rows.specs.Passes.{OnlyReads, IsReading, sizes};
 
 use crate::account::Range;
-use ca_node::{TreePass, TreeSpace, load_word};
+use ca_node::{Cursor, TreePass, TreeSpace, load_word};
+
+/// A base that a range marked, where it hangs, and which range did.
+#[derive(Clone, Copy)]
+pub struct MarkedBase {
+    pub cursor: Cursor,
+    pub range: Range,
+}
 
 /// Which range marked a base that the pass was shown, if one did.
 pub fn range_of(space: &TreeSpace, pass: &mut TreePass, base: u32) -> Option<Range>

@@ -1,7 +1,7 @@
 //! Up to where a range goes.
 ghost use Rattle.std.specs.Prelude.{◌≡◌, ◌≤◌, ℕ, List, true};
 ghost use Rattle.ca_model.specs.Edges.{Excluded};
-ghost use Rattle.ca_node.specs.Row.{route_key};
+ghost use Rattle.ca_node.specs.Row.{count, route_key};
 ghost use Rattle.ca_node.specs.TreePasses.{tree_of};
 ghost use Rattle.ca_node.specs.TreeView.{Border};
 ghost use Rattle.ca_range.specs.Reaching.{IsBorderShown, IsKeyShown, reaches_by};
@@ -17,17 +17,22 @@ const UNBOUNDED: u64 = 0;
 
 const INCLUDED: u64 = 1;
 
-/// Whether a base that has all keys up to this one, but for the key itself, has all up to where a range goes, as this row says.
+/// Whether a base that has all keys up to this one, but for the key itself, has all up to where a range goes, as this row says. Of a row whose
+/// key is longer than any that a range goes up to it says no.
 pub(crate) fn reaches(space: &TreeSpace, pass: &mut TreePass, border: u32, key: &[u8]) -> bool
     requires reading { IsReading space.now pass.old }
     requires inside { border ≤ (sizes space.now).rows }
     requires shown { (x : Border) × IsBorderShown (tree_of pass.old) border x }
     ensures frame { OnlyReads pass.old pass.new }
     ensures reaches { (x : Border) → IsBorderShown (tree_of pass.old) border x → result ≡ true → reaches_by x.its (Excluded key.now) ≡ true }
+    ensures exact { (x : Border) → IsBorderShown (tree_of pass.old) border x → count x.its ≤ 1000 → result ≡ reaches_by x.its (Excluded key.now) }
 {
     let word = load_word(space, pass, border, 0);
     let edge = word / 65_536 % (1 << 40);
-    if edge == UNBOUNDED || word % 65_536 > 1_000 {
+    if edge == UNBOUNDED {
+        return false;
+    }
+    if word % 65_536 > 1_000 {
         return false;
     }
     let mut end = Code::new();

@@ -2,12 +2,12 @@
 ghost use Rattle.std.specs.Prelude.{◌≡◌, ◌+◌, ◌<◌, ◌≤◌, ℕ, Bool, Option, min, slice_index_or, slice_set, None};
 ghost use Rattle.ca_node.specs.Endings.{IsHelping, HasHelped};
 ghost use Rattle.ca_node.specs.Row.{mark_bound};
-ghost use Rattle.ca_node.specs.Told.{HasWatched, status_of};
+ghost use Rattle.ca_node.specs.Told.{HasWatched, IsKnown, status_of};
 ghost use Rattle.ca_node.specs.TreePasses.{tree_of};
 ghost use Rattle.ca_range.specs.Meeting.{AreMet, active_of, finished_of};
 ghost use Rattle.ca_range.specs.Spending.{IsSpentOn};
 ghost use Rattle.ca_rows.specs.Layout.{last_sequence, row_limit};
-ghost use Rattle.ca_rows.specs.Passes.{IsOn, IsReading, KeepsList, known};
+ghost use Rattle.ca_rows.specs.Passes.{IsOn, IsReading, KeepsList, sizes, known};
 
 use crate::account::{Account, Met, Range};
 use ca_model::Spent;
@@ -26,6 +26,7 @@ pub fn watch(
     requires met { AreMet account.old.met.numbers (tree_of pass.old).ranges.unfinished }
     ensures frame { KeepsList pass.old pass.new }
     ensures met { AreMet account.new.met.numbers (tree_of pass.new).ranges.unfinished }
+    ensures known { IsKnown (sizes space.now) (tree_of pass.old) → IsKnown (sizes space.now) (tree_of pass.new) }
     ensures watched { (word : ℕ) × (result ≡ status_of word) × HasWatched owner (known pass.old) word (known pass.new) × (word < 18446744073709551616) }
     ensures counted { IsSpentOn account.old.spent account.new.spent (known pass.old) (known pass.new) }
 {

@@ -1,5 +1,5 @@
 -- Attempts that come to a stop, and what the next one begins with under the same pin.
-use Rattle.std.proofs.Common.{◌≡◌, ℕ, ◌<◌, ◌≤◌, List, [], length, Option, Some, Result, Ok, Err, sym, refl, ap, ◌∙◌, subst, arith}
+use Rattle.std.proofs.Common.{◌≡◌, ℕ, ◌<◌, ◌≤◌, List, length, Option, Some, Result, Ok, Err, sym, refl, ap, ◌∙◌, subst, arith, Bool, false}
 use Rattle.ca_adapt.specs.declared.tuning.Tuning.{Tuning}
 use Rattle.ca_base.specs.declared.stop.Stop.{Stop}
 use Rattle.ca_base.specs.Progress.{IsFurther}
@@ -106,23 +106,25 @@ again_after (Err why) c = refl
 pub settled_stays : {z : Sizes} {t : Tuning} {r : Result (Unit {0}) Halt} {a b : Adapting}
     {k m m' m'' : MyTree} (tried : Result (Unit {0}) Stop) (key : List ℕ) (cursor : Cursor)
     → IsSettling z t tried r a b k m m' m'' → IsLooking z k.0.upper key cursor
-    → StaysAt z key r k.0.upper m''.0.upper (Some cursor)
+    → StaysAt z key r k.0.upper m''.0.upper (Some cursor) false
 settled_stays {z} {k = k} {m'' = m''} (Ok x) key cursor s l = subst
-    (λ (y : Result (Unit {0}) Halt). StaysAt z key y k.0.upper m''.0.upper (Some cursor))
+    (λ (y : Result (Unit {0}) Halt). StaysAt z key y k.0.upper m''.0.upper (Some cursor) false)
     (sym s.is) tt
 settled_stays {z} {k = k} {m'' = m''} (Err why) key cursor s l = subst
-    (λ (y : Result (Unit {0}) Halt). StaysAt z key y k.0.upper m''.0.upper (Some cursor))
+    (λ (y : Result (Unit {0}) Halt). StaysAt z key y k.0.upper m''.0.upper (Some cursor) false)
     (sym s.is)
-    (stopped_stays z key cursor why k.0.upper m''.0.upper l
+    (let h = stopped_stays z key cursor why k.0.upper m''.0.upper l
     (ap (λ (x : MyTree). x.0.upper) s.settled.1 ∙ (s.entered
-    ∙ ap (λ (x : MyTree). stopped why x.0.upper) s.same)))
+    ∙ ap (λ (x : MyTree). stopped why x.0.upper) s.same)) in (h.0, h.1, λ _. h.2))
 
 -- Behind a look, and what followed it.
 pub stays_behind : {T : Type 0} (z : Sizes) (key : List ℕ) (r : Result T Halt) (u w v : TreeView)
-    (again : Option Cursor) → w.since ≡ u.since → w.ranges.unfinished ≡ u.ranges.unfinished
-    → StaysAt z key r w v again → StaysAt z key r u v again
-stays_behind z key (Ok x) u w v again since met h = tt
-stays_behind z key (Err why) u w v again since met h = (h.0 ∙ since, h.1, h.2 ∙ met)
+    (again : Option Cursor) (before marked : Bool) → w.since ≡ u.since → (marked ≡ false → before ≡ false)
+    → (marked ≡ false → w.ranges.unfinished ≡ u.ranges.unfinished)
+    → StaysAt z key r w v again before → StaysAt z key r u v again marked
+stays_behind z key (Ok x) u w v again before marked since none met h = tt
+stays_behind z key (Err why) u w v again before marked since none met h =
+    (h.0 ∙ since, h.1, λ e. h.2 (none e) ∙ met e)
 
 -- Since it was pinned it learnt of others' edits alone.
 pub asking_further : (u : TreeView) → IsAsking u → IsFurther (at_pin u) u
@@ -130,21 +132,19 @@ asking_further u a = record { number = refl; seen = a.before; log = refl; counts
 
 -- Still so, where it learnt of others' edits alone.
 pub asking_still : (u v : TreeView) → IsAsking u → IsFurther u v → v.since ≡ u.since
-    → v.ranges.unfinished ≡ u.ranges.unfinished → IsAsking v
-asking_still u v a f since met = record {
+    → IsAsking v
+asking_still u v a f since = record {
   before = subst (StartsWith v.seen) (sym since)
       (further_on (at_pin u) u v (asking_further u a) f).seen;
   unanswered = subst (λ (x : History × List Entry). ArePast (length x.0) x.1)
       (λ i. (sym since i, sym f.log i)) a.unanswered;
-  none_met = met ∙ a.none_met;
 }
 
 -- As it pins it has answered none.
-pub asking_pinned : (z : Sizes) (u : TreeView) → IsKnown z u → u.since ≡ u.seen → u.ranges.unfinished ≡ [] → IsAsking u
-asking_pinned z u k first none = record {
+pub asking_pinned : (z : Sizes) (u : TreeView) → IsKnown z u → u.since ≡ u.seen → IsAsking u
+asking_pinned z u k first = record {
   before = subst (StartsWith u.seen) (sym first) (starts_whole u.seen);
   unanswered = none_since z u k first;
-  none_met = none;
 }
 
 -- What it had seen as it was pinned is what it had seen before a look.
@@ -185,18 +185,18 @@ known_since tells z (Err why) u v h = (h.1, h.0.number)
 
 -- An attempt that may be followed by another one.
 next_stays : {T : Type 0} (z : Sizes) (key : List ℕ) (r : Result T Halt) (u v : TreeView)
-    (again : Option Cursor) → HasNext r → StaysAt z key r u v again
-    → (v.since ≡ u.since) × BeginsAt z key v again × (v.ranges.unfinished ≡ u.ranges.unfinished)
-next_stays z key (Ok x) u v again next h = absurd next
-next_stays z key (Err why) u v again next h = h
+    (again : Option Cursor) (marked : Bool) → HasNext r → StaysAt z key r u v again marked
+    → (v.since ≡ u.since) × BeginsAt z key v again × (marked ≡ false → v.ranges.unfinished ≡ u.ranges.unfinished)
+next_stays z key (Ok x) u v again marked next h = absurd next
+next_stays z key (Err why) u v again marked next h = h
 
 -- It pinned when the attempt before it had.
 pub next_since : {T : Type 0} (z : Sizes) (key : List ℕ) (tells : T → Event → Type 0)
-    (r : Result T Halt) (k u v : TreeView) (again : Option Cursor) → HasNext r
-    → IsFurther k (at_pin u) → HasTriedSince tells z r u v → StaysAt z key r u v again
+    (r : Result T Halt) (k u v : TreeView) (again : Option Cursor) (marked : Bool) → HasNext r
+    → IsFurther k (at_pin u) → HasTriedSince tells z r u v → StaysAt z key r u v again marked
     → IsFurther k (at_pin v)
-next_since z key tells (Ok x) k u v again next f tried h = absurd next
-next_since z key tells (Err why) k u v again next f tried h = record {
+next_since z key tells (Ok x) k u v again marked next f tried h = absurd next
+next_since z key tells (Err why) k u v again marked next f tried h = record {
   number = tried.0.number ∙ f.number;
   seen = subst (λ (x : History). StartsWith x k.seen) (sym h.0) f.seen;
   log = tried.0.log ∙ f.log;
@@ -206,19 +206,24 @@ next_since z key tells (Err why) k u v again next f tried h = record {
 module _ {R : Type 0} {space : Space R TreeView} {pass new : Pass R TreeView} where
   -- Another attempt may begin behind one that it may follow.
   pub may_follow : {T : Type 0} (tells : T → Event → Type 0) (key : List ℕ) (r : Result T Halt)
-      (before again : Option Cursor) → MayBegin space key before pass
+      (before again : Option Cursor) (marked : Bool) → MayBegin space key before false pass
       → StaysReady space pass new → HasNext r
       → HasTriedSince tells space.table.shared.key r pass.seat.me.0.upper new.seat.me.0.upper
       → IsFurther pass.seat.me.0.upper new.seat.me.0.upper
-      → StaysAt space.table.shared.key key r pass.seat.me.0.upper new.seat.me.0.upper again
-      → MayBegin space key again new
-  may_follow tells key r before again may s next tried f stays =
+      → StaysAt space.table.shared.key key r pass.seat.me.0.upper new.seat.me.0.upper again marked
+      → MayBegin space key again marked new
+  may_follow tells key r before again marked may s next tried f stays =
       let z = space.table.shared.key in let u = pass.seat.me.0.upper in
       let v = new.seat.me.0.upper in
-      let next = next_stays z key r u v again next stays in record {
+      let next = next_stays z key r u v again marked next stays in record {
         ready = ready_after may.ready s (subst (λ n. 0 < n) (sym f.number) may.ready.number);
         known = (known_since tells z r u v tried).0;
-        asking = asking_still u v may.asking f next.0 next.2;
+        asking = asking_still u v may.asking f next.0;
+        idle = record {
+          number = s.number ∙ (may.idle.number ∙ sym f.number);
+          quiet = s.own_range ∙ may.idle.quiet;
+          none_met = λ e. next.2 e ∙ may.idle.none_met refl;
+        };
         begins = next.1;
         tallied = s.tally may.tallied;
       }

@@ -12,6 +12,7 @@ use Rattle.ca_replace.specs.declared.adapting.Course.{Course}
 use Rattle.ca_replace.specs.declared.attempting.Halt.{Halt}
 use Rattle.ca_replace.specs.declared.attempting.Halt.TheVariants as halt
 use Rattle.ca_replace.specs.Adapting.{Goes, IfTrue, IsCauseMet}
+use Rattle.ca_replace.specs.Attempting.{IsIdle}
 use Rattle.ca_replace.specs.Cutting.{HasCut, HasCutBehind}
 use Rattle.ca_replace.specs.Growing.{HasGrown}
 use Rattle.ca_replace.specs.Looking.{HasLooked}
@@ -40,6 +41,7 @@ other_grown : (T U : Type 0) (z : Sizes) (adds adds' : Option (List ℕ)) (why :
 other_grown T U z adds adds' halt.Split u v same h = subst
     (λ (k : Option (List ℕ)). HasGrown {T = U} z k (Err halt.Split) u v) (sym (same refl)) h
 other_grown T U z adds adds' halt.Deep u v same h = h
+other_grown T U z adds adds' halt.Helped u v same h = h
 other_grown T U z adds adds' (halt.Stopped why) u v same h = h
 
 other_cut : {T U : Type 0} (edits : T → Bool) (edits' : U → Bool) (z : Sizes)
@@ -49,7 +51,23 @@ other_cut : {T U : Type 0} (edits : T → Bool) (edits' : U → Bool) (z : Sizes
 other_cut edits edits' z adds adds' halt.Split u v same h = subst
     (λ (k : Option (List ℕ)). HasCut edits z k (Err halt.Split) u v) (sym (same refl)) h
 other_cut edits edits' z adds adds' halt.Deep u v same h = h
+other_cut edits edits' z adds adds' halt.Helped u v same h = h
 other_cut edits edits' z adds adds' (halt.Stopped why) u v same h = h
+
+-- Whether a mark was met is nothing to what an attempt comes to.
+pub turn_marked : {T : Type 0} (edits : T → Bool) (adds : Option (List ℕ)) (z : Sizes) (t : Tuning)
+    (a b : Course) (met : Met) (r : Result T Halt) (m m' : MyTree) (marked : Bool)
+    → IsTurn edits adds z t a b met r m m'
+    → IsTurn edits adds z t a (record b { marked = marked }) met r m m'
+turn_marked edits adds z t a b met r m m' marked i = record {
+  met_as = i.met_as;
+  gone_on = i.gone_on;
+  counted = i.counted;
+  found = i.found;
+  grown = i.grown;
+  won = i.won;
+  cut = i.cut;
+}
 
 module _ {R : Type 0} {space : Space R TreeView} {key : List ℕ} {cursor : Cursor}
     {found : Result ℕ ℕ} {pass mid : Pass R TreeView}
@@ -77,7 +95,17 @@ module _ {R : Type 0} {space : Space R TreeView} {key : List ℕ} {cursor : Curs
     number = s.number ∙ l.number;
     tally = λ h. s.tally (l.tally h);
     pin = (s.pin.0 ∙ l.still.0, s.pin.1 ∙ l.still.1);
+    own_range = s.own_range ∙ l.own_range;
     none = s.none;
+  }
+
+  -- It has no range still.
+  pub idle_behind : {marked : Bool} → mid.seat.me.0.upper.ranges.unfinished ≡ pass.seat.me.0.upper.ranges.unfinished
+      → IsIdle marked pass → IsIdle marked mid
+  idle_behind met i = record {
+    number = l.number ∙ (i.number ∙ sym l.further.number);
+    quiet = l.own_range ∙ i.quiet;
+    none_met = λ e. met ∙ i.none_met e;
   }
 
   -- A call that edits nothing is entered in the log then.
@@ -89,6 +117,7 @@ module _ {R : Type 0} {space : Space R TreeView} {key : List ℕ} {cursor : Curs
       number = keeps.number;
       tally = tallied_read mid.tally new.tally mid.seat.me new.seat.me event keeps.tally e;
       pin = (ap (λ (m : MyTree). m.0.sizes) e.now, ap (λ (m : MyTree). m.0.pin) e.now);
+      own_range = ap (λ (m : MyTree). m.0.upper.ranges.own) e.now;
       none = held_upper z.rows mid.kept new.kept mid.seat.me new.seat.me _ [] ready_behind.none
           e.now keeps.kept;
     }

@@ -5,7 +5,7 @@ use Rattle.ca_base.specs.Taking.{AreHeld}
 use Rattle.ca_node.specs.Laws.{starts_whole}
 use Rattle.ca_node.specs.Tallied.{IsTallied}
 use Rattle.ca_node.specs.Told.{MyTree, IsKnown}
-use Rattle.ca_node.specs.TreeView.{Note, Way, TreeView, pinned, unpinned, KnownRanges}
+use Rattle.ca_node.specs.TreeView.{Note, Way, Quiet, TreeView, left_over, pinned, unpinned, KnownRanges}
 use Rattle.ca_node.proofs.Tallies.{tallied_still}
 use Rattle.ca_replace.specs.Attempting.{at_pin}
 use Rattle.ca_replace.specs.Between.{GoesOn, MayBegin}
@@ -67,10 +67,11 @@ module _ {R : Type 0} (space : Space R TreeView) (pass new : Pass R TreeView) wh
       → AreHeld space.table.shared.key.rows pass.kept.rows pass.seat.me.0 [] → IsKnown space.table.shared.key pass.seat.me.0.upper
       → IsTallied pass.tally pass.seat.me.0.upper → IsSame pass.seat new.seat → new.number ≡ pass.number
       → new.kept ≡ pass.kept → new.tally ≡ pass.tally → pin.pinned ≡ true
-      → pin.number ≡ pass.seat.me.0.pin.number → ranges.unfinished ≡ []
-      → new.seat.me ≡ moved pass.seat.me pin pass.seat.me.0.upper.seen notes ways ranges → MayBegin space key None new
+      → pin.number ≡ pass.seat.me.0.pin.number → ranges.unfinished ≡ [] → ranges.own ≡ Quiet
+      → pass.number ≡ pass.seat.me.0.upper.number
+      → new.seat.me ≡ moved pass.seat.me pin pass.seat.me.0.upper.seen notes ways ranges → MayBegin space key None false new
   may_pinned key pin notes ways ranges own numbered some none known tallied same number kept tally is_pinned
-      pin_number unmet is = let now : IsKnown space.table.shared.key new.seat.me.0.upper = subst
+      pin_number unmet quiet is_number is = let now : IsKnown space.table.shared.key new.seat.me.0.upper = subst
       (λ (x : MyTree). IsKnown space.table.shared.key x.0.upper) (sym is)
       record {
         lawful =
@@ -92,8 +93,12 @@ module _ {R : Type 0} (space : Space R TreeView) (pass new : Pass R TreeView) wh
         known = now;
         asking = asking_pinned space.table.shared.key new.seat.me.0.upper now
             (ap (λ (x : MyTree). x.0.upper.since) is
-            ∙ sym (ap (λ (x : MyTree). x.0.upper.seen) is))
-            (ap (λ (x : MyTree). x.0.upper.ranges.unfinished) is ∙ unmet);
+            ∙ sym (ap (λ (x : MyTree). x.0.upper.seen) is));
+        idle = record {
+          number = number ∙ (is_number ∙ sym (ap (λ (x : MyTree). x.0.upper.number) is));
+          quiet = ap (λ (x : MyTree). x.0.upper.ranges.own) is ∙ quiet;
+          none_met = λ _. ap (λ (x : MyTree). x.0.upper.ranges.unfinished) is ∙ unmet;
+        };
         begins = tt;
         tallied = tallied_still pass.tally new.tally pass.seat.me.0.upper new.seat.me.0.upper tally
             (ap (λ (x : MyTree). x.0.upper.splits) is)
@@ -104,27 +109,27 @@ module _ {R : Type 0} (space : Space R TreeView) (pass new : Pass R TreeView) wh
   pub may_first : (key : List ℕ) (told moment : ℕ) → IsAtRest space pass
       → IsSame pass.seat new.seat → new.number ≡ pass.number → new.kept ≡ pass.kept
       → new.tally ≡ pass.tally → new.seat.me ≡ announced told moment pass.seat.me
-      → MayBegin space key None new
+      → MayBegin space key None false new
   may_first key told moment r same number kept tally is =
       may_pinned key (announced told moment pass.seat.me).0.pin pass.seat.me.0.upper.notes pass.seat.me.0.upper.ways
       (announced told moment pass.seat.me).0.upper.ranges r.of
       r.numbered (subst (λ n. 0 < n) (sym r.same_number) r.numbered.1)
       (holds_none space.table.shared.table_id space.table.shared.key pass.number pass.kept.rows pass.seat r) r.known
-      r.tallied same number kept tally refl refl refl is
+      r.tallied same number kept tally refl refl refl (ap left_over r.quiet) (sym r.same_number) is
 
   -- So may one that pinned anew.
-  pub may_anew : {before : _} (key : List ℕ) (told moment : ℕ) → MayBegin space key before pass
+  pub may_anew : {before marked : _} (key : List ℕ) (told moment : ℕ) → MayBegin space key before marked pass
       → IsSame pass.seat new.seat → new.number ≡ pass.number → new.kept ≡ pass.kept
       → new.tally ≡ pass.tally → new.seat.me ≡ announced told moment (left pass.seat.me)
-      → MayBegin space key None new
+      → MayBegin space key None false new
   may_anew key told moment may same number kept tally is =
       may_pinned key (announced told moment (left pass.seat.me)).0.pin [] []
       (announced told moment (left pass.seat.me)).0.upper.ranges may.ready.own
       may.ready.numbered may.ready.number may.ready.none may.known may.tallied same number kept
-      tally refl refl refl is
+      tally refl refl refl (ap left_over (ap left_over may.idle.quiet)) may.idle.number is
 
   -- What it knows is what it knew, but for the pin.
-  pub goes_anew : {before : _} (key : List ℕ) (told moment : ℕ) → MayBegin space key before pass
+  pub goes_anew : {before marked : _} (key : List ℕ) (told moment : ℕ) → MayBegin space key before marked pass
       → IsSame pass.seat new.seat → new.number ≡ pass.number
       → new.seat.me ≡ announced told moment (left pass.seat.me) → GoesOn pass new
   goes_anew key told moment may same number is = let pin = (announced told moment (left pass.seat.me)).0.pin in

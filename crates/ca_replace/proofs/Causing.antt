@@ -98,6 +98,8 @@ caused z number budget adds (Err halt.Deep) now levels m m' kept kept' same e =
     (same, e.deep refl)
 caused z number budget adds (Err halt.Split) now levels m m' kept kept' same e =
     busy budget now m m' (e.lost tt) e.paid
+caused z number budget adds (Err halt.Helped) now levels m m' kept kept' same e =
+    busy budget now m m' (e.lost tt) e.paid
 
 -- So the call is refused, given what was spent, and how many levels there are.
 abbrev pub HasRefused : {T : Type 0} → Sizes → Result T Halt → Spent → Result T Cause → Type 0

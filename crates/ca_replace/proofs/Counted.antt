@@ -8,7 +8,8 @@ use Rattle.ca_base.specs.Counting.{losses, HasMet, IsSpent}
 use Rattle.ca_base.proofs.Counts.{met_both}
 use Rattle.ca_node.specs.Told.{MyTree}
 use Rattle.ca_node.specs.TreeView.{TreeView, Turns}
-use Rattle.ca_replace.specs.Attempting.{passes, total, HasHalted, HasNext, HasStopped, IsPaid, IsQuiet, MayFollow}
+use Rattle.ca_range.specs.Clearing.{turns_at}
+use Rattle.ca_replace.specs.Attempting.{helps, passes, total, HasHalted, HasNext, HasStopped, IsPaid, IsQuiet, MayFollow}
 
 -- Nothing was met.
 pub none_met : (m : MyTree) → HasMet 0 0 m m
@@ -16,32 +17,36 @@ none_met m = (omega arith, omega arith)
 
 -- What was met by an attempt, behind others that met nothing.
 halted_then : (why : Halt) (k m n : MyTree) → HasMet 0 0 k m → losses k ≤ losses m
-    → passes k ≤ passes m → HasHalted why m n → HasHalted why k n
-halted_then (halt.Stopped (stop.Lost x)) k m n a more on b = let lost = b.0 in
+    → passes k ≤ passes m → helps k ≤ helps m → HasHalted why m n → HasHalted why k n
+halted_then (halt.Stopped (stop.Lost x)) k m n a more on help b = let lost = b.0 in
     (omega arith, met_both 0 0 0 0 k m n a b.1)
-halted_then (halt.Stopped stop.Empty) k m n a more on b = met_both 0 0 1 0 k m n a b
-halted_then (halt.Stopped stop.Worn) k m n a more on b = met_both 0 0 0 1 k m n a b
-halted_then halt.Deep k m n a more on b = met_both 0 0 0 0 k m n a b
-halted_then halt.Split k m n a more on b = let passed = b.1 in
+halted_then (halt.Stopped stop.Empty) k m n a more on help b = met_both 0 0 1 0 k m n a b
+halted_then (halt.Stopped stop.Worn) k m n a more on help b = met_both 0 0 0 1 k m n a b
+halted_then halt.Deep k m n a more on help b = met_both 0 0 0 0 k m n a b
+halted_then halt.Split k m n a more on help b = let passed = b.1 in
+    (met_both 0 0 0 0 k m n a b.0, omega arith)
+halted_then halt.Helped k m n a more on help b = let turned = b.1 in
     (met_both 0 0 0 0 k m n a b.0, omega arith)
 
 pub met_then : {T : Type 0} (r : Result T Halt) (k m n : MyTree) → HasMet 0 0 k m
-    → losses k ≤ losses m → passes k ≤ passes m → HasStopped r m n → HasStopped r k n
-met_then (Ok x) k m n a more on b = tt
-met_then (Err why) k m n a more on b = halted_then why k m n a more on b
+    → losses k ≤ losses m → passes k ≤ passes m → helps k ≤ helps m → HasStopped r m n
+    → HasStopped r k n
+met_then (Ok x) k m n a more on help b = tt
+met_then (Err why) k m n a more on help b = halted_then why k m n a more on help b
 
 -- An attempt after which another one may follow met nothing; an exchange was lost, or the pass
--- passed on.
+-- passed on, or a turn was spent.
 next_met : (why : Halt) (m m' : MyTree) → MayFollow why → HasHalted why m m'
-    → HasMet 0 0 m m' × ((losses m < losses m') ⊎ (passes m < passes m'))
+    → HasMet 0 0 m m' × ((losses m < losses m') ⊎ (passes m < passes m') ⊎ (turns_at m < turns_at m'))
 next_met (halt.Stopped (stop.Lost x)) m m' next h = (h.1, inl h.0)
 next_met (halt.Stopped stop.Empty) m m' next h = absurd next
 next_met (halt.Stopped stop.Worn) m m' next h = absurd next
 next_met halt.Deep m m' next h = absurd next
-next_met halt.Split m m' next h = (h.0, inr h.1)
+next_met halt.Split m m' next h = (h.0, inr (inl h.1))
+next_met halt.Helped m m' next h = (h.0, inr (inr h.1))
 
 pub met_turn : {T : Type 0} (r : Result T Halt) (m m' : MyTree) → HasNext r → HasStopped r m m'
-    → HasMet 0 0 m m' × ((losses m < losses m') ⊎ (passes m < passes m'))
+    → HasMet 0 0 m m' × ((losses m < losses m') ⊎ (passes m < passes m') ⊎ (turns_at m < turns_at m'))
 met_turn (Ok x) m m' next h = absurd next
 met_turn (Err why) m m' next h = next_met why m m' next h
 
@@ -88,14 +93,18 @@ paid_of a b m m' x turns = let passed = x.passed in let helped = x.helped in
 -- Each such turn is a turn less.
 pub one_turn_less : (a b : Spent) (budget : ℕ) (m m' : MyTree) → min 4294967295 (total a) < budget
     → budget ≤ 4294967295 → IsPaid a b m m'
-    → (losses m < losses m') ⊎ (passes m < passes m') → budget - total b < budget - total a
+    → (losses m < losses m') ⊎ (passes m < passes m') ⊎ (turns_at m < turns_at m')
+    → budget - total b < budget - total a
 one_turn_less a b budget m m' room most paid more = let sum = paid.lost (omega arith) in
     let pass = paid.passed (omega arith) in let help = paid.helped (omega arith) in
-    let up = paid.more in let up' = paid.more_passed in ⊎_elim
+    let up = paid.more in let up' = paid.more_passed in let up'' = paid.more_helped in ⊎_elim
     (λ (l : losses m < losses m'). let less : budget - total b < budget - total a = omega arith in
     less)
+    (λ (o : (passes m < passes m') ⊎ (turns_at m < turns_at m')). ⊎_elim
     (λ (l : passes m < passes m'). let less : budget - total b < budget - total a = omega arith in
-    less) more
+    less)
+    (λ (l : turns_at m < turns_at m'). let less : budget - total b < budget - total a = omega arith in
+    less) o) more
 
 -- What was spent doesn't fall.
 pub spends_more : (a b c : Spent) (k m n : MyTree) → (a.lost ≡ 0) × (a.helped ≡ 0) × (a.passed ≡ 0)
@@ -110,7 +119,8 @@ pub stopped_behind : {T : Type 0} (r : Result T Halt) (k m n : MyTree) → IsQui
     → HasStopped r m n → HasStopped r k n
 stopped_behind r k m n q h = let lost = q.lost in
     let same = ap (λ (t : Turns). t.passed) q.same_turns in
-    met_then r k m n q.met (omega arith) (omega arith) h
+    let helped = ap (λ (t : Turns). t.helped) q.same_turns in
+    met_then r k m n q.met (omega arith) (omega arith) (omega arith) h
 
 -- What was lost as rows were given back was paid, too.
 pub paid_given : (a : Spent) (lost sum : ℕ) (m m' : MyTree) → sum ≡ min (a.lost + lost) 4294967295

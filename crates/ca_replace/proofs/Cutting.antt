@@ -206,6 +206,7 @@ looked_cut {T} edits z adds r m m' v q h = by r h
     by (Ok x) h = if_edits (edits x) h
     by (Err halt.Split) h = (h.0, h.1 ∙ ap (λ (xs : List Division). h.0 ∷ xs) q.same_cuts, h.2, h.3)
     by (Err halt.Deep) h = h ∙ q.same_cuts
+    by (Err halt.Helped) h = h ∙ q.same_cuts
     by (Err (halt.Stopped why)) h = h ∙ q.same_cuts
 
 -- A call that edits nothing.
@@ -229,6 +230,7 @@ cut_unpinned {T} edits z adds r u v w same h = subst
     by (Ok x) h = if_edits (edits x) h
     by (Err halt.Split) h = h
     by (Err halt.Deep) h = h
+    by (Err halt.Helped) h = h
     by (Err (halt.Stopped why)) h = h
 
 -- An attempt behind others that did not do the call.
@@ -252,6 +254,7 @@ one_more_cut {T} edits z adds r u w v before h = by r h
           h.3,
         ))
     by (Err halt.Deep) h = still h
+    by (Err halt.Helped) h = still h
     by (Err (halt.Stopped why)) h = still h
 
 -- Attempts behind others that did not do the call.

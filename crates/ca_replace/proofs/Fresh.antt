@@ -41,6 +41,7 @@ rests table z number tally kept seat low few enrolled keeps is none = record {
     enrolled = enrolled;
     by_passes = tt;
   };
+  quiet = ap (λ (m : MyTree). m.0.upper.ranges.own) is.1;
   left_before = subst (λ (m : MyTree). m.0.pin.left.lost ≤ m.0.lost) (sym is.1) (omega arith);
   tallied = (
     ap (λ (t : Tally). t.splits) none

@@ -401,6 +401,7 @@ grown_from z adds (Err halt.Split) u w v seen same h = (
   λ room. h.2 (room_stays z adds u w seen same.1 room),
 )
 grown_from z adds (Err halt.Deep) u w v seen same h = same_both u w v same h
+grown_from z adds (Err halt.Helped) u w v seen same h = h
 grown_from z adds (Err (halt.Stopped why)) u w v seen same h = same_both u w v same h
 
 -- Attempts behind others that did not do the call, of a pass that learnt of nothing.
@@ -451,6 +452,7 @@ one_attempt : {T : Type 0} (z : Sizes) (adds : Option (List ℕ)) (r : Result T 
 one_attempt z adds (Ok x) u v h = inl h
 one_attempt z adds (Err halt.Split) u v h = inr h
 one_attempt z adds (Err halt.Deep) u v h = inl h
+one_attempt z adds (Err halt.Helped) u v h = absurd h
 one_attempt z adds (Err (halt.Stopped why)) u v h = inl h
 
 -- Whose number is that of a pass that is alone is alone.
@@ -545,6 +547,7 @@ grown_unpinned {T} z adds r u v w same h = subst
     by (Err halt.Split) h =
         (grew 1 2 1 h.0, room_stays z adds v (unpinned v) refl refl h.1, h.2)
     by (Err halt.Deep) h = h
+    by (Err halt.Helped) h = h
     by (Err (halt.Stopped why)) h = h
 
 -- What the attempts come to where the last one's is told otherwise.

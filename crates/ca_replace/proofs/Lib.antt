@@ -11,6 +11,7 @@ pub mod Fresh
 pub mod FullBases
 pub mod GoingOn
 pub mod Growing
+pub mod Helping
 pub mod Marking
 pub mod Meeting
 pub mod Numbering

@@ -1,5 +1,5 @@
 -- A look at the mark of the base that was shown last leaves all else that an attempt knows.
-use Rattle.std.proofs.Common.{◌≡◌, ℕ, List, [], map, Result, sym, refl, ap, ◌∙◌, subst}
+use Rattle.std.proofs.Common.{◌≡◌, ℕ, Bool, false, List, [], map, Result, sym, refl, ap, ◌∙◌, subst}
 use Rattle.ca_base.specs.Progress.{IsFurther}
 use Rattle.ca_base.specs.Putting.{first_note}
 use Rattle.ca_model.specs.Places.{IsPlace}
@@ -10,7 +10,7 @@ use Rattle.ca_node.specs.States.{IsUnanswered}
 use Rattle.ca_node.specs.Tallied.{IsTallied}
 use Rattle.ca_node.specs.Told.{MyTree, with_upper}
 use Rattle.ca_node.specs.TreeView.{Note, KnownRanges, TreeView}
-use Rattle.ca_range.specs.Staying.{LearnsOfRanges}
+use Rattle.ca_range.specs.Clearing.{LearnsOfRanges}
 use Rattle.ca_replace.specs.Attempting.{IsLooking, IsQuiet}
 use Rattle.ca_replace.specs.Looking.{HasLooked}
 use Rattle.ca_replace.proofs.Counted.{none_met}
@@ -59,15 +59,15 @@ quiet_still m ranges = record {
   same_cuts = refl;
 }
 
-module _ {R : Type 0} {pass new : Pass R TreeView} (keeps : KeepsList pass new) (l : LearnsOfRanges pass.seat.me new.seat.me) where
+module _ {R : Type 0} {pass new : Pass R TreeView} {marked : Bool} (keeps : KeepsList pass new) (l : LearnsOfRanges marked pass.seat.me new.seat.me) where
   abbrev u : TreeView
   u = pass.seat.me.0.upper
 
   pub same_note : first_note new.seat.me.0.upper.notes ≡ first_note u.notes
-  same_note = ap (λ (x : MyTree). first_note x.0.upper.notes) l.2
+  same_note = ap (λ (x : MyTree). first_note x.0.upper.notes) l.3
 
-  pub still_unmet : u.ranges.unfinished ≡ [] → new.seat.me.0.upper.ranges.unfinished ≡ u.ranges.unfinished
-  still_unmet none = ap (λ (x : MyTree). x.0.upper.ranges.unfinished) l.2 ∙ (l.1 ∙ sym none)
+  pub still_unmet : u.ranges.unfinished ≡ [] → marked ≡ false → new.seat.me.0.upper.ranges.unfinished ≡ u.ranges.unfinished
+  still_unmet none e = ap (λ (x : MyTree). x.0.upper.ranges.unfinished) l.3 ∙ (l.1 e ∙ sym none)
 
   -- It is a look, like one that a walk begins with.
   pub marked_look : (space : Space R TreeView) (key : List ℕ) (cursor : Cursor) (found : Result ℕ ℕ) → IsLooking space.table.shared.key u key cursor
@@ -75,14 +75,15 @@ module _ {R : Type 0} {pass new : Pass R TreeView} (keeps : KeepsList pass new) 
   marked_look space key cursor found looking place unanswered = record {
     same = keeps.same;
     number = keeps.number;
-    tally = λ h. subst (λ (x : MyTree). IsTallied new.tally x.0.upper) (sym l.2) (subst (λ (t : Tally). IsTallied t u) (sym keeps.tally) h);
+    tally = λ h. subst (λ (x : MyTree). IsTallied new.tally x.0.upper) (sym l.3) (subst (λ (t : Tally). IsTallied t u) (sym keeps.tally) h);
     kept = keeps.kept;
-    still = (ap (λ (x : MyTree). x.0.sizes) l.2, ap (λ (x : MyTree). x.0.pin) l.2, ap (λ (x : MyTree). x.0.claims) l.2);
-    quiet = subst (IsQuiet pass.seat.me) (sym l.2) (quiet_still pass.seat.me l.0);
-    looking = subst (λ (x : MyTree). IsLooking space.table.shared.key x.0.upper key cursor) (sym l.2)
+    own_range = ap (λ (x : MyTree). x.0.upper.ranges.own) l.3 ∙ l.2;
+    still = (ap (λ (x : MyTree). x.0.sizes) l.3, ap (λ (x : MyTree). x.0.pin) l.3, ap (λ (x : MyTree). x.0.claims) l.3);
+    quiet = subst (IsQuiet pass.seat.me) (sym l.3) (quiet_still pass.seat.me l.0);
+    looking = subst (λ (x : MyTree). IsLooking space.table.shared.key x.0.upper key cursor) (sym l.3)
         (looking_still space.table.shared.key key cursor u l.0 looking);
     place = subst (λ (n : Note). IsPlace (map pair n.objects) key found) (sym same_note) place;
-    further = subst (λ (x : MyTree). IsFurther u x.0.upper) (sym l.2) record { number = refl; seen = starts_whole u.seen; log = refl; counts = refl };
-    since = ap (λ (x : MyTree). x.0.upper.since) l.2;
-    unanswered = subst (λ (x : MyTree). IsUnanswered x.0.upper) (sym l.2) unanswered;
+    further = subst (λ (x : MyTree). IsFurther u x.0.upper) (sym l.3) record { number = refl; seen = starts_whole u.seen; log = refl; counts = refl };
+    since = ap (λ (x : MyTree). x.0.upper.since) l.3;
+    unanswered = subst (λ (x : MyTree). IsUnanswered x.0.upper) (sym l.3) unanswered;
   }

@@ -59,6 +59,7 @@ module _ {R : Type 0} {space : Space R TreeView} {pass mid new : Pass R TreeView
       s.pin.0 ∙ ap (λ (m : MyTree). m.0.sizes) f.still,
       s.pin.1 ∙ ap (λ (m : MyTree). m.0.pin) f.still,
     );
+    own_range = s.own_range ∙ ap (λ (m : MyTree). m.0.upper.ranges.own) f.still;
     none = s.none;
   }
 
@@ -70,5 +71,6 @@ module _ {R : Type 0} {space : Space R TreeView} {pass mid new : Pass R TreeView
     number = t.number ∙ s.number;
     tally = λ h. t.tally (s.tally h);
     pin = (t.pin.0 ∙ s.pin.0, t.pin.1 ∙ s.pin.1);
+    own_range = t.own_range ∙ s.own_range;
     none = t.none;
   }

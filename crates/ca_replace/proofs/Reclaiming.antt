@@ -57,6 +57,7 @@ rests_still table z number number' tally tally' kept kept' seat last r same coun
           let most = is.least_most in
           record { now = omega arith; ever = omega arith };
       known = subst (IsKnown z) (sym is.same_upper) r.known;
+      quiet = ap (λ (u : TreeView). u.ranges.own) is.same_upper ∙ r.quiet;
       left_before = let same = ap (λ (x : Met). x.lost) is.same_left in let before = r.left_before in
           let more = is.more_lost in omega arith;
       tallied = tallied_as tally tally' seat.me.0.upper last.me.0.upper counted is.same_upper r.tallied;

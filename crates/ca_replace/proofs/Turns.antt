@@ -15,7 +15,7 @@ use Rattle.ca_node.specs.Links.{IsIn}
 use Rattle.ca_node.specs.Tallied.{IsTallied}
 use Rattle.ca_node.specs.Told.{MyTree, IsKnown}
 use Rattle.ca_rows.specs.Told.{met_of}
-use Rattle.ca_node.specs.TreeView.{TreeView, pinned, unpinned}
+use Rattle.ca_node.specs.TreeView.{TreeView, pinned, unpinned, Quiet, left_over}
 use Rattle.ca_model.specs.declared.outcome.Cause.{Cause}
 use Rattle.ca_model.specs.declared.outcome.Spent.{Spent}
 use Rattle.ca_replace.specs.Attempting.{HasAttempted, HasDoneSuch, HasNext, HasTriedSince, HasTriedTo, refused_as}
@@ -153,9 +153,10 @@ pub rests_again : {tally tally' : Tally} (table : TableId) (z : Sizes) (number :
       two.me.1,
     )
     → (IsTallied tally seat.me.0.upper → IsTallied tally' two.me.0.upper)
-    → IsResting table z number tally' kept' last
+    → two.me.0.upper.ranges.own ≡ Quiet → IsResting table z number tally' kept' last
 rests_again {tally' = tally'} table z number kept kept' seat one two last r pin table_two work held
-    known table_last unpin counted = record {
+    known table_last unpin counted quiet = record {
+      quiet = ap (λ (m : MyTree). m.0.upper.ranges.own) unpin ∙ ap left_over quiet;
       of = (
         table_last ∙ (table_two ∙ r.of.0),
         ap (λ (m : MyTree). m.0.sizes) unpin
@@ -209,6 +210,7 @@ rests_refused {tally = tally} table z number kept seat last counts r same is = r
         enrolled = r.known.enrolled;
         by_passes = r.known.by_passes;
       };
+  quiet = ap (λ (m : MyTree). m.0.upper.ranges.own) is ∙ r.quiet;
   left_before = subst (λ (m : MyTree). m.0.pin.left.lost ≤ m.0.lost) (sym is) r.left_before;
   tallied = subst (λ (m : MyTree). IsTallied tally m.0.upper) (sym is) r.tallied;
 }

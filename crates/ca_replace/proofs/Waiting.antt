@@ -17,7 +17,7 @@ use Rattle.ca_replace.specs.declared.adapting.Course.{Course}
 use Rattle.ca_replace.specs.declared.attempting.Halt.{Halt}
 use Rattle.ca_replace.specs.declared.attempting.Halt.TheVariants as halt
 use Rattle.ca_replace.specs.Adapting.{IsCauseMetInAttempts, Waits}
-use Rattle.ca_replace.specs.Attempting.{HasHalted, HasNext, HasStopped, HasTriedSince, IsPaid, IsQuiet, passes}
+use Rattle.ca_replace.specs.Attempting.{helps, HasHalted, HasNext, HasStopped, HasTriedSince, IsPaid, IsQuiet, passes}
 use Rattle.ca_replace.specs.Cutting.{HasCutFull}
 use Rattle.ca_replace.specs.Growing.{HasWaited}
 use Rattle.ca_replace.specs.Turning.{AreTurns, IsTurn}
@@ -139,19 +139,22 @@ module _ {T : Type 0} (tells : T → Event → Type 0) (edits : T → Bool) (z :
 
 -- What stopped an attempt stopped it, whatever it met then, which was nothing.
 halted_left : (why : Halt) (k m n : MyTree) → losses n ≡ losses m → HasMet 0 0 m n
-    → passes n ≡ passes m → HasHalted why k m → HasHalted why k n
-halted_left (halt.Stopped (stop.Lost x)) k m n lost met passed h =
+    → passes n ≡ passes m → helps n ≡ helps m → HasHalted why k m → HasHalted why k n
+halted_left (halt.Stopped (stop.Lost x)) k m n lost met passed help h =
     let some = h.0 in (omega arith, met_both 0 0 0 0 k m n h.1 met)
-halted_left (halt.Stopped stop.Empty) k m n lost met passed h = met_both 1 0 0 0 k m n h met
-halted_left (halt.Stopped stop.Worn) k m n lost met passed h = met_both 0 1 0 0 k m n h met
-halted_left halt.Deep k m n lost met passed h = met_both 0 0 0 0 k m n h met
-halted_left halt.Split k m n lost met passed h =
+halted_left (halt.Stopped stop.Empty) k m n lost met passed help h = met_both 1 0 0 0 k m n h met
+halted_left (halt.Stopped stop.Worn) k m n lost met passed help h = met_both 0 1 0 0 k m n h met
+halted_left halt.Deep k m n lost met passed help h = met_both 0 0 0 0 k m n h met
+halted_left halt.Split k m n lost met passed help h =
+    let more = h.1 in (met_both 0 0 0 0 k m n h.0 met, omega arith)
+halted_left halt.Helped k m n lost met passed help h =
     let more = h.1 in (met_both 0 0 0 0 k m n h.0 met, omega arith)
 
 stopped_left : {T : Type 0} (r : Result T Halt) (k m n : MyTree) → losses n ≡ losses m
-    → HasMet 0 0 m n → passes n ≡ passes m → HasStopped r k m → HasStopped r k n
-stopped_left (Ok x) k m n lost met passed h = tt
-stopped_left (Err why) k m n lost met passed h = halted_left why k m n lost met passed h
+    → HasMet 0 0 m n → passes n ≡ passes m → helps n ≡ helps m → HasStopped r k m
+    → HasStopped r k n
+stopped_left (Ok x) k m n lost met passed help h = tt
+stopped_left (Err why) k m n lost met passed help h = halted_left why k m n lost met passed help h
 
 -- The pass unpinned behind an attempt.
 pub turn_unpinned : {T : Type 0} (edits : T → Bool) (z : Sizes) (adds : Option (List ℕ))
@@ -178,7 +181,7 @@ turn_unpinned edits z adds t a b r k m n i is = let u = k.0.upper in let w = m.0
       gone_on = gone_unpinned edits z t a.adapting b.adapting r u w v same i.gone_on;
       counted = paid_both a.spent b.spent b.spent k m n i.counted
           (none_paid b.spent m n q.lost q.same_turns);
-      found = stopped_left r k m n q.lost q.met (ap passes is) i.found;
+      found = stopped_left r k m n q.lost q.met (ap passes is) (ap helps is) i.found;
       grown = λ alone. grown_unpinned z adds r u w v same (i.grown alone);
       won = λ alone. won_unpinned edits r u w v same (i.won alone);
       cut = cut_unpinned edits z adds r u w v same i.cut;

@@ -1,5 +1,5 @@
 -- Attempts of a call: each looks at the tree anew.
-use Rattle.std.specs.Prelude.{◌≡◌, ℕ, ◌+◌, ◌-◌, ◌<◌, ◌≤◌, min, List, [], Option, None, Some, Result, Ok, Err}
+use Rattle.std.specs.Prelude.{◌≡◌, ℕ, ◌+◌, ◌-◌, ◌<◌, ◌≤◌, min, List, [], Option, None, Some, Result, Ok, Err, Bool, false}
 use Rattle.ca_base.specs.declared.stop.Stop.{Stop}
 use Rattle.ca_base.specs.declared.stop.Stop.TheVariants as stop
 use Rattle.ca_replace.specs.declared.attempting.Halt.{Halt}
@@ -18,13 +18,15 @@ use Rattle.ca_node.specs.Walking.{IsBegin}
 use Rattle.ca_base.specs.Counting.{losses, HasMet, HasStoppedBy}
 use Rattle.ca_node.specs.Told.{IsKnown, MyTree}
 use Rattle.ca_node.specs.States.{HasState, IsAlone, IsUnanswered, OfSomeState}
-use Rattle.ca_node.specs.TreeView.{TreeView}
+use Rattle.ca_node.specs.TreeView.{Quiet, TreeView}
+use Rattle.ca_range.specs.Clearing.{turns_at}
 use Rattle.ca_model.specs.declared.outcome.Cause.{Cause}
 use Rattle.ca_model.specs.declared.outcome.Cause.TheVariants as cause
 use Rattle.ca_base.specs.Finding.{IsReadable, IsAtCursor}
 use Rattle.ca_base.specs.Progress.{IsFurther, HasDone}
 use Rattle.ca_base.specs.Putting.{first_note, object_at}
 use Rattle.ca_rows.specs.declared.sizes.Sizes.{Sizes}
+use Rattle.ca_rows.specs.declared.space.Pass.{Pass}
 
 -- The base under the cursor was shown last. This key is one of those that are led there, and the base has what a state since the pin has of them,
 -- of a history that is known.
@@ -66,21 +68,28 @@ HasTriedTo tells z (Err why) u v = IsFurther u v × IsKnown z v
 abbrev pub at_pin : TreeView → TreeView
 at_pin u = record u { seen = u.since }
 
--- Since it was pinned the pass learnt of others' edits alone, and found no range of another pass unfinished.
+-- Since it was pinned the pass learnt of others' edits alone.
 pub record IsAsking (u : TreeView) : Type 0 where
   pub before : StartsWith u.seen u.since
   pub unanswered : IsUnanswered u
-  pub none_met : u.ranges.unfinished ≡ []
+
+module _ {R : Type 0} where
+  -- The pass has no range, and knows its number. Where it met no mark since it was pinned, it found no range of another pass unfinished.
+  pub record IsIdle (marked : Bool) (pass : Pass R TreeView) : Type 0 where
+    pub number : pass.number ≡ pass.seat.me.0.upper.number
+    pub quiet : pass.seat.me.0.upper.ranges.own ≡ Quiet
+    pub none_met : marked ≡ false → pass.seat.me.0.upper.ranges.unfinished ≡ []
 
 -- The attempt did the call, which is told so, at a place that isn't before the pin; or it came to a stop, and learnt of others' edits alone.
 abbrev pub HasTriedSince : {T : Type 0} → (T → Event → Type 0) → Sizes → Result T Halt → TreeView → TreeView → Type 0
 HasTriedSince tells z (Ok x) u v = HasDoneSuch (tells x) (at_pin u) v × IsKnown z v
 HasTriedSince tells z (Err why) u v = IsFurther u v × IsKnown z v
 
--- Where an attempt came to a stop another one may follow under the same pin, which begins so. No other range was found unfinished.
-abbrev pub StaysAt : {T : Type 0} → Sizes → List ℕ → Result T Halt → TreeView → TreeView → Option Cursor → Type 0
-StaysAt z key (Ok x) u v again = Unit {0}
-StaysAt z key (Err why) u v again = (v.since ≡ u.since) × BeginsAt z key v again × (v.ranges.unfinished ≡ u.ranges.unfinished)
+-- Where an attempt came to a stop another one may follow under the same pin, which begins so. Where it met no mark, no other range was found unfinished.
+abbrev pub StaysAt : {T : Type 0} → Sizes → List ℕ → Result T Halt → TreeView → TreeView → Option Cursor → Bool → Type 0
+StaysAt z key (Ok x) u v again marked = Unit {0}
+StaysAt z key (Err why) u v again marked = (v.since ≡ u.since) × BeginsAt z key v again
+    × (marked ≡ false → v.ranges.unfinished ≡ u.ranges.unfinished)
 
 -- what an attempt comes to that tried to split a full base, given what became of it
 abbrev pub split_to : {T : Type 0} → Result T Stop → Halt
@@ -104,19 +113,21 @@ refusal_of (halt.Stopped stop.Empty) spent levels = cause.Busy spent
 refusal_of (halt.Stopped stop.Worn) spent levels = cause.Worn counter.PoolTag
 refusal_of halt.Deep spent levels = cause.Deep levels
 refusal_of halt.Split spent levels = cause.Busy spent
+refusal_of halt.Helped spent levels = cause.Busy spent
 
 -- what a call comes to by its last attempt, which found the rows that it wanted
 abbrev pub refused_as : {T : Type 0} → Result T Halt → Spent → ℕ → Result T Cause
 refused_as (Ok x) spent levels = Ok x
 refused_as (Err why) spent levels = Err (refusal_of why spent levels)
 
--- Another attempt may follow one that came to this: an exchange was lost, or a full base was split.
+-- Another attempt may follow one that came to this: an exchange was lost, a full base was split, or another pass's range was helped.
 abbrev pub MayFollow : Halt → Type 0
 MayFollow (halt.Stopped (stop.Lost exchange)) = Unit {0}
 MayFollow (halt.Stopped stop.Empty) = ⊥
 MayFollow (halt.Stopped stop.Worn) = ⊥
 MayFollow halt.Deep = ⊥
 MayFollow halt.Split = Unit {0}
+MayFollow halt.Helped = Unit {0}
 
 abbrev pub HasNext : {T : Type 0} → Result T Halt → Type 0
 HasNext (Ok x) = ⊥
@@ -133,11 +144,12 @@ passes m = m.0.upper.turns.passed
 abbrev pub helps : MyTree → ℕ
 helps m = m.0.upper.turns.helped
 
--- An attempt that did not do the call came to this by what it met; where it split a full base, that was a turn more.
+-- An attempt that did not do the call came to this by what it met; where it split a full base, that was a turn more, and so was its help.
 abbrev pub HasHalted : Halt → MyTree → MyTree → Type 0
 HasHalted (halt.Stopped why) m m' = HasStoppedBy why m m'
 HasHalted halt.Deep m m' = HasMet 0 0 m m'
 HasHalted halt.Split m m' = HasMet 0 0 m m' × (passes m < passes m')
+HasHalted halt.Helped m m' = HasMet 0 0 m m' × (turns_at m < turns_at m')
 
 abbrev pub HasStopped : {T : Type 0} → Result T Halt → MyTree → MyTree → Type 0
 HasStopped (Ok x) m m' = Unit {0}

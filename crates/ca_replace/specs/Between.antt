@@ -1,23 +1,24 @@
 -- What comes between two attempts of a call, or before the first one.
-use Rattle.std.specs.Prelude.{◌≡◌, ℕ, List, Option}
+use Rattle.std.specs.Prelude.{◌≡◌, ℕ, Bool, List, Option}
 use Rattle.ca_node.specs.declared.cursor.Cursor.{Cursor}
 use Rattle.ca_node.specs.Tallied.{IsTallied}
 use Rattle.ca_node.specs.Told.{MyTree, IsKnown}
 use Rattle.ca_node.specs.TreeView.{TreeView}
 use Rattle.ca_base.specs.Progress.{IsFurther}
 use Rattle.ca_base.specs.Readiness.{IsReady}
-use Rattle.ca_replace.specs.Attempting.{BeginsAt, IsAsking, IsQuiet, at_pin}
+use Rattle.ca_replace.specs.Attempting.{BeginsAt, IsAsking, IsIdle, IsQuiet, at_pin}
 use Rattle.ca_replace.specs.Causes.{HasPinned}
 use Rattle.ca_rows.specs.declared.space.Pass.{Pass}
 use Rattle.ca_rows.specs.declared.space.Space.{Space}
 use Rattle.ca_rows.specs.Calls.{IsSame}
 
 module _ {R : Type 0} where
-  -- The pass is pinned, holds no row, and learnt of others' edits alone since it pinned. An attempt of a call about this key may begin so.
-  pub record MayBegin (space : Space R TreeView) (key : List ℕ) (again : Option Cursor) (pass : Pass R TreeView) : Type 0 where
+  -- The pass is pinned, holds no row, has no range, and learnt of others' edits alone since it pinned. An attempt of a call about this key may begin so.
+  pub record MayBegin (space : Space R TreeView) (key : List ℕ) (again : Option Cursor) (marked : Bool) (pass : Pass R TreeView) : Type 0 where
     pub ready : IsReady space pass
     pub known : IsKnown space.table.shared.key pass.seat.me.0.upper
     pub asking : IsAsking pass.seat.me.0.upper
+    pub idle : IsIdle marked pass
     pub begins : BeginsAt space.table.shared.key key pass.seat.me.0.upper again
     pub tallied : IsTallied pass.tally pass.seat.me.0.upper
 

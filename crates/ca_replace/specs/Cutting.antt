@@ -47,6 +47,7 @@ abbrev pub HasCut : {T : Type 0} → (T → Bool) → Sizes → Option (List ℕ
 HasCut edits z adds (Ok x) u v = HasCutBehind (edits x) z u.cuts v
 HasCut edits z adds (Err halt.Split) u v = (x : Division) × (v.cuts ≡ x ∷ u.cuts) × IsFullFor z adds x.old × IsCutInTwo z x
 HasCut edits z adds (Err halt.Deep) u v = v.cuts ≡ u.cuts
+HasCut edits z adds (Err halt.Helped) u v = v.cuts ≡ u.cuts
 HasCut edits z adds (Err (halt.Stopped why)) u v = v.cuts ≡ u.cuts
 
 -- Full bases were split before the update, and after it the one that is due, if it is; where none was carried out, none but full ones.

@@ -41,6 +41,8 @@ abbrev pub HasGrown : {T : Type 0} → Sizes → Option (List ℕ) → Result T 
 HasGrown z adds (Ok x) u v = Grows 1 3 1 u v
 HasGrown z adds (Err halt.Split) u v = Grows 1 2 1 u v × HasRoomFor z adds v × ¬ HasRoomFor z adds u
 HasGrown z adds (Err halt.Deep) u v = IsSameTree u v
+-- A pass that is alone meets no range of another one.
+HasGrown z adds (Err halt.Helped) u v = ⊥
 HasGrown z adds (Err (halt.Stopped why)) u v = IsSameTree u v
 
 -- Attempts of which none did the call: one base was split at most, which had no room for the key, and then there is room.

@@ -21,6 +21,7 @@ module _ {R : Type 0} where
     pub number : new.number ≡ pass.number
     pub tally : IsTallied pass.tally pass.seat.me.0.upper → IsTallied new.tally new.seat.me.0.upper
     pub kept : new.kept ≡ pass.kept
+    pub own_range : new.seat.me.0.upper.ranges.own ≡ pass.seat.me.0.upper.ranges.own
     pub still : (new.seat.me.0.sizes ≡ pass.seat.me.0.sizes) × (new.seat.me.0.pin ≡ pass.seat.me.0.pin)
         × (new.seat.me.0.claims ≡ pass.seat.me.0.claims)
     pub quiet : IsQuiet pass.seat.me new.seat.me

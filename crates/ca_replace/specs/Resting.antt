@@ -9,7 +9,7 @@ use Rattle.ca_model.specs.History.{after}
 use Rattle.ca_model.specs.Known.{Known}
 use Rattle.ca_node.specs.Tallied.{IsTallied}
 use Rattle.ca_node.specs.Told.{IsKnown}
-use Rattle.ca_node.specs.TreeView.{TreeView}
+use Rattle.ca_node.specs.TreeView.{Quiet, TreeView}
 use Rattle.ca_base.specs.Taking.{HoldsFew}
 use Rattle.ca_replace.specs.declared.adapting.Last.{Last}
 use Rattle.ca_rows.specs.declared.kept.Kept.{Kept}
@@ -38,6 +38,8 @@ pub record IsResting (table : TableId) (z : Sizes) (number : ℕ) (tally : Tally
   pub known : IsKnown z seat.me.0.upper
   -- It lost no fewer exchanges of the pool than as it unpinned.
   pub left_before : seat.me.0.pin.left.lost ≤ seat.me.0.lost
+  -- No range of its own is active.
+  pub quiet : seat.me.0.upper.ranges.own ≡ Quiet
   -- It counted the splits and the joins that it carried out.
   pub tallied : IsTallied tally seat.me.0.upper
 

@@ -1,19 +1,31 @@
 -- What a call's attempts come to, beside the event that is entered in the log: one of them, and all until one isn't followed by another.
-use Rattle.std.specs.Prelude.{ℕ, ◌+◌, min, Bool, List, Result, Ok, Err}
+use Rattle.std.specs.Prelude.{ℕ, ◌+◌, min, Bool, true, List, None, Result, Ok, Err}
 use Rattle.std.specs.declared.option.Option.{Option}
+use Rattle.ca_base.specs.Readiness.{StaysReady}
 use Rattle.ca_base.specs.declared.stop.Stop.{Stop}
+use Rattle.ca_base.specs.declared.stop.Stop.TheVariants as stop
+use Rattle.ca_model.specs.declared.outcome.Spent.{Spent}
+use Rattle.ca_range.specs.declared.helped.Helped.{Helped}
+use Rattle.ca_range.specs.declared.helped.Helped.TheVariants as helped
+use Rattle.ca_model.specs.Event.{Event}
 use Rattle.ca_replace.specs.declared.attempting.Halt.{Halt}
+use Rattle.ca_replace.specs.declared.attempting.Halt.TheVariants as halt
+use Rattle.ca_replace.specs.declared.adapting.Adapting.{Adapting}
 use Rattle.ca_adapt.specs.declared.tuning.Tuning.{Tuning}
 use Rattle.ca_node.specs.Told.{MyTree}
 use Rattle.ca_node.specs.States.{IsAlone}
+use Rattle.ca_node.specs.TreeView.{TreeView}
 use Rattle.ca_replace.specs.declared.adapting.Course.{Course}
 use Rattle.ca_replace.specs.Adapting.{HasGoneOn, IsCauseMetInAttempts, noted}
-use Rattle.ca_replace.specs.Attempting.{HasStopped, IsPaid}
+use Rattle.ca_replace.specs.Attempting.{HasStopped, HasTriedTo, IsPaid, StaysAt}
 use Rattle.ca_replace.specs.Cutting.{HasCut, HasCutInAttempts}
 use Rattle.ca_replace.specs.Growing.{HasGrown, HasGrownInAttempts}
 use Rattle.ca_replace.specs.Winning.{HasWonInAttempts}
 use Rattle.ca_rows.specs.declared.sizes.Sizes.{Sizes}
+use Rattle.ca_rows.specs.declared.space.Pass.{Pass}
+use Rattle.ca_rows.specs.declared.space.Space.{Space}
 use Rattle.ca_rows.specs.declared.view.Met.{Met}
+use Rattle.ca_rows.specs.Told.{met_of}
 
 -- One attempt of a call that edits by these answers, and may add this key: what is said about its new base was met by then, how its update goes on from
 -- the attempts before it, what was spent, what stopped it, what it made of the tree of a pass that is alone, and which bases were split.
@@ -36,7 +48,45 @@ pub record AreTurns {T E : Type 0} (edits : T → Bool) (adds : Option (List ℕ
   pub won : IsAlone z m.0.upper → HasWonInAttempts edits r m.0.upper m'.0.upper
   pub cut : HasCutInAttempts edits z adds r m.0.upper m'.0.upper
 
+module _ {R : Type 0} where
+  -- What became of an edit of the base that was shown last, which is such an event, is about this key, and may add one: the pass is in its call still; the
+  -- event is in its log, or another attempt may follow, which begins so; and what it came to beside.
+  pub record HasEdited (space : Space R TreeView) (t : Tuning) (tells : Event → Type 0) (key : List ℕ) (adds : Option (List ℕ)) (marked : Bool) (a b : Course)
+      (r : Result (Unit {0}) Halt) (pass new : Pass R TreeView) : Type 0 where
+    pub frame : StaysReady space pass new
+    pub tried : HasTriedTo (λ _. tells) space.table.shared.key r pass.seat.me.0.upper new.seat.me.0.upper
+    pub stays : StaysAt space.table.shared.key key r pass.seat.me.0.upper new.seat.me.0.upper b.again marked
+    pub turn : IsTurn (λ _. true) adds space.table.shared.key t a b (met_of new.seat.me) r pass.seat.me new.seat.me
+
 -- what is handed on behind the split of a full base: a turn where it was split, and that an exchange of a link was lost where that was
 abbrev pub course_after : {T : Type 0} → Result T Stop → Course → Course
 course_after (Ok x) c = record c { spent = record c.spent { passed = min (c.spent.passed + 1) 4294967295 } }
 course_after (Err why) c = record c { adapting = noted why c.adapting }
+
+-- what an attempt comes to that helped a range, by what became of that
+abbrev pub helped_to : Helped → Halt
+helped_to helped.Finished = halt.Helped
+helped_to (helped.Lost exchange) = halt.Helped
+helped_to (helped.Busy spent) = halt.Helped
+helped_to helped.NoRow = halt.Stopped stop.Empty
+helped_to (helped.Worn counter) = halt.Stopped stop.Worn
+
+-- what is kept then: whether an exchange of a link was lost
+abbrev pub noted_help : Helped → Adapting → Adapting
+noted_help helped.Finished a = a
+noted_help (helped.Lost exchange) a = noted (stop.Lost exchange) a
+noted_help (helped.Busy spent) a = a
+noted_help helped.NoRow a = a
+noted_help (helped.Worn counter) a = a
+
+-- what was spent in all, each count up to the last number that 32 bits hold
+abbrev pub paid : Spent → Spent → Spent
+paid a b = record {
+  lost = min (a.lost + b.lost) 4294967295;
+  helped = min (a.helped + b.helped) 4294967295;
+  passed = min (a.passed + b.passed) 4294967295;
+}
+
+-- what is handed on behind help: what was spent, and that a mark was met; the next attempt begins at the root
+abbrev pub course_helped : Helped → Spent → Course → Course
+course_helped how spent c = record c { adapting = noted_help how c.adapting; spent = paid c.spent spent; again = None; marked = true }

@@ -44,6 +44,10 @@ pub(crate) struct Course {
     pub(crate) spent: Spent,
     /// The cursor with whose link the next attempt begins, while the pass is pinned as it was as that link was loaded; none: it begins at the root.
     pub(crate) again: Option<Cursor>,
+    /// Whether an attempt met a mark since the pass was pinned.
+    pub(crate) marked: bool,
+    /// By how many turns the call may be lost.
+    pub(crate) budget: u32,
 }
 
 /// A base that an update was to put in place: the update's key, and the base's row.

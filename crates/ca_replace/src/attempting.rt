@@ -7,7 +7,7 @@ ghost use Rattle.ca_node.specs.Row.{pair};
 ghost use Rattle.ca_replace.specs.declared.attempting.Halt.TheVariants.{Deep as IsDeep, Split as IsSplit};
 ghost use Rattle.ca_replace.specs.Causes.{IsFullSince};
 ghost use Rattle.ca_replace.specs.Cutting.{IsFullFor};
-ghost use Rattle.ca_replace.specs.Attempting.{BeginsAt, IsAsking, IsLooking, HasFetched, HasSeenAlike, HasTriedSince, HasTriedTo, StaysAt, split_to};
+ghost use Rattle.ca_replace.specs.Attempting.{BeginsAt, IsAsking, IsIdle, IsLooking, HasFetched, HasSeenAlike, HasTriedSince, HasTriedTo, StaysAt, split_to};
 ghost use Rattle.ca_node.specs.Told.{IsKnown, IsSettled};
 ghost use Rattle.ca_node.specs.Walking.{IsWalked};
 ghost use Rattle.ca_node.specs.declared.cursor.Spot.TheVariants.{At as IsAt};
@@ -18,19 +18,20 @@ ghost use Rattle.ca_base.specs.Targets.{IsKeyed, event_of, key_in};
 ghost use Rattle.ca_rows.specs.declared.sizes.Sizes.{Sizes};
 ghost use Rattle.ca_rows.specs.Told.{met_of};
 ghost use Rattle.ca_replace.specs.Looking.{HasLooked};
-ghost use Rattle.ca_replace.specs.Turning.{IsTurn, course_after};
+ghost use Rattle.ca_replace.specs.Turning.{HasEdited, IsTurn, course_after, course_helped, helped_to, paid};
 ghost use Rattle.ca_rows.specs.Passes.{IsReading, KeepsList, sizes, known};
 ghost use Rattle.ca_node.specs.TreePasses.{tree_of};
 ghost use Rattle.ca_base.specs.Readiness.{IsReady, StaysReady, shown_last};
 
 use crate::adapting::{Course, NewBase, next_statistic, note_stop, settle};
+use crate::giving::{add, spent_in_all};
 use crate::looking::copy_at;
 use crate::tree::Tree;
 use ca_adapt::{first_attempt, word_of};
 use ca_base::{Insertion, Removal, Stop, Target, count, put_at, remove_at, search, split_at};
-use ca_model::Code;
+use ca_model::{Code, Spent};
 use ca_node::{Cursor, Spot, TreePass, TreeSpace, walk, walk_from};
-use ca_range::look_at_mark;
+use ca_range::{Helped, Way, clear};
 
 /// Why an attempt came to nothing.
 #[derive(Clone, Copy)]
@@ -41,6 +42,8 @@ pub(crate) enum Halt {
     Deep,
     /// That base was split, and so there may be room now.
     Split,
+    /// A range of another pass has the base, and was helped.
+    Helped,
 }
 
 /// A call that may edit, and what one attempt of it does.
@@ -83,10 +86,12 @@ pub(crate) trait Attempt {
         requires may { may self.now (sizes tree.now.space) }
         requires known { IsKnown (sizes tree.now.space) (tree_of pass.old) }
         requires asking { IsAsking (tree_of pass.old) }
+        requires idle { IsIdle false pass.old }
         requires begins { BeginsAt (sizes tree.now.space) (about self.now) (tree_of pass.old) course.old.again }
         ensures frame { StaysReady tree.now.space pass.old pass.new }
         ensures tried { HasTriedSince (λ answer. tells self.now answer left.new) (sizes tree.now.space) result (tree_of pass.old) (tree_of pass.new) }
-        ensures stays { StaysAt (sizes tree.now.space) (about self.now) result (tree_of pass.old) (tree_of pass.new) course.new.again }
+        ensures stays { StaysAt (sizes tree.now.space) (about self.now) result (tree_of pass.old) (tree_of pass.new) course.new.again
+            course.new.marked }
         ensures deep { result ≡ Err IsDeep → IsFullSince (sizes tree.now.space) (adds self.now) (tree_of pass.new) }
         ensures turn { IsTurn (edits self.now) (adds self.now) (sizes tree.now.space) tree.now.tuning course.old course.new (met_of (known pass.new)) result
             (known pass.old) (known pass.new) };
@@ -151,7 +156,7 @@ pub(crate) fn fetch(
 }
 
 /// Puts an object at its key's place in the base that was shown last, where there is room; else it splits the base, if that isn't at the last level.
-/// Before that it looks at the base's mark: a base that a range has isn't exchanged.
+/// Before that it looks at the base's mark: where a range of another pass has the base, that range is helped instead.
 pub(crate) fn put_there(
     tree: &Tree,
     pass: &mut TreePass,
@@ -162,22 +167,24 @@ pub(crate) fn put_there(
     requires ready { IsReady tree.now.space pass.old }
     requires looking { IsLooking (sizes tree.now.space) (tree_of pass.old) (key_in insertion.now.keyed) cursor }
     requires unanswered { IsUnanswered (tree_of pass.old) }
-    requires none_met { (tree_of pass.old).ranges.unfinished ≡ [] }
+    requires idle { IsIdle false pass.old }
     requires keyed { IsKeyed (sizes tree.now.space).keypos insertion.now.keyed }
     requires place { IsPlace (map pair (shown_last pass.old).objects) (key_in insertion.now.keyed) insertion.now.place }
     requires call { IsFor insertion.now.why insertion.now.place }
-    ensures frame { StaysReady tree.now.space pass.old pass.new }
-    ensures tried { HasTriedTo (λ _ event. event ≡ event_of insertion.now (shown_last pass.old).objects) (sizes tree.now.space) result (tree_of pass.old)
-        (tree_of pass.new) }
-    ensures stays { StaysAt (sizes tree.now.space) (key_in insertion.now.keyed) result (tree_of pass.old) (tree_of pass.new) course.new.again }
+    ensures edited { HasEdited tree.now.space tree.now.tuning (λ event. event ≡ event_of insertion.now (shown_last pass.old).objects)
+        (key_in insertion.now.keyed) (Some (key_in insertion.now.keyed)) course.new.marked course.old course.new result pass.old pass.new }
     ensures deep { OnOk insertion.now.place (result ≢ Err IsDeep) }
     ensures no_split { OnOk insertion.now.place (result ≢ Err IsSplit) }
     ensures full { result ≡ Err IsDeep → IsFullSince (sizes tree.now.space) (Some (key_in insertion.now.keyed)) (tree_of pass.new) }
-    ensures turn { IsTurn (λ _. true) (Some (key_in insertion.now.keyed)) (sizes tree.now.space) tree.now.tuning course.old course.new (met_of (known pass.new))
-        result (known pass.old) (known pass.new) }
 {
-    look_at_mark(&tree.space, pass, cursor.base);
-    put_settled(tree, pass, cursor, insertion, course)
+    match clear(&tree.space, pass, cursor, &tree.tuning, turns_left(course)) {
+        Way::Free(marked) => {
+            let done = put_settled(tree, pass, cursor, insertion, course);
+            course.marked = marked;
+            done
+        }
+        Way::Helped(helped, spent) => Err(after_help(helped, spent, course)),
+    }
 }
 
 // The same where it is known that no range has the base.
@@ -194,15 +201,11 @@ fn put_settled(
     requires keyed { IsKeyed (sizes tree.now.space).keypos insertion.now.keyed }
     requires place { IsPlace (map pair (shown_last pass.old).objects) (key_in insertion.now.keyed) insertion.now.place }
     requires call { IsFor insertion.now.why insertion.now.place }
-    ensures frame { StaysReady tree.now.space pass.old pass.new }
-    ensures tried { HasTriedTo (λ _ event. event ≡ event_of insertion.now (shown_last pass.old).objects) (sizes tree.now.space) result (tree_of pass.old)
-        (tree_of pass.new) }
-    ensures stays { StaysAt (sizes tree.now.space) (key_in insertion.now.keyed) result (tree_of pass.old) (tree_of pass.new) course.new.again }
+    ensures edited { HasEdited tree.now.space tree.now.tuning (λ event. event ≡ event_of insertion.now (shown_last pass.old).objects)
+        (key_in insertion.now.keyed) (Some (key_in insertion.now.keyed)) false course.old course.new result pass.old pass.new }
     ensures deep { OnOk insertion.now.place (result ≢ Err IsDeep) }
     ensures no_split { OnOk insertion.now.place (result ≢ Err IsSplit) }
     ensures full { result ≡ Err IsDeep → IsFullSince (sizes tree.now.space) (Some (key_in insertion.now.keyed)) (tree_of pass.new) }
-    ensures turn { IsTurn (λ _. true) (Some (key_in insertion.now.keyed)) (sizes tree.now.space) tree.now.tuning course.old course.new (met_of (known pass.new))
-        result (known pass.old) (known pass.new) }
 {
     let space = &tree.space;
     let many = count(space, pass, cursor.base);
@@ -225,6 +228,46 @@ fn put_settled(
     settle(tree, pass, &NewBase { key, row }, statistic, tried, course)
 }
 
+// How many turns a call may spend yet; one at least.
+fn turns_left(course: &Course) -> u32
+    ensures { 1 ≤ result }
+{
+    course
+        .budget
+        .saturating_sub(spent_in_all(&course.spent))
+        .max(1)
+}
+
+// What an attempt comes to that helped a range, by what became of that, and what it hands on.
+fn after_help(helped: Helped, spent: Spent, course: &mut Course) -> Halt
+    ensures halt { result ≡ helped_to helped }
+    ensures course { course.new ≡ course_helped helped spent course.old }
+{
+    course.spent = pay(&course.spent, &spent);
+    course.again = None;
+    course.marked = true;
+    match helped {
+        Helped::Finished | Helped::Busy(_) => Halt::Helped,
+        Helped::Lost(exchange) => {
+            note_stop(&mut course.adapting, Stop::Lost(exchange));
+            Halt::Helped
+        }
+        Helped::NoRow => Halt::Stopped(Stop::Empty),
+        Helped::Worn(_) => Halt::Stopped(Stop::Worn),
+    }
+}
+
+// What was spent in all.
+fn pay(spent: &Spent, more: &Spent) -> Spent
+    ensures { result ≡ paid spent.now more.now }
+{
+    Spent {
+        lost: add(spent.lost, more.lost),
+        helped: add(spent.helped, more.helped),
+        passed: add(spent.passed, more.passed),
+    }
+}
+
 // What an attempt comes to that met a full base: it splits the base, if that isn't at the last level.
 fn make_room(
     tree: &Tree,
@@ -241,7 +284,7 @@ fn make_room(
     ensures further { IsFurther (tree_of pass.old) (tree_of pass.new) × IsKnown (sizes tree.now.space) (tree_of pass.new) }
     ensures same_seen { HasSeenAlike (tree_of pass.old) (tree_of pass.new) }
     ensures stays { (key : List ℕ) → IsLooking (sizes tree.now.space) (tree_of pass.old) key cursor → StaysAt {T = Unit {0}} (sizes tree.now.space) key (Err result)
-        (tree_of pass.old) (tree_of pass.new) course.new.again }
+        (tree_of pass.old) (tree_of pass.new) course.new.again false }
     ensures deep { result ≡ IsDeep → (sizes tree.now.space).levels ≤ (shown_last pass.old).place.level }
     ensures turn { (key : List ℕ) → IsLooking (sizes tree.now.space) (tree_of pass.old) key cursor
         → IsFullFor (sizes tree.now.space) (Some key) (shown_last pass.old) → IsTurn {T = Unit {0}} (λ _. true) (Some key) (sizes tree.now.space)
@@ -278,7 +321,7 @@ fn halt_of(split: Result<(), Stop>) -> Halt
     }
 }
 
-/// Removes the object at its key's place in the base that was shown last, once it looked at the base's mark.
+/// Removes the object at its key's place in the base that was shown last. Where a range of another pass has the base, that range is helped instead.
 pub(crate) fn remove_there(
     tree: &Tree,
     pass: &mut TreePass,
@@ -289,18 +332,21 @@ pub(crate) fn remove_there(
     requires ready { IsReady tree.now.space pass.old }
     requires looking { IsLooking (sizes tree.now.space) (tree_of pass.old) removal.now.key.now cursor }
     requires unanswered { IsUnanswered (tree_of pass.old) }
-    requires none_met { (tree_of pass.old).ranges.unfinished ≡ [] }
+    requires idle { IsIdle false pass.old }
     requires place { IsPlace (map pair (shown_last pass.old).objects) removal.now.key.now (Ok removal.now.at) }
-    ensures frame { StaysReady tree.now.space pass.old pass.new }
-    ensures tried { HasTriedTo (λ _ event. event ≡ Remove removal.now.key.now (Some (object_at (Ok removal.now.at) (shown_last pass.old).objects))) (sizes tree.now.space) result
-        (tree_of pass.old) (tree_of pass.new) }
-    ensures stays { StaysAt (sizes tree.now.space) removal.now.key.now result (tree_of pass.old) (tree_of pass.new) course.new.again }
+    ensures edited { HasEdited tree.now.space tree.now.tuning
+        (λ event. event ≡ Remove removal.now.key.now (Some (object_at (Ok removal.now.at) (shown_last pass.old).objects))) removal.now.key.now None
+        course.new.marked course.old course.new result pass.old pass.new }
     ensures deep { result ≢ Err IsDeep }
-    ensures turn { IsTurn (λ _. true) None (sizes tree.now.space) tree.now.tuning course.old course.new (met_of (known pass.new)) result
-        (known pass.old) (known pass.new) }
 {
-    look_at_mark(&tree.space, pass, cursor.base);
-    remove_settled(tree, pass, cursor, removal, course)
+    match clear(&tree.space, pass, cursor, &tree.tuning, turns_left(course)) {
+        Way::Free(marked) => {
+            let done = remove_settled(tree, pass, cursor, removal, course);
+            course.marked = marked;
+            done
+        }
+        Way::Helped(helped, spent) => Err(after_help(helped, spent, course)),
+    }
 }
 
 // The same where it is known that no range has the base.
@@ -315,13 +361,10 @@ fn remove_settled(
     requires looking { IsLooking (sizes tree.now.space) (tree_of pass.old) removal.now.key.now cursor }
     requires settled { IsSettled (tree_of pass.old) (shown_last pass.old).its }
     requires place { IsPlace (map pair (shown_last pass.old).objects) removal.now.key.now (Ok removal.now.at) }
-    ensures frame { StaysReady tree.now.space pass.old pass.new }
-    ensures tried { HasTriedTo (λ _ event. event ≡ Remove removal.now.key.now (Some (object_at (Ok removal.now.at) (shown_last pass.old).objects))) (sizes tree.now.space) result
-        (tree_of pass.old) (tree_of pass.new) }
-    ensures stays { StaysAt (sizes tree.now.space) removal.now.key.now result (tree_of pass.old) (tree_of pass.new) course.new.again }
+    ensures edited { HasEdited tree.now.space tree.now.tuning
+        (λ event. event ≡ Remove removal.now.key.now (Some (object_at (Ok removal.now.at) (shown_last pass.old).objects))) removal.now.key.now None
+        false course.old course.new result pass.old pass.new }
     ensures deep { result ≢ Err IsDeep }
-    ensures turn { IsTurn (λ _. true) None (sizes tree.now.space) tree.now.tuning course.old course.new (met_of (known pass.new)) result
-        (known pass.old) (known pass.new) }
 {
     let space = &tree.space;
     let many = count(space, pass, cursor.base);

@@ -1,5 +1,5 @@
 //! Calls of a pass that rests: attempts, the turns of each, and how a call ends.
-ghost use Rattle.std.specs.Prelude.{◌⊎◌, ◌≡◌, ◌≢◌, ◌↔◌, ◌<◌, ◌≤◌, Err, None, [], IfErr, IsTrue};
+ghost use Rattle.std.specs.Prelude.{◌⊎◌, ◌≡◌, ◌≢◌, ◌↔◌, ◌<◌, ◌≤◌, Err, None, [], IfErr, IsTrue, false};
 ghost use Rattle.ca_model.specs.Answer.{IfBusy, IfDone, IfRefused};
 ghost use Rattle.ca_base.specs.declared.stop.Stop.TheVariants.{Empty as IsEmpty};
 ghost use Rattle.ca_replace.specs.declared.attempting.Halt.TheVariants.{Deep as IsDeep, Stopped as IsStopped};
@@ -75,6 +75,8 @@ pub(crate) fn call<A: Attempt>(
             passed: 0,
         },
         again: None,
+        marked: false,
+        budget: order.budget,
     };
     match attempts(tree, pass, order, left, room, &mut course) {
         Ok(answer) => {
@@ -148,13 +150,15 @@ fn or_refusal<T>(tried: Result<T, Halt>, spent: Spent, levels: u16) -> Result<T,
 {
     match tried {
         Ok(answer) => Ok(answer),
-        Err(Halt::Split | Halt::Stopped(Stop::Lost(_) | Stop::Empty)) => Err(Cause::Busy(spent)),
+        Err(Halt::Split | Halt::Helped | Halt::Stopped(Stop::Lost(_) | Stop::Empty)) => Err(
+            Cause::Busy(spent),
+        ),
         Err(Halt::Deep) => Err(Cause::Deep(levels)),
         Err(Halt::Stopped(Stop::Worn)) => Err(Cause::Worn(Counter::PoolTag)),
     }
 }
 
-// Attempts, until one isn't lost to another pass and doesn't split a full base, or the budget is spent. What the last one comes to is the answer. One that
+// Attempts, until one isn't lost to another pass and neither splits a full base nor helps a range, or the budget is spent. What the last one comes to is the answer. One that
 // lost the exchange of its link is followed by one that begins with this link, under the same pin, and any other one by one that begins at the root.
 fn turns<A: Attempt>(
     tree: &Tree,
@@ -189,16 +193,26 @@ fn turns<A: Attempt>(
             return tried;
         }
         made = made.wrapping_add(1);
-        let anew = !has_lost_link(&tried) || made % ATTEMPTS_OF_A_PIN == 0;
+        let anew = begins_anew(&tried, made, course.marked);
         go_on(tree, pass, order, anew, course);
     }
 }
 
-// Whether another turn may follow an attempt: it was lost to another pass, or split a full base.
+// Whether another turn may follow an attempt: it was lost to another pass, split a full base, or helped a range.
 fn has_next<T>(tried: &Result<T, Halt>) -> bool
     ensures { IsTrue result ↔ HasNext tried.now }
 {
-    matches!(tried, Err(Halt::Split | Halt::Stopped(Stop::Lost(_))))
+    matches!(
+        tried,
+        Err(Halt::Split | Halt::Helped | Halt::Stopped(Stop::Lost(_)))
+    )
+}
+
+// Whether the next attempt begins under a new pin: it doesn't where this one lost the exchange of its link, unless it met a mark, or many were made.
+fn begins_anew<T>(tried: &Result<T, Halt>, made: u8, marked: bool) -> bool
+    ensures { result ≡ false → marked ≡ false }
+{
+    marked || !has_lost_link(tried) || made % ATTEMPTS_OF_A_PIN == 0
 }
 
 // Whether an attempt lost the exchange of its link.
@@ -214,8 +228,9 @@ fn go_on<A: Attempt>(
     anew: bool,
     course: &mut Course,
 )
-    requires may { MayBegin tree.now.space (A.about order.now.what.now) course.old.again pass.old }
-    ensures may { MayBegin tree.now.space (A.about order.now.what.now) course.new.again pass.new }
+    requires may { MayBegin tree.now.space (A.about order.now.what.now) course.old.again course.old.marked pass.old }
+    requires marked { anew ≡ false → course.old.marked ≡ false }
+    ensures may { MayBegin tree.now.space (A.about order.now.what.now) course.new.again false pass.new }
     ensures still { GoesOn pass.old pass.new }
     ensures course { (course.new.adapting ≡ course.old.adapting) × (course.new.spent ≡ course.old.spent) }
 {

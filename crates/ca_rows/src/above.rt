@@ -8,7 +8,7 @@ ghost use Rattle.ca_rows.specs.Closed.{joined};
 ghost use Rattle.ca_rows.specs.Rule.{Ruled};
 ghost use Rattle.ca_rows.specs.Passes.{CountsSplit, KeepsList, sizes, known, view};
 
-use crate::plays::{Raise, Relink};
+use crate::plays::{Put, Raise, Relink};
 use crate::rule::RowRule;
 use crate::space::{Half, Pass, Space};
 use crate::view::View;
@@ -28,6 +28,22 @@ impl<R: RowRule> Space<R> {
         self.table
             .shared
             .load::<Raise<R, M>>(&mut pass.seat, word as usize)
+    }
+
+    /// One store in a word by the structure above: what the pass knows of the rows and counts of them stays.
+    pub fn store<M: Play<(), View<R::Upper>>>(&self, pass: &mut Pass<R>, word: u32, new: u64)
+        requires table { pass.old.seat.table_id ≡ self.now.table.shared.table_id }
+        requires word { word < self.now.table.shared.table_id.words }
+        requires rule { Allows (Ruled R.linked R.lent R.noted R.fact (sizes self.now)) self.now.table.shared.table_id.slots pass.old.seat.id
+            (known pass.old) word (λ _. new) (λ _. Raises R.stores M.then (step self.now.table.shared.table_id.slots word new 0 none) (known pass.old)
+            new) }
+        ensures frame { KeepsList pass.old pass.new }
+        ensures above { IsRaised (known pass.old) (known pass.new) }
+        ensures told { M.then (step self.now.table.shared.table_id.slots word new 0 none) (known pass.old) new (known pass.new) }
+    {
+        self.table
+            .shared
+            .store::<Put<R, M>>(&mut pass.seat, word as usize, new);
     }
 
     /// One exchange of a word by the structure above, where it is `old`; false exactly where it wasn't. What the pass knows of the rows and counts

@@ -171,6 +171,16 @@ impl<R: RowRule, M: Play<(), View<R::Upper>>> Play<(), View<R::Upper>> for Raise
     ghost then = { λ st m n m'. Raises R.loads M.then st m n m' };
 }
 
+/// A store by the structure above, which changes nothing that a seat knows of the rows.
+pub struct Put<R, M> {
+    rule: PhantomData<R>,
+    play: PhantomData<M>,
+}
+
+impl<R: RowRule, M: Play<(), View<R::Upper>>> Play<(), View<R::Upper>> for Put<R, M> {
+    ghost then = { λ st m n m'. Raises R.stores M.then st m n m' };
+}
+
 /// An exchange by the structure above.
 pub struct Relink<R, M> {
     rule: PhantomData<R>,

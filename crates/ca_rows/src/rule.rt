@@ -45,10 +45,12 @@ pub trait RowRule {
 
     ghost leaves: { Self.Upper → Self.Upper };
 
-    /// All that a load of the structure above may tell, and all that an exchange may: as `then` of a play.
+    /// All that a load of the structure above may tell, all that an exchange may, and all that a store may: as `then` of a play.
     ghost loads: { Step (Unit {0}) → Mine Self.Upper → ℕ → Mine Self.Upper → Type 0 };
 
     ghost swaps: { Step (Unit {0}) → Mine Self.Upper → ℕ → Mine Self.Upper → Type 0 };
+
+    ghost stores: { Step (Unit {0}) → Mine Self.Upper → ℕ → Mine Self.Upper → Type 0 };
 
     /// What a seat knows that learnt what was split off another one.
     ghost learns: { Self.Upper → Self.Upper → Self.Upper };

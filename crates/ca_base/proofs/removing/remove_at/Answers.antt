@@ -24,6 +24,7 @@ returns-in_err-new-clause-frame c = record {
   number = search rules;
   tally = search rules;
   pin = search rules;
+  own_range = ap (λ (u : TreeView). u.ranges.own) c.take.ensures.frame.same.4;
   none = c.in_err-new.ensures.taken [] (omega arith) c.requires.ready.none;
 }
 
@@ -157,6 +158,8 @@ returns-clause-frame c = record {
     c.swap_in.ensures.frame.pin.1
         ∙ (c.write_base_without-old.ensures.frame.same.3 ∙ c.take.ensures.frame.same.3),
   );
+  own_range = c.swap_in.ensures.frame.own_range
+      ∙ ap (λ (u : TreeView). u.ranges.own) (c.write_base_without-old.ensures.frame.same.4 ∙ c.take.ensures.frame.same.4);
   none = c.swap_in.ensures.frame.none;
 }
 

@@ -44,6 +44,7 @@ returns-clause-frame g c = record {
       c.if-not-divide_base.ensures.done c.if-not-divide_base.ensures.frame.tally
       c.retire_unlinked.ensures.frame.same.4 c.retire_unlinked.ensures.frame.tally;
   pin = search rules;
+  own_range = search rules;
   none = let r = c.requires.rows in let rows = c.args.space.now.table.shared.key.rows in
       none_left rows c.retire_unlinked.new.pass.kept.rows c.retire_unlinked.new.pass.seat.me.0
       (c.retire_unlinked.ensures.retired [] (in_nothing c.args.cursor.base [] refl)
@@ -65,6 +66,7 @@ returns-then-not-divide_base-clause-frame g c = record {
       c.if-not-divide_base.ensures.done c.if-not-divide_base.ensures.frame.tally
       c.give_back_all.ensures.frame.same.4 c.give_back_all.ensures.frame.tally;
   pin = search rules;
+  own_range = search rules;
   none = search rules;
 }
 

@@ -252,6 +252,9 @@ returns-clause-frame c = record {
         ∙ (c.write_half-2.ensures.frame.same.3
         ∙ (c.write_half.ensures.frame.same.3 ∙ c.take_three.ensures.frame.same.3))))),
   );
+  own_range = c.divide_in.ensures.frame.own_range ∙ ap (λ (u : TreeView). u.ranges.own) (c.write_route.ensures.frame.same.4
+      ∙ (ap (λ (m : MyTree). m.0.upper) (c.copy_key.ensures.frame.still ∙ c.item-first.ensures.frame.still)
+      ∙ (c.write_half-2.ensures.frame.same.4 ∙ (c.write_half.ensures.frame.same.4 ∙ c.take_three.ensures.frame.same.4))));
   none = c.divide_in.ensures.frame.none;
 }
 

@@ -117,6 +117,7 @@ returns-then-not-replace_base-clause-frame g c = record {
       (c.give_back_all.ensures.frame.tally
       ∙ (c.give_back.ensures.frame.tally ∙ c.replace_base.ensures.frame.tally));
   pin = search rules;
+  own_range = search rules;
   none = search rules;
 }
 
@@ -132,6 +133,7 @@ returns-clause-frame g c = record {
       (c.retire_all.ensures.frame.tally
       ∙ (c.retire_unlinked.ensures.frame.tally ∙ c.replace_base.ensures.frame.tally));
   pin = search rules;
+  own_range = search rules;
   none = search rules;
 }
 

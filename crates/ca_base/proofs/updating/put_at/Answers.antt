@@ -225,6 +225,8 @@ returns-clause-frame c = record {
         ∙ (c.write_base_with-old.ensures.frame.same.3
         ∙ (c.write_object.ensures.frame.same.3 ∙ c.take_two.ensures.frame.same.3)),
   );
+  own_range = c.swap_in.ensures.frame.own_range ∙ ap (λ (u : TreeView). u.ranges.own) (c.write_base_with-old.ensures.frame.same.4
+      ∙ (c.write_object.ensures.frame.same.4 ∙ c.take_two.ensures.frame.same.4));
   none = c.swap_in.ensures.frame.none;
 }
 

@@ -9,7 +9,7 @@ use Rattle.ca_node.specs.May.{MaySwap}
 use Rattle.ca_node.specs.OwnRanges.{Leaves}
 use Rattle.ca_node.specs.Told.{status_word}
 use Rattle.ca_node.proofs.Looking.{R}
-use Rattle.ca_node.proofs.OwnLeaving.{leaves}
+use Rattle.ca_node.proofs.OwnOpening.{leaves}
 use Rattle.ca_node.proofs.own_ranges.leave_range.Goals as goal
 
 pub swap-requires-clause-rule : goal.swap-requires-clause-rule

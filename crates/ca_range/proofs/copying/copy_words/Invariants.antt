@@ -10,5 +10,6 @@ invariant-loop-place l = record {
   kept : l.pass.kept ≡ l.fn.pass.kept;
   tally : l.pass.tally ≡ l.fn.pass.tally;
   filled : (note : Note) → IsBaseShown l.space.table.shared.key l.fn.pass.seat.me.0.upper l.base note
-      → IsFilling l.space.table.shared.table_id l.space.table.shared.key l.row 7 (λ k word. word ≡ get_or note.its (7 + k) 0) l.fn.pass.seat l.pass.seat l.place;
+      → IsFilling l.space.table.shared.table_id l.space.table.shared.key l.row 7 (λ k word. word ≡ get_or note.its (7 + k) 0)
+      l.fn.pass.seat l.pass.seat l.place;
 }

@@ -37,8 +37,8 @@ returns-clause-written c note s = let z = c.args.space.now.table.shared.key in l
     let shown = subst (λ (u : TreeView). IsBaseShown z u c.args.base note) (sym upper) s in
     let g = c.copy_words.ensures.filled note shown f.0 (f.1.long ∙ has.1) f.2.here in (
       g.0,
-      spells_copy z note c.args.mark.now c.load_word-form.result c.from-owner.result c.from-back.result c.from-bound.result has.0 f.0 g.0 c.requires.leaf s.is_base
-          word c.from-owner.ensures c.from-back.ensures c.from-bound.ensures has.1 f.1 g.1,
+      spells_copy z note c.args.mark.now c.load_word-form.result c.from-owner.result c.from-back.result c.from-bound.result has.0 f.0 g.0
+          c.requires.leaf s.is_base word c.from-owner.ensures c.from-back.ensures c.from-bound.ensures has.1 f.1 g.1,
       subst (λ (x : MyTree). IsRewritten c.args.row g.0 x c.copy_words.new.pass.seat.me) still
           (rewritten_again c.args.row f.0 g.0 c.load_word-form.new.pass.seat.me c.write_words.new.pass.seat.me c.copy_words.new.pass.seat.me f.2 g.2),
     )

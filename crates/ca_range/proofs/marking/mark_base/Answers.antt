@@ -1,14 +1,13 @@
-use Rattle.std.proofs.Common.{rules, [], ◌∷◌, Result, refl, sym, ap, ◌∙◌, subst, arith}
+use Rattle.std.proofs.Common.{rules, [], ◌∷◌, Result, refl, ap, ◌∙◌, subst, arith}
 use Rattle.ca_base.specs.Counting.{losses, HasFound}
 use Rattle.ca_base.specs.declared.stop.Stop.{Stop}
-use Rattle.ca_base.specs.Finding.{IsBaseShown}
 use Rattle.ca_base.specs.Putting.{first_note}
 use Rattle.ca_base.proofs.Counts.{ended_after, met_both, written_met}
 use Rattle.ca_base.proofs.Tallies.{tallied_as}
 use Rattle.ca_base.proofs.Unlinking.{written_row}
 use Rattle.ca_node.specs.TreeView.{TreeView}
 use Rattle.ca_rows.specs.declared.view.Pin.{Pin}
-use Rattle.ca_range.proofs.Copied.{is_copy, is_next, marked_now}
+use Rattle.ca_range.proofs.Copied.{is_copy, is_next, marked_now, shown_still}
 use Rattle.ca_range.proofs.Spends.{on_both, on_lost, on_still}
 use Rattle.ca_range.proofs.marking.mark_base.Goals as goal
 
@@ -19,6 +18,7 @@ returns-in_err-row-clause-frame c = record {
   tally = tallied_as c.args.pass.now.tally c.take.new.pass.tally c.args.pass.now.seat.me.0.upper c.take.new.pass.seat.me.0.upper
       c.take.ensures.frame.tally c.take.ensures.frame.same.4;
   pin = search rules;
+  own_range = ap (λ (u : TreeView). u.ranges.own) c.take.ensures.frame.same.4;
   none = c.in_err-row.ensures.taken [] (omega arith) c.requires.ready.none;
 }
 
@@ -36,24 +36,24 @@ write_copy-requires-clause-row c = let each = (c.in_ok-row.ensures.taken [] (ome
 }
 
 pub put_copy-requires-clause-copy : goal.put_copy-requires-clause-copy
-put_copy-requires-clause-copy c = let w = c.write_copy.ensures.written (first_note c.args.pass.now.seat.me.0.upper.notes) (subst (λ (u : TreeView). IsBaseShown c.args.space.now.table.shared.key u c.args.next.base
-    (first_note c.args.pass.now.seat.me.0.upper.notes)) (sym c.take.ensures.frame.same.4)
-    record { noted = c.requires.shown.noted; here = c.requires.shown.here; is_base = c.requires.shown.is_base }) in
+put_copy-requires-clause-copy c = let w = c.write_copy.ensures.written (first_note c.args.pass.now.seat.me.0.upper.notes)
+    (shown_still c.args.space.now.table.shared.key c.args.pass.now.seat.me c.take.new.pass.seat.me c.args.next.base c.take.ensures.frame.same.4
+    c.requires.shown) in
     is_copy c.args.space.now.table.shared.key c.args.pass.now.seat.me c.write_copy.new.pass.seat.me
     c.in_ok-row.row c.args.next.base w.0 c.args.mark.now (c.write_copy.ensures.frame.same.4 ∙ c.take.ensures.frame.same.4) w.2.here w.1
     (c.write_copy.ensures.frame.same.3 ∙ c.take.ensures.frame.same.3) c.requires.ready.pinned c.requires.ready.number c.requires.shown c.requires.settled
 
 pub put_copy-requires-clause-next : goal.put_copy-requires-clause-next
-put_copy-requires-clause-next c = let w = c.write_copy.ensures.written (first_note c.args.pass.now.seat.me.0.upper.notes) (subst (λ (u : TreeView). IsBaseShown c.args.space.now.table.shared.key u c.args.next.base
-    (first_note c.args.pass.now.seat.me.0.upper.notes)) (sym c.take.ensures.frame.same.4)
-    record { noted = c.requires.shown.noted; here = c.requires.shown.here; is_base = c.requires.shown.is_base }) in
+put_copy-requires-clause-next c = let w = c.write_copy.ensures.written (first_note c.args.pass.now.seat.me.0.upper.notes)
+    (shown_still c.args.space.now.table.shared.key c.args.pass.now.seat.me c.take.new.pass.seat.me c.args.next.base c.take.ensures.frame.same.4
+    c.requires.shown) in
     is_next c.args.space.now.table.shared.key c.args.pass.now.seat.me c.write_copy.new.pass.seat.me
     c.in_ok-row.row c.args.next.base w.0 c.args.mark.now (c.write_copy.ensures.frame.same.4 ∙ c.take.ensures.frame.same.4) w.2.here w.1 c.requires.next
 
 pub put_copy-requires-clause-held : goal.put_copy-requires-clause-held
-put_copy-requires-clause-held c = let w = c.write_copy.ensures.written (first_note c.args.pass.now.seat.me.0.upper.notes) (subst (λ (u : TreeView). IsBaseShown c.args.space.now.table.shared.key u c.args.next.base
-    (first_note c.args.pass.now.seat.me.0.upper.notes)) (sym c.take.ensures.frame.same.4)
-    record { noted = c.requires.shown.noted; here = c.requires.shown.here; is_base = c.requires.shown.is_base }) in
+put_copy-requires-clause-held c = let w = c.write_copy.ensures.written (first_note c.args.pass.now.seat.me.0.upper.notes)
+    (shown_still c.args.space.now.table.shared.key c.args.pass.now.seat.me c.take.new.pass.seat.me c.args.next.base c.take.ensures.frame.same.4
+    c.requires.shown) in
     let t = c.in_ok-row.ensures.taken [] (omega arith) c.requires.ready.none in
     written_row c.args.space.now.table.shared.key.rows c.take.new.pass.kept c.write_copy.new.pass.kept c.take.new.pass.seat.me c.write_copy.new.pass.seat.me
     (c.in_ok-row.row ∷ []) c.in_ok-row.row w.0 (0, refl) w.1.long w.2 c.write_copy.ensures.frame.kept t.1
@@ -66,6 +66,7 @@ returns-in-Ok-clause-frame c = record {
       c.write_copy.new.pass.seat.me.0.upper (c.write_copy.ensures.frame.tally ∙ c.take.ensures.frame.tally)
       (c.write_copy.ensures.frame.same.4 ∙ c.take.ensures.frame.same.4) t);
   pin = search rules;
+  own_range = c.put_copy.ensures.frame.own_range ∙ ap (λ (u : TreeView). u.ranges.own) (c.write_copy.ensures.frame.same.4 ∙ c.take.ensures.frame.same.4);
   none = c.put_copy.ensures.frame.none;
 }
 
@@ -77,13 +78,14 @@ returns-in-Err-clause-frame c = record {
       c.write_copy.new.pass.seat.me.0.upper (c.write_copy.ensures.frame.tally ∙ c.take.ensures.frame.tally)
       (c.write_copy.ensures.frame.same.4 ∙ c.take.ensures.frame.same.4) t);
   pin = search rules;
+  own_range = c.put_copy.ensures.frame.own_range ∙ ap (λ (u : TreeView). u.ranges.own) (c.write_copy.ensures.frame.same.4 ∙ c.take.ensures.frame.same.4);
   none = c.put_copy.ensures.frame.none;
 }
 
 pub returns-in-Ok-clause-marked : goal.returns-in-Ok-clause-marked
-returns-in-Ok-clause-marked c = let w = c.write_copy.ensures.written (first_note c.args.pass.now.seat.me.0.upper.notes) (subst (λ (u : TreeView). IsBaseShown c.args.space.now.table.shared.key u c.args.next.base
-    (first_note c.args.pass.now.seat.me.0.upper.notes)) (sym c.take.ensures.frame.same.4)
-    record { noted = c.requires.shown.noted; here = c.requires.shown.here; is_base = c.requires.shown.is_base }) in
+returns-in-Ok-clause-marked c = let w = c.write_copy.ensures.written (first_note c.args.pass.now.seat.me.0.upper.notes)
+    (shown_still c.args.space.now.table.shared.key c.args.pass.now.seat.me c.take.new.pass.seat.me c.args.next.base c.take.ensures.frame.same.4
+    c.requires.shown) in
     let each = (c.in_ok-row.ensures.taken [] (omega arith) c.requires.ready.none).1.0.each c.in_ok-row.row (0, refl) in
     marked_now c.args.space.now.table.shared.key c.args.pass.now.seat.me c.write_copy.new.pass.seat.me
     c.in_ok-row.row c.args.next.base w.0 c.args.mark.now (c.write_copy.ensures.frame.same.4 ∙ c.take.ensures.frame.same.4) w.2.here w.1
@@ -91,9 +93,9 @@ returns-in-Ok-clause-marked c = let w = c.write_copy.ensures.written (first_note
 
 pub returns-in-Ok-clause-counted : goal.returns-in-Ok-clause-counted
 returns-in-Ok-clause-counted c = let m = c.args.pass.now.seat.me in let n = c.take.new.pass.seat.me in let l = c.write_copy.new.pass.seat.me in
-    let w = c.write_copy.ensures.written (first_note c.args.pass.now.seat.me.0.upper.notes) (subst (λ (u : TreeView). IsBaseShown c.args.space.now.table.shared.key u c.args.next.base
-    (first_note c.args.pass.now.seat.me.0.upper.notes)) (sym c.take.ensures.frame.same.4)
-    record { noted = c.requires.shown.noted; here = c.requires.shown.here; is_base = c.requires.shown.is_base }) in
+    let w = c.write_copy.ensures.written (first_note c.args.pass.now.seat.me.0.upper.notes)
+    (shown_still c.args.space.now.table.shared.key c.args.pass.now.seat.me c.take.new.pass.seat.me c.args.next.base c.take.ensures.frame.same.4
+    c.requires.shown) in
     on_both c.args.spent.now c.take.new.spent c.put_copy.new.spent m n c.put_copy.new.pass.seat.me
     (on_lost c.args.spent.now c.take.new.spent m n (ap (λ (u : TreeView). u.turns) c.take.ensures.frame.same.4) c.take.ensures.counted)
     (on_both c.take.new.spent c.take.new.spent c.put_copy.new.spent n l c.put_copy.new.pass.seat.me
@@ -101,9 +103,9 @@ returns-in-Ok-clause-counted c = let m = c.args.pass.now.seat.me in let n = c.ta
 
 pub returns-in-Err-clause-counted : goal.returns-in-Err-clause-counted
 returns-in-Err-clause-counted c = let m = c.args.pass.now.seat.me in let n = c.take.new.pass.seat.me in let l = c.write_copy.new.pass.seat.me in
-    let w = c.write_copy.ensures.written (first_note c.args.pass.now.seat.me.0.upper.notes) (subst (λ (u : TreeView). IsBaseShown c.args.space.now.table.shared.key u c.args.next.base
-    (first_note c.args.pass.now.seat.me.0.upper.notes)) (sym c.take.ensures.frame.same.4)
-    record { noted = c.requires.shown.noted; here = c.requires.shown.here; is_base = c.requires.shown.is_base }) in
+    let w = c.write_copy.ensures.written (first_note c.args.pass.now.seat.me.0.upper.notes)
+    (shown_still c.args.space.now.table.shared.key c.args.pass.now.seat.me c.take.new.pass.seat.me c.args.next.base c.take.ensures.frame.same.4
+    c.requires.shown) in
     on_both c.args.spent.now c.take.new.spent c.put_copy.new.spent m n c.put_copy.new.pass.seat.me
     (on_lost c.args.spent.now c.take.new.spent m n (ap (λ (u : TreeView). u.turns) c.take.ensures.frame.same.4) c.take.ensures.counted)
     (on_both c.take.new.spent c.take.new.spent c.put_copy.new.spent n l c.put_copy.new.pass.seat.me
@@ -111,18 +113,20 @@ returns-in-Err-clause-counted c = let m = c.args.pass.now.seat.me in let n = c.t
 
 pub returns-in-Ok-clause-found : goal.returns-in-Ok-clause-found
 returns-in-Ok-clause-found c = let m = c.args.pass.now.seat.me in let n = c.take.new.pass.seat.me in let l = c.write_copy.new.pass.seat.me in
-    let w = c.write_copy.ensures.written (first_note c.args.pass.now.seat.me.0.upper.notes) (subst (λ (u : TreeView). IsBaseShown c.args.space.now.table.shared.key u c.args.next.base
-    (first_note c.args.pass.now.seat.me.0.upper.notes)) (sym c.take.ensures.frame.same.4)
-    record { noted = c.requires.shown.noted; here = c.requires.shown.here; is_base = c.requires.shown.is_base }) in
+    let w = c.write_copy.ensures.written (first_note c.args.pass.now.seat.me.0.upper.notes)
+    (shown_still c.args.space.now.table.shared.key c.args.pass.now.seat.me c.take.new.pass.seat.me c.args.next.base c.take.ensures.frame.same.4
+    c.requires.shown) in
     let had = c.in_ok-row.ensures.found in
-    subst (λ (r : Result (Unit {0}) Stop). HasFound r m c.put_copy.new.pass.seat.me) c.in-Ok.is (ended_after c.put_copy.result m l c.put_copy.new.pass.seat.me (met_both 0 0 0 0 m n l had.0 (written_met c.in_ok-row.row w.0 n l w.2))
+    subst (λ (r : Result (Unit {0}) Stop). HasFound r m c.put_copy.new.pass.seat.me) c.in-Ok.is
+    (ended_after c.put_copy.result m l c.put_copy.new.pass.seat.me (met_both 0 0 0 0 m n l had.0 (written_met c.in_ok-row.row w.0 n l w.2))
     (ap losses w.2.only ∙ had.1) c.put_copy.ensures.found)
 
 pub returns-in-Err-clause-found : goal.returns-in-Err-clause-found
 returns-in-Err-clause-found c = let m = c.args.pass.now.seat.me in let n = c.take.new.pass.seat.me in let l = c.write_copy.new.pass.seat.me in
-    let w = c.write_copy.ensures.written (first_note c.args.pass.now.seat.me.0.upper.notes) (subst (λ (u : TreeView). IsBaseShown c.args.space.now.table.shared.key u c.args.next.base
-    (first_note c.args.pass.now.seat.me.0.upper.notes)) (sym c.take.ensures.frame.same.4)
-    record { noted = c.requires.shown.noted; here = c.requires.shown.here; is_base = c.requires.shown.is_base }) in
+    let w = c.write_copy.ensures.written (first_note c.args.pass.now.seat.me.0.upper.notes)
+    (shown_still c.args.space.now.table.shared.key c.args.pass.now.seat.me c.take.new.pass.seat.me c.args.next.base c.take.ensures.frame.same.4
+    c.requires.shown) in
     let had = c.in_ok-row.ensures.found in
-    subst (λ (r : Result (Unit {0}) Stop). HasFound r m c.put_copy.new.pass.seat.me) c.in-Err.is (ended_after c.put_copy.result m l c.put_copy.new.pass.seat.me (met_both 0 0 0 0 m n l had.0 (written_met c.in_ok-row.row w.0 n l w.2))
+    subst (λ (r : Result (Unit {0}) Stop). HasFound r m c.put_copy.new.pass.seat.me) c.in-Err.is
+    (ended_after c.put_copy.result m l c.put_copy.new.pass.seat.me (met_both 0 0 0 0 m n l had.0 (written_met c.in_ok-row.row w.0 n l w.2))
     (ap losses w.2.only ∙ had.1) c.put_copy.ensures.found)

@@ -15,6 +15,7 @@ returns-then-not-mark_next-clause-frame g c = record {
       tallied_still c.args.pass.now.tally c.give_back.new.pass.tally c.args.pass.now.seat.me.0.upper c.give_back.new.pass.seat.me.0.upper
       (c.give_back.ensures.frame.tally ∙ c.mark_next.ensures.frame.tally) (ap (λ (y : TreeView). y.splits) now) (ap (λ (y : TreeView). y.joins) now);
   pin = search rules;
+  own_range = ap (λ (u : TreeView). u.ranges.own) (c.give_back.ensures.frame.same.4 ∙ ap (λ (m : MyTree). m.0.upper) c.if-not-mark_next.ensures.done);
   none = c.give_back.ensures.given [] (in_nothing c.args.row [] refl) (held_still c.args.space.now.table.shared.key.rows c.args.pass.now.kept
       c.mark_next.new.pass.kept c.args.pass.now.seat.me c.mark_next.new.pass.seat.me (c.args.row ∷ []) c.if-not-mark_next.ensures.done
       c.mark_next.ensures.frame.kept c.requires.held);
@@ -38,6 +39,7 @@ returns-clause-frame g c = record {
       (c.retire_unlinked.ensures.frame.tally ∙ c.mark_next.ensures.frame.tally) (ap (λ (y : TreeView). y.splits) now)
       (ap (λ (y : TreeView). y.joins) now);
   pin = search rules;
+  own_range = ap (λ (u : TreeView). u.ranges.own) (c.retire_unlinked.ensures.frame.same.4 ∙ ap (λ (m : MyTree). m.0.upper) c.if-not-mark_next.ensures.done.now);
   none = let rows = c.args.space.now.table.shared.key.rows in
       none_left rows c.retire_unlinked.new.pass.kept.rows c.retire_unlinked.new.pass.seat.me.0
       (c.retire_unlinked.ensures.retired [] (in_nothing c.args.next.base [] refl)

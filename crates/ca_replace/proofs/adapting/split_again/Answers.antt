@@ -57,6 +57,7 @@ returns-then-cursor-placed-clause-frame c = record {
       c.walk-cursor.new.pass.tally c.walk-cursor.ensures.walked
       c.walk-cursor.ensures.frame.tally h;
   pin = search rules;
+  own_range = search rules;
   none = held_upper c.args.tree.now.space.table.shared.key.rows c.args.pass.now.kept
       c.walk-cursor.new.pass.kept
       c.args.pass.now.seat.me c.walk-cursor.new.pass.seat.me _ [] c.requires.ready.none
@@ -160,6 +161,7 @@ returns-then-was_split-clause-frame c = record {
       c.walk-cursor.new.pass.tally c.walk-cursor.ensures.walked
       c.walk-cursor.ensures.frame.tally h);
   pin = search rules;
+  own_range = search rules;
   none = search rules;
 }
 
@@ -175,6 +177,7 @@ returns-else-was_split-clause-frame c = record {
       c.walk-cursor.new.pass.tally c.walk-cursor.ensures.walked
       c.walk-cursor.ensures.frame.tally h);
   pin = search rules;
+  own_range = search rules;
   none = search rules;
 }
 

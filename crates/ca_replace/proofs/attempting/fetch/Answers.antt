@@ -57,6 +57,7 @@ returns-in-Ok-clause-looked c = record {
       (λ (m : MyTree). m.0.upper) c.copy_at.ensures.frame.still)
       (c.find-place.ensures.looked.tally h);
   kept = search rules;
+  own_range = search rules;
   still = search rules;
   quiet = search rules;
   looking = search rules;

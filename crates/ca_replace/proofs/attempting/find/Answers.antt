@@ -32,6 +32,8 @@ returns c = record {
         c.walk_again-cursor.new.pass.tally c.walk_again-cursor.ensures.walked c.walk_again-cursor.ensures.frame.tally
         h);
     kept = search rules;
+    own_range = ap (λ (m : MyTree). m.0.upper.ranges.own) c.search-place.ensures.frame.still
+        ∙ ap (λ (m : MyTree). m.0.upper.ranges.own) c.walk_again-cursor.ensures.walked.now;
     still = search rules;
     quiet = search rules;
     looking = let z = c.args.space.now.table.shared.key in

@@ -2,7 +2,7 @@ use Rattle.ca_replace.specs.declared.attempting.Halt.{Halt}
 use Rattle.ca_replace.proofs.Tuning.{tuned_on}
 use Rattle.ca_replace.proofs.FullBases.{room_found, room_paid, room_waits}
 use Rattle.ca_replace.proofs.GoingOn.{split_further}
-use Rattle.std.proofs.Common.{◌≡◌, true, Err, Option, Some, refl, sym, ap, ◌∙◌, subst, arith}
+use Rattle.std.proofs.Common.{◌≡◌, true, false, Err, Option, Some, refl, sym, ap, ◌∙◌, subst, arith}
 use Rattle.ca_node.specs.declared.cursor.Cursor.{Cursor}
 use Rattle.ca_replace.specs.Attempting.{BeginsAt}
 use Rattle.ca_replace.proofs.Again.{again_after, deep_stays, split_alike, split_stays}
@@ -67,13 +67,15 @@ returns-clause-stays c key looking = let z = c.args.tree.now.space.table.shared.
       spent = c.split_at-split.new.spent;
       again = Some c.args.cursor;
     } in
-    subst (λ (again : Option Cursor). (v.since ≡ u.since) × BeginsAt z key v again × (v.ranges.unfinished ≡ u.ranges.unfinished))
+    let h = split_stays z key c.args.cursor c.args.many _ r u v looking c.split_at-split.ensures.split in
+    subst (λ (again : Option Cursor). (v.since ≡ u.since) × BeginsAt z key v again × (false ≡ false → v.ranges.unfinished ≡ u.ranges.unfinished))
     (sym (ap (λ (x : Course). x.again) c.note_split.ensures ∙ again_after r course))
-    (split_stays z key c.args.cursor c.args.many _ r u v looking c.split_at-split.ensures.split)
+    (h.0, h.1, λ _. h.2)
 
 pub returns-then-cursor-tree-clause-stays : goal.returns-then-cursor-tree-clause-stays
-returns-then-cursor-tree-clause-stays c key looking = deep_stays c.args.tree.now.space.table.shared.key
-    key c.args.cursor c.args.pass.now.seat.me.0.upper looking
+returns-then-cursor-tree-clause-stays c key looking = let h = deep_stays c.args.tree.now.space.table.shared.key
+    key c.args.cursor c.args.pass.now.seat.me.0.upper looking in
+    (h.0, h.1, λ _. h.2)
 
 pub returns-clause-same_seen : goal.returns-clause-same_seen
 returns-clause-same_seen c = split_alike c.args.many _ c.split_at-split.result

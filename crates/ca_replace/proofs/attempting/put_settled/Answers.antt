@@ -85,19 +85,6 @@ settle-requires-clause-placed c won = is_new _ c.args.tree.now.space.table.share
     c.requires.looking.about) c.put_at-tried.ensures.renewed
     c.put_at-tried.ensures.placed won
 
-pub returns-clause-tried : goal.returns-clause-tried
-returns-clause-tried c = settled_tried c.args.tree.now.space.table.shared.key
-    (λ (u : TreeView).
-    put_event c.args.insertion.now.why (key_in c.args.insertion.now.keyed)
-    (object_at c.args.insertion.now.place (first_note u.notes).objects)
-    c.args.insertion.now.keyed.object.now)
-    c.put_at-tried.result c.settle.result c.args.pass.now.seat.me.0.upper
-    c.next_statistic-statistic.new.pass.seat.me.0.upper
-    c.put_at-tried.new.pass.seat.me.0.upper c.settle.new.pass.seat.me.0.upper
-    (ap (λ (m : MyTree). m.0.upper) (c.next_statistic-statistic.ensures.frame.still
-    ∙ c.count-many.ensures.frame.still)) c.settle.ensures.come
-    c.requires.looking.known c.put_at-tried.ensures.put c.settle.ensures.further
-
 -- The exchange and what followed it.
 abbrev settling : (c : goal.After-settle)
     → IsSettling c.args.tree.now.space.table.shared.key c.args.tree.now.tuning c.put_at-tried.result
@@ -141,15 +128,6 @@ returns-then-not-has_room-clause-full c =
     (tuned_on c.args.tree.now).leaf room)))
     (c.count-many.ensures.count (first_note c.args.pass.now.seat.me.0.upper.notes)
     c.requires.looking.readable)
-
-pub returns-then-not-has_room-clause-frame : goal.returns-then-not-has_room-clause-frame
-returns-then-not-has_room-clause-frame c =
-    stays_read c.count-many.ensures.frame c.make_room.ensures.frame
-
-pub returns-clause-frame : goal.returns-clause-frame
-returns-clause-frame c = stays_read (reads_both c.count-many.ensures.frame
-    c.next_statistic-statistic.ensures.frame)
-    (stays_both c.put_at-tried.ensures.frame c.settle.ensures.frame)
 
 on_ok : (r : Result ℕ ℕ) {P : Type 0} → P → OnOk r P
 on_ok (Ok at) p = p
@@ -229,13 +207,6 @@ make_room-requires-clause-many c = (
       (λ room. no_room c.has_room.result c.if-not-has_room.true (c.has_room.ensures.1 room)),
 )
 
-pub returns-then-not-has_room-clause-tried : goal.returns-then-not-has_room-clause-tried
-returns-then-not-has_room-clause-tried c = subst
-    (λ (m : MyTree). IsFurther m.0.upper c.make_room.new.pass.seat.me.0.upper × IsKnown
-    c.args.tree.now.space.table.shared.key c.make_room.new.pass.seat.me.0.upper)
-    c.count-many.ensures.frame.still
-    c.make_room.ensures.further
-
 pub returns-then-not-has_room-clause-deep : goal.returns-then-not-has_room-clause-deep
 returns-then-not-has_room-clause-deep c =
     no_place _ c.args.insertion.now.place c.count-many.result c.args.tree.now.tuning.leaf
@@ -265,86 +236,106 @@ put_at-tried-requires-clause-target c = let z = c.args.tree.now.space.table.shar
           (c.count-many.ensures.count (first_note u.notes) c.requires.looking.readable);
     }
 
-pub returns-clause-turn : goal.returns-clause-turn
-returns-clause-turn c = record {
-  met_as = settled_met (IsCauseMet c.settle.new.course.adapting.last.adapted
-      (met_of c.settle.new.pass.seat.me) c.settle.new.pass.seat.me.0.upper)
-      c.put_at-tried.result c.settle.result c.settle.ensures.come c.settle.ensures.met;
-  gone_on = let note = first_note c.args.pass.now.seat.me.0.upper.notes in
-      let k : ℤ = c.next_statistic-statistic.result in
-      settled_on (settling c)
-      (subst (λ (x : ℤ).
-      IsMoved c.args.tree.now.tuning (get_or note.its 1 0) c.args.course.now.adapting.lost x)
-      (sym (to_z-of_z w32 k (let small = c.next_statistic-statistic.type_inv in
-      omega (arith, ints)))) (c.next_statistic-statistic.ensures.moved note
-      (subst (λ (m : MyTree).
-      IsReadable c.args.tree.now.space.table.shared.key m.0.upper c.args.cursor.base note)
-      (sym c.count-many.ensures.frame.still)
-      c.requires.looking.readable)))
-      c.word_of.ensures;
-  counted = settled_paid c.args.course.now.spent c.put_at-tried.new.spent c.settle.new.course.spent
-      c.args.pass.now.seat.me
-      c.next_statistic-statistic.new.pass.seat.me c.put_at-tried.new.pass.seat.me
-      c.settle.new.pass.seat.me
-      (c.next_statistic-statistic.ensures.frame.still ∙ c.count-many.ensures.frame.still)
-      (tried_turns _ c.args.tree.now.space.table.shared.key _ _ c.word_of.result
-      c.put_at-tried.result
-      c.next_statistic-statistic.new.pass.seat.me.0.upper c.put_at-tried.new.pass.seat.me.0.upper
-      c.put_at-tried.ensures.put c.put_at-tried.ensures.renewed)
-      c.put_at-tried.ensures.counted c.settle.ensures.counted;
-  found = settled_found c.args.tree.now.space.table.shared.key c.args.tree.now.tuning
-      (to_z w32 (of_z w32 c.next_statistic-statistic.result))
-      c.put_at-tried.result
-      c.settle.result c.args.course.now.adapting c.settle.new.course.adapting
-      c.args.pass.now.seat.me c.next_statistic-statistic.new.pass.seat.me
-      c.put_at-tried.new.pass.seat.me c.settle.new.pass.seat.me
-      (c.next_statistic-statistic.ensures.frame.still ∙ c.count-many.ensures.frame.still)
-      c.settle.ensures.come c.put_at-tried.ensures.found c.settle.ensures.settled;
-  grown = settled_grown (settling c) (Some (key_in c.args.insertion.now.keyed))
-      c.requires.looking.listed c.settle.ensures.grows;
-  won = settled_won (settling c) c.requires.looking.listed c.put_at-tried.ensures.won
-      c.settle.ensures.won;
-  cut = settled_cut (settling c) (Some (key_in c.args.insertion.now.keyed)) c.settle.ensures.cut;
-}
-
-pub returns-then-not-has_room-clause-turn : goal.returns-then-not-has_room-clause-turn
-returns-then-not-has_room-clause-turn c = let z = c.args.tree.now.space.table.shared.key in
-    let key = key_in c.args.insertion.now.keyed in let u = c.args.pass.now.seat.me.0.upper in
-    let last = c.make_room.new.pass.seat.me in let still = c.count-many.ensures.frame.still in
-    let full =
-    full_for z u c.args.cursor key c.args.insertion.now.place c.count-many.result
-    c.requires.looking c.requires.place
-    (λ room. no_room c.has_room.result c.if-not-has_room.true
-    (c.has_room.ensures.1 (subst
-    (λ n. IsRoom c.args.insertion.now.place c.count-many.result n)
-    (tuned_on c.args.tree.now).leaf room)))
-    (c.count-many.ensures.count (first_note u.notes) c.requires.looking.readable) in
-    subst (λ (m : MyTree). IsTurn {T = Unit {0}} (λ _. true) (Some key) z c.args.tree.now.tuning
-    c.args.course.now c.make_room.new.course (met_of last) (Err c.make_room.result) m last) still
-    (c.make_room.ensures.turn key
-    (subst (λ (m : MyTree). IsLooking z m.0.upper key c.args.cursor) (sym still)
-    c.requires.looking)
-    (subst (λ (m : MyTree). IsFullFor z (Some key) (first_note m.0.upper.notes)) (sym still)
-    full))
-
-pub returns-clause-stays : goal.returns-clause-stays
-returns-clause-stays c = subst
-    (λ (again : Option Cursor). StaysAt c.args.tree.now.space.table.shared.key
-    (key_in c.args.insertion.now.keyed) c.settle.result c.args.pass.now.seat.me.0.upper
-    c.settle.new.pass.seat.me.0.upper again) (sym c.settle.ensures.again)
-    (settled_stays c.put_at-tried.result (key_in c.args.insertion.now.keyed) c.args.cursor (settling c)
-    c.requires.looking)
-
-pub returns-then-not-has_room-clause-stays : goal.returns-then-not-has_room-clause-stays
-returns-then-not-has_room-clause-stays c = let z = c.args.tree.now.space.table.shared.key in
-    let key = key_in c.args.insertion.now.keyed in let still = c.count-many.ensures.frame.still in
-    subst (λ (m : MyTree). StaysAt {T = Unit {0}} z key (Err c.make_room.result) m.0.upper
-    c.make_room.new.pass.seat.me.0.upper c.make_room.new.course.again) still
-    (c.make_room.ensures.stays key
-    (subst (λ (m : MyTree). IsLooking z m.0.upper key c.args.cursor) (sym still)
-    c.requires.looking))
-
 pub make_room-requires-clause-settled : goal.make_room-requires-clause-settled
 make_room-requires-clause-settled c = subst
     (λ (m : MyTree). IsSettled m.0.upper (first_note m.0.upper.notes).its)
     (sym c.count-many.ensures.frame.still) c.requires.settled
+
+pub returns-clause-edited : goal.returns-clause-edited
+returns-clause-edited c = record {
+  frame = stays_read (reads_both c.count-many.ensures.frame
+      c.next_statistic-statistic.ensures.frame)
+      (stays_both c.put_at-tried.ensures.frame c.settle.ensures.frame);
+  tried = settled_tried c.args.tree.now.space.table.shared.key
+      (λ (u : TreeView).
+      put_event c.args.insertion.now.why (key_in c.args.insertion.now.keyed)
+      (object_at c.args.insertion.now.place (first_note u.notes).objects)
+      c.args.insertion.now.keyed.object.now)
+      c.put_at-tried.result c.settle.result c.args.pass.now.seat.me.0.upper
+      c.next_statistic-statistic.new.pass.seat.me.0.upper
+      c.put_at-tried.new.pass.seat.me.0.upper c.settle.new.pass.seat.me.0.upper
+      (ap (λ (m : MyTree). m.0.upper) (c.next_statistic-statistic.ensures.frame.still
+      ∙ c.count-many.ensures.frame.still)) c.settle.ensures.come
+      c.requires.looking.known c.put_at-tried.ensures.put c.settle.ensures.further;
+  stays = subst
+      (λ (again : Option Cursor). StaysAt c.args.tree.now.space.table.shared.key
+      (key_in c.args.insertion.now.keyed) c.settle.result c.args.pass.now.seat.me.0.upper
+      c.settle.new.pass.seat.me.0.upper again false) (sym c.settle.ensures.again)
+      (settled_stays c.put_at-tried.result (key_in c.args.insertion.now.keyed) c.args.cursor (settling c)
+      c.requires.looking);
+  turn = record {
+    met_as = settled_met (IsCauseMet c.settle.new.course.adapting.last.adapted
+        (met_of c.settle.new.pass.seat.me) c.settle.new.pass.seat.me.0.upper)
+        c.put_at-tried.result c.settle.result c.settle.ensures.come c.settle.ensures.met;
+    gone_on = let note = first_note c.args.pass.now.seat.me.0.upper.notes in
+        let k : ℤ = c.next_statistic-statistic.result in
+        settled_on (settling c)
+        (subst (λ (x : ℤ).
+        IsMoved c.args.tree.now.tuning (get_or note.its 1 0) c.args.course.now.adapting.lost x)
+        (sym (to_z-of_z w32 k (let small = c.next_statistic-statistic.type_inv in
+        omega (arith, ints)))) (c.next_statistic-statistic.ensures.moved note
+        (subst (λ (m : MyTree).
+        IsReadable c.args.tree.now.space.table.shared.key m.0.upper c.args.cursor.base note)
+        (sym c.count-many.ensures.frame.still)
+        c.requires.looking.readable)))
+        c.word_of.ensures;
+    counted = settled_paid c.args.course.now.spent c.put_at-tried.new.spent c.settle.new.course.spent
+        c.args.pass.now.seat.me
+        c.next_statistic-statistic.new.pass.seat.me c.put_at-tried.new.pass.seat.me
+        c.settle.new.pass.seat.me
+        (c.next_statistic-statistic.ensures.frame.still ∙ c.count-many.ensures.frame.still)
+        (tried_turns _ c.args.tree.now.space.table.shared.key _ _ c.word_of.result
+        c.put_at-tried.result
+        c.next_statistic-statistic.new.pass.seat.me.0.upper c.put_at-tried.new.pass.seat.me.0.upper
+        c.put_at-tried.ensures.put c.put_at-tried.ensures.renewed)
+        c.put_at-tried.ensures.counted c.settle.ensures.counted;
+    found = settled_found c.args.tree.now.space.table.shared.key c.args.tree.now.tuning
+        (to_z w32 (of_z w32 c.next_statistic-statistic.result))
+        c.put_at-tried.result
+        c.settle.result c.args.course.now.adapting c.settle.new.course.adapting
+        c.args.pass.now.seat.me c.next_statistic-statistic.new.pass.seat.me
+        c.put_at-tried.new.pass.seat.me c.settle.new.pass.seat.me
+        (c.next_statistic-statistic.ensures.frame.still ∙ c.count-many.ensures.frame.still)
+        c.settle.ensures.come c.put_at-tried.ensures.found c.settle.ensures.settled;
+    grown = settled_grown (settling c) (Some (key_in c.args.insertion.now.keyed))
+        c.requires.looking.listed c.settle.ensures.grows;
+    won = settled_won (settling c) c.requires.looking.listed c.put_at-tried.ensures.won
+        c.settle.ensures.won;
+    cut = settled_cut (settling c) (Some (key_in c.args.insertion.now.keyed)) c.settle.ensures.cut;
+  };
+}
+
+pub returns-then-not-has_room-clause-edited : goal.returns-then-not-has_room-clause-edited
+returns-then-not-has_room-clause-edited c = record {
+  frame = stays_read c.count-many.ensures.frame c.make_room.ensures.frame;
+  tried = subst
+      (λ (m : MyTree). IsFurther m.0.upper c.make_room.new.pass.seat.me.0.upper × IsKnown
+      c.args.tree.now.space.table.shared.key c.make_room.new.pass.seat.me.0.upper)
+      c.count-many.ensures.frame.still
+      c.make_room.ensures.further;
+  stays = let z = c.args.tree.now.space.table.shared.key in
+      let key = key_in c.args.insertion.now.keyed in let still = c.count-many.ensures.frame.still in
+      subst (λ (m : MyTree). StaysAt {T = Unit {0}} z key (Err c.make_room.result) m.0.upper
+      c.make_room.new.pass.seat.me.0.upper c.make_room.new.course.again false) still
+      (c.make_room.ensures.stays key
+      (subst (λ (m : MyTree). IsLooking z m.0.upper key c.args.cursor) (sym still)
+      c.requires.looking));
+  turn = let z = c.args.tree.now.space.table.shared.key in
+      let key = key_in c.args.insertion.now.keyed in let u = c.args.pass.now.seat.me.0.upper in
+      let last = c.make_room.new.pass.seat.me in let still = c.count-many.ensures.frame.still in
+      let full =
+      full_for z u c.args.cursor key c.args.insertion.now.place c.count-many.result
+      c.requires.looking c.requires.place
+      (λ room. no_room c.has_room.result c.if-not-has_room.true
+      (c.has_room.ensures.1 (subst
+      (λ n. IsRoom c.args.insertion.now.place c.count-many.result n)
+      (tuned_on c.args.tree.now).leaf room)))
+      (c.count-many.ensures.count (first_note u.notes) c.requires.looking.readable) in
+      subst (λ (m : MyTree). IsTurn {T = Unit {0}} (λ _. true) (Some key) z c.args.tree.now.tuning
+      c.args.course.now c.make_room.new.course (met_of last) (Err c.make_room.result) m last) still
+      (c.make_room.ensures.turn key
+      (subst (λ (m : MyTree). IsLooking z m.0.upper key c.args.cursor) (sym still)
+      c.requires.looking)
+      (subst (λ (m : MyTree). IsFullFor z (Some key) (first_note m.0.upper.notes)) (sym still)
+      full));
+}

@@ -1,6 +1,6 @@
 use Rattle.ca_node.specs.declared.cursor.Cursor.{Cursor}
 use Rattle.ca_replace.proofs.Again.{settled_stays}
-use Rattle.std.proofs.Common.{◌≡◌, Option, ℤ, get_or, to_z, of_z, w32, length, Ok, None, Some, sym, ap, ◌∙◌, subst, arith, map, rules}
+use Rattle.std.proofs.Common.{◌≡◌, false, Option, ℤ, get_or, to_z, of_z, w32, length, Ok, None, Some, sym, ap, ◌∙◌, subst, arith, map, rules}
 use Rattle.std.proofs.lemmas.Int.{ints, to_z-of_z}
 use Rattle.ca_model.specs.Event.{Remove}
 use Rattle.ca_model.specs.History.{Del}
@@ -61,18 +61,6 @@ settle-requires-clause-placed c won = is_new _ c.args.tree.now.space.table.share
     c.requires.looking.about) c.remove_at-tried.ensures.renewed
     c.remove_at-tried.ensures.placed won
 
-pub returns-clause-tried : goal.returns-clause-tried
-returns-clause-tried c = settled_tried c.args.tree.now.space.table.shared.key
-    (λ (u : TreeView).
-    Remove c.args.removal.now.key.now
-    (Some (object_at (Ok c.args.removal.now.at) (first_note u.notes).objects)))
-    c.remove_at-tried.result c.settle.result c.args.pass.now.seat.me.0.upper
-    c.next_statistic-statistic.new.pass.seat.me.0.upper
-    c.remove_at-tried.new.pass.seat.me.0.upper c.settle.new.pass.seat.me.0.upper
-    (ap (λ (m : MyTree). m.0.upper) (c.next_statistic-statistic.ensures.frame.still
-    ∙ c.count-many.ensures.frame.still)) c.settle.ensures.come
-    c.requires.looking.known c.remove_at-tried.ensures.removed c.settle.ensures.further
-
 -- The exchange and what followed it.
 abbrev settling : (c : goal.After-settle)
     → IsSettling c.args.tree.now.space.table.shared.key c.args.tree.now.tuning
@@ -94,11 +82,6 @@ settling c = record {
   renewed = c.remove_at-tried.ensures.renewed;
   settled = c.settle.ensures.settled;
 }
-
-pub returns-clause-frame : goal.returns-clause-frame
-returns-clause-frame c = stays_read (reads_both c.count-many.ensures.frame
-    c.next_statistic-statistic.ensures.frame)
-    (stays_both c.remove_at-tried.ensures.frame c.settle.ensures.frame)
 
 pub next_statistic-statistic-requires-clause-reading : goal.next_statistic-statistic-requires-clause-reading
 next_statistic-statistic-requires-clause-reading c = record {
@@ -153,51 +136,64 @@ remove_at-tried-requires-clause-target c = let z = c.args.tree.now.space.table.s
           (c.count-many.ensures.count (first_note u.notes) c.requires.looking.readable);
     }
 
-pub returns-clause-turn : goal.returns-clause-turn
-returns-clause-turn c = record {
-  met_as = settled_met (IsCauseMet c.settle.new.course.adapting.last.adapted
-      (met_of c.settle.new.pass.seat.me) c.settle.new.pass.seat.me.0.upper)
-      c.remove_at-tried.result c.settle.result c.settle.ensures.come c.settle.ensures.met;
-  gone_on = let note = first_note c.args.pass.now.seat.me.0.upper.notes in
-      let k : ℤ = c.next_statistic-statistic.result in
-      settled_on (settling c)
-      (subst (λ (x : ℤ).
-      IsMoved c.args.tree.now.tuning (get_or note.its 1 0) c.args.course.now.adapting.lost x)
-      (sym (to_z-of_z w32 k (let small = c.next_statistic-statistic.type_inv in
-      omega (arith, ints)))) (c.next_statistic-statistic.ensures.moved note
-      (subst (λ (m : MyTree).
-      IsReadable c.args.tree.now.space.table.shared.key m.0.upper c.args.cursor.base note)
-      (sym c.count-many.ensures.frame.still)
-      c.requires.looking.readable)))
-      c.word_of.ensures;
-  counted = settled_paid c.args.course.now.spent c.remove_at-tried.new.spent
-      c.settle.new.course.spent c.args.pass.now.seat.me
-      c.next_statistic-statistic.new.pass.seat.me c.remove_at-tried.new.pass.seat.me
-      c.settle.new.pass.seat.me
-      (c.next_statistic-statistic.ensures.frame.still ∙ c.count-many.ensures.frame.still)
-      (tried_turns _ c.args.tree.now.space.table.shared.key _ _ c.word_of.result
-      c.remove_at-tried.result
-      c.next_statistic-statistic.new.pass.seat.me.0.upper c.remove_at-tried.new.pass.seat.me.0.upper
-      c.remove_at-tried.ensures.removed c.remove_at-tried.ensures.renewed)
-      c.remove_at-tried.ensures.counted c.settle.ensures.counted;
-  found = settled_found c.args.tree.now.space.table.shared.key c.args.tree.now.tuning
-      (to_z w32 (of_z w32 c.next_statistic-statistic.result))
-      c.remove_at-tried.result
-      c.settle.result c.args.course.now.adapting c.settle.new.course.adapting
-      c.args.pass.now.seat.me c.next_statistic-statistic.new.pass.seat.me
-      c.remove_at-tried.new.pass.seat.me c.settle.new.pass.seat.me
-      (c.next_statistic-statistic.ensures.frame.still ∙ c.count-many.ensures.frame.still)
-      c.settle.ensures.come c.remove_at-tried.ensures.found c.settle.ensures.settled;
-  grown = settled_grown (settling c) None c.requires.looking.listed c.settle.ensures.grows;
-  won = settled_won (settling c) c.requires.looking.listed c.remove_at-tried.ensures.won
-      c.settle.ensures.won;
-  cut = settled_cut (settling c) None c.settle.ensures.cut;
+pub returns-clause-edited : goal.returns-clause-edited
+returns-clause-edited c = record {
+  frame = stays_read (reads_both c.count-many.ensures.frame
+      c.next_statistic-statistic.ensures.frame)
+      (stays_both c.remove_at-tried.ensures.frame c.settle.ensures.frame);
+  tried = settled_tried c.args.tree.now.space.table.shared.key
+      (λ (u : TreeView).
+      Remove c.args.removal.now.key.now
+      (Some (object_at (Ok c.args.removal.now.at) (first_note u.notes).objects)))
+      c.remove_at-tried.result c.settle.result c.args.pass.now.seat.me.0.upper
+      c.next_statistic-statistic.new.pass.seat.me.0.upper
+      c.remove_at-tried.new.pass.seat.me.0.upper c.settle.new.pass.seat.me.0.upper
+      (ap (λ (m : MyTree). m.0.upper) (c.next_statistic-statistic.ensures.frame.still
+      ∙ c.count-many.ensures.frame.still)) c.settle.ensures.come
+      c.requires.looking.known c.remove_at-tried.ensures.removed c.settle.ensures.further;
+  stays = subst
+      (λ (again : Option Cursor). StaysAt c.args.tree.now.space.table.shared.key
+      c.args.removal.now.key.now c.settle.result c.args.pass.now.seat.me.0.upper
+      c.settle.new.pass.seat.me.0.upper again false) (sym c.settle.ensures.again)
+      (settled_stays c.remove_at-tried.result c.args.removal.now.key.now c.args.cursor (settling c)
+      c.requires.looking);
+  turn = record {
+    met_as = settled_met (IsCauseMet c.settle.new.course.adapting.last.adapted
+        (met_of c.settle.new.pass.seat.me) c.settle.new.pass.seat.me.0.upper)
+        c.remove_at-tried.result c.settle.result c.settle.ensures.come c.settle.ensures.met;
+    gone_on = let note = first_note c.args.pass.now.seat.me.0.upper.notes in
+        let k : ℤ = c.next_statistic-statistic.result in
+        settled_on (settling c)
+        (subst (λ (x : ℤ).
+        IsMoved c.args.tree.now.tuning (get_or note.its 1 0) c.args.course.now.adapting.lost x)
+        (sym (to_z-of_z w32 k (let small = c.next_statistic-statistic.type_inv in
+        omega (arith, ints)))) (c.next_statistic-statistic.ensures.moved note
+        (subst (λ (m : MyTree).
+        IsReadable c.args.tree.now.space.table.shared.key m.0.upper c.args.cursor.base note)
+        (sym c.count-many.ensures.frame.still)
+        c.requires.looking.readable)))
+        c.word_of.ensures;
+    counted = settled_paid c.args.course.now.spent c.remove_at-tried.new.spent
+        c.settle.new.course.spent c.args.pass.now.seat.me
+        c.next_statistic-statistic.new.pass.seat.me c.remove_at-tried.new.pass.seat.me
+        c.settle.new.pass.seat.me
+        (c.next_statistic-statistic.ensures.frame.still ∙ c.count-many.ensures.frame.still)
+        (tried_turns _ c.args.tree.now.space.table.shared.key _ _ c.word_of.result
+        c.remove_at-tried.result
+        c.next_statistic-statistic.new.pass.seat.me.0.upper c.remove_at-tried.new.pass.seat.me.0.upper
+        c.remove_at-tried.ensures.removed c.remove_at-tried.ensures.renewed)
+        c.remove_at-tried.ensures.counted c.settle.ensures.counted;
+    found = settled_found c.args.tree.now.space.table.shared.key c.args.tree.now.tuning
+        (to_z w32 (of_z w32 c.next_statistic-statistic.result))
+        c.remove_at-tried.result
+        c.settle.result c.args.course.now.adapting c.settle.new.course.adapting
+        c.args.pass.now.seat.me c.next_statistic-statistic.new.pass.seat.me
+        c.remove_at-tried.new.pass.seat.me c.settle.new.pass.seat.me
+        (c.next_statistic-statistic.ensures.frame.still ∙ c.count-many.ensures.frame.still)
+        c.settle.ensures.come c.remove_at-tried.ensures.found c.settle.ensures.settled;
+    grown = settled_grown (settling c) None c.requires.looking.listed c.settle.ensures.grows;
+    won = settled_won (settling c) c.requires.looking.listed c.remove_at-tried.ensures.won
+        c.settle.ensures.won;
+    cut = settled_cut (settling c) None c.settle.ensures.cut;
+  };
 }
-
-pub returns-clause-stays : goal.returns-clause-stays
-returns-clause-stays c = subst
-    (λ (again : Option Cursor). StaysAt c.args.tree.now.space.table.shared.key
-    c.args.removal.now.key.now c.settle.result c.args.pass.now.seat.me.0.upper
-    c.settle.new.pass.seat.me.0.upper again) (sym c.settle.ensures.again)
-    (settled_stays c.remove_at-tried.result c.args.removal.now.key.now c.args.cursor (settling c)
-    c.requires.looking)

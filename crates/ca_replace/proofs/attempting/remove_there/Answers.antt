@@ -1,74 +1,82 @@
-use Rattle.std.proofs.Common.{◌≡◌, None, Some, Ok, true, sym, subst}
+use Rattle.std.proofs.Common.{◌≡◌, None, Some, Ok, Err, true, false, sym, refl, subst}
 use Rattle.ca_base.specs.Putting.{first_note}
 use Rattle.ca_base.specs.Putting.{object_at}
 use Rattle.ca_model.specs.Event.{Event, Remove}
-use Rattle.ca_node.specs.Told.{IsSettled}
 use Rattle.ca_node.specs.TreeView.{Note}
 use Rattle.ca_replace.specs.Attempting.{HasTriedTo}
+use Rattle.ca_replace.specs.Turning.{HasEdited}
+use Rattle.ca_replace.specs.declared.adapting.Course.{Course}
+use Rattle.ca_replace.specs.declared.attempting.Halt.{Halt}
 use Rattle.ca_replace.proofs.Again.{stays_behind}
-use Rattle.ca_replace.proofs.Behind.{frame_behind, ready_behind, turn_tried}
+use Rattle.ca_replace.proofs.Behind.{frame_behind, ready_behind, turn_marked, turn_tried}
+use Rattle.ca_replace.proofs.Helping.{edited_by_help}
 use Rattle.ca_replace.proofs.Marking.{marked_look, same_note, still_unmet}
 use Rattle.ca_replace.proofs.Showing.{tried_on}
+use Rattle.ca_replace.proofs.Tuning.{tuned_on}
 use Rattle.ca_replace.proofs.attempting.remove_there.Goals as goal
 
-pub look_at_mark-requires-clause-reading : goal.look_at_mark-requires-clause-reading
-look_at_mark-requires-clause-reading c = record { own = c.requires.ready.own; pinned = c.requires.ready.pinned }
+pub clear-requires-clause-number : goal.clear-requires-clause-number
+clear-requires-clause-number c = c.requires.idle.number
 
-pub look_at_mark-requires-clause-shown : goal.look_at_mark-requires-clause-shown
-look_at_mark-requires-clause-shown c = let l = c.requires.looking.readable in
-    (first_note c.args.pass.now.seat.me.0.upper.notes, record { noted = l.noted; here = l.here; is_base = l.is_base })
+pub clear-requires-clause-quiet : goal.clear-requires-clause-quiet
+clear-requires-clause-quiet c = c.requires.idle.quiet
 
-pub remove_settled-requires-clause-ready : goal.remove_settled-requires-clause-ready
-remove_settled-requires-clause-ready c = ready_behind
-    (marked_look c.look_at_mark.ensures.frame c.look_at_mark.ensures.learnt c.args.tree.now.space c.args.removal.now.key.now c.args.cursor
+pub clear-requires-clause-none_met : goal.clear-requires-clause-none_met
+clear-requires-clause-none_met c = c.requires.idle.none_met refl
+
+pub clear-requires-clause-tuned : goal.clear-requires-clause-tuned
+clear-requires-clause-tuned c = tuned_on c.args.tree.now
+
+pub clear-requires-clause-at : goal.clear-requires-clause-at
+clear-requires-clause-at c = let l = c.requires.looking in record {
+  shown = record { noted = l.readable.noted; here = l.readable.here; is_base = l.readable.is_base };
+  at = l.at;
+  high = l.begins.placed.high;
+}
+
+pub remove_settled-done-requires-clause-ready : goal.remove_settled-done-requires-clause-ready
+remove_settled-done-requires-clause-ready c = ready_behind
+    (marked_look c.in-Free.ensures.cleared.0 c.in-Free.ensures.cleared.2 c.args.tree.now.space c.args.removal.now.key.now c.args.cursor
     (Ok c.args.removal.now.at) c.requires.looking c.requires.place c.requires.unanswered)
     c.requires.ready c.requires.looking.known
 
-pub remove_settled-requires-clause-looking : goal.remove_settled-requires-clause-looking
-remove_settled-requires-clause-looking c =
-    (marked_look c.look_at_mark.ensures.frame c.look_at_mark.ensures.learnt c.args.tree.now.space c.args.removal.now.key.now c.args.cursor
+pub remove_settled-done-requires-clause-looking : goal.remove_settled-done-requires-clause-looking
+remove_settled-done-requires-clause-looking c =
+    (marked_look c.in-Free.ensures.cleared.0 c.in-Free.ensures.cleared.2 c.args.tree.now.space c.args.removal.now.key.now c.args.cursor
     (Ok c.args.removal.now.at) c.requires.looking c.requires.place c.requires.unanswered).looking
 
-pub remove_settled-requires-clause-settled : goal.remove_settled-requires-clause-settled
-remove_settled-requires-clause-settled c = let l = c.requires.looking.readable in
-    let note = first_note c.args.pass.now.seat.me.0.upper.notes in
-    subst (λ (n : Note). IsSettled c.look_at_mark.new.pass.seat.me.0.upper n.its)
-    (sym (same_note c.look_at_mark.ensures.frame c.look_at_mark.ensures.learnt))
-    (c.look_at_mark.ensures.settled note record { noted = l.noted; here = l.here; is_base = l.is_base })
+pub remove_settled-done-requires-clause-settled : goal.remove_settled-done-requires-clause-settled
+remove_settled-done-requires-clause-settled c = c.in-Free.ensures.cleared.1
 
-pub remove_settled-requires-clause-place : goal.remove_settled-requires-clause-place
-remove_settled-requires-clause-place c =
-    (marked_look c.look_at_mark.ensures.frame c.look_at_mark.ensures.learnt c.args.tree.now.space c.args.removal.now.key.now c.args.cursor
+pub remove_settled-done-requires-clause-place : goal.remove_settled-done-requires-clause-place
+remove_settled-done-requires-clause-place c =
+    (marked_look c.in-Free.ensures.cleared.0 c.in-Free.ensures.cleared.2 c.args.tree.now.space c.args.removal.now.key.now c.args.cursor
     (Ok c.args.removal.now.at) c.requires.looking c.requires.place c.requires.unanswered).place
 
-pub returns-clause-frame : goal.returns-clause-frame
-returns-clause-frame c = frame_behind
-    (marked_look c.look_at_mark.ensures.frame c.look_at_mark.ensures.learnt c.args.tree.now.space c.args.removal.now.key.now c.args.cursor
-    (Ok c.args.removal.now.at) c.requires.looking c.requires.place c.requires.unanswered)
-    c.requires.ready c.requires.looking.known c.remove_settled.new.pass c.remove_settled.ensures.frame
-
-pub returns-clause-tried : goal.returns-clause-tried
-returns-clause-tried c = let tells = λ (note : Note) (_ : Unit {0}) (e : Event). e ≡ Remove c.args.removal.now.key.now (Some (object_at (Ok c.args.removal.now.at) note.objects)) in
+pub returns-in-Free-clause-edited : goal.returns-in-Free-clause-edited
+returns-in-Free-clause-edited c = let l = c.in-Free.ensures.cleared in let marked = c.in-Free.marked in
+    let look = (marked_look c.in-Free.ensures.cleared.0 c.in-Free.ensures.cleared.2 c.args.tree.now.space c.args.removal.now.key.now c.args.cursor
+    (Ok c.args.removal.now.at) c.requires.looking c.requires.place c.requires.unanswered) in
+    let ready = c.requires.ready in let known = c.requires.looking.known in
     let z = c.args.tree.now.space.table.shared.key in let u = c.args.pass.now.seat.me.0.upper in
-    let w = c.look_at_mark.new.pass.seat.me.0.upper in let v = c.remove_settled.new.pass.seat.me.0.upper in
-    let r = c.remove_settled.result in
-    tried_on (tells (first_note u.notes)) z r u w v
-    (marked_look c.look_at_mark.ensures.frame c.look_at_mark.ensures.learnt c.args.tree.now.space c.args.removal.now.key.now c.args.cursor
-    (Ok c.args.removal.now.at) c.requires.looking c.requires.place c.requires.unanswered).further
-    (subst (λ (n : Note). HasTriedTo (tells n) z r w v) (same_note c.look_at_mark.ensures.frame c.look_at_mark.ensures.learnt)
-    c.remove_settled.ensures.tried)
+    let w = c.clear.new.pass.seat.me.0.upper in let new = c.remove_settled-done.new.pass in let r = c.remove_settled-done.result in
+    let b : Course = record c.remove_settled-done.new.course { marked = marked } in let did = c.remove_settled-done.ensures.edited in
+    let tells = λ (note : Note) (_ : Unit {0}) (e : Event). e ≡ Remove c.args.removal.now.key.now (Some (object_at (Ok c.args.removal.now.at) note.objects)) in record {
+      frame = frame_behind look ready known new did.frame;
+      tried = tried_on (tells (first_note u.notes)) z r u w new.seat.me.0.upper look.further
+          (subst (λ (n : Note). HasTriedTo (tells n) z r w new.seat.me.0.upper) (same_note l.0 l.2) did.tried);
+      stays = stays_behind z c.args.removal.now.key.now r u w new.seat.me.0.upper c.remove_settled-done.new.course.again false marked look.since
+          (λ _. refl) (λ e. still_unmet l.0 l.2 (c.requires.idle.none_met refl) e) did.stays;
+      turn = turn_tried look ready known new (λ (_ : Unit {0}). true) None None c.args.tree.now.tuning
+          c.args.course.now b _ r (turn_marked (λ (_ : Unit {0}). true) None z c.args.tree.now.tuning c.args.course.now
+          c.remove_settled-done.new.course _ r c.clear.new.pass.seat.me new.seat.me marked did.turn);
+    }
 
-pub returns-clause-stays : goal.returns-clause-stays
-returns-clause-stays c = stays_behind c.args.tree.now.space.table.shared.key c.args.removal.now.key.now c.remove_settled.result
-    c.args.pass.now.seat.me.0.upper c.look_at_mark.new.pass.seat.me.0.upper c.remove_settled.new.pass.seat.me.0.upper
-    c.remove_settled.new.course.again
-    (marked_look c.look_at_mark.ensures.frame c.look_at_mark.ensures.learnt c.args.tree.now.space c.args.removal.now.key.now c.args.cursor
-    (Ok c.args.removal.now.at) c.requires.looking c.requires.place c.requires.unanswered).since
-    (still_unmet c.look_at_mark.ensures.frame c.look_at_mark.ensures.learnt c.requires.none_met) c.remove_settled.ensures.stays
-
-pub returns-clause-turn : goal.returns-clause-turn
-returns-clause-turn c = turn_tried
-    (marked_look c.look_at_mark.ensures.frame c.look_at_mark.ensures.learnt c.args.tree.now.space c.args.removal.now.key.now c.args.cursor
-    (Ok c.args.removal.now.at) c.requires.looking c.requires.place c.requires.unanswered)
-    c.requires.ready c.requires.looking.known c.remove_settled.new.pass (λ (_ : Unit {0}). true) None None
-    c.args.tree.now.tuning c.args.course.now c.remove_settled.new.course _ c.remove_settled.result c.remove_settled.ensures.turn
+pub returns-in-Helped-clause-edited : goal.returns-in-Helped-clause-edited
+returns-in-Helped-clause-edited c = let z = c.args.tree.now.space.table.shared.key in
+    let tells = λ (note : Note) (_ : Unit {0}) (e : Event). e ≡ Remove c.args.removal.now.key.now (Some (object_at (Ok c.args.removal.now.at) note.objects)) in
+    subst (λ (x : Halt × Course). HasEdited c.args.tree.now.space c.args.tree.now.tuning (tells (first_note c.args.pass.now.seat.me.0.upper.notes) tt)
+    c.args.removal.now.key.now None x.1.marked c.args.course.now x.1 (Err x.0) c.args.pass.now c.clear.new.pass)
+    (λ i. (sym c.after_help.ensures.halt i, sym c.after_help.ensures.course i))
+    (edited_by_help c.args.tree.now.space c.args.tree.now.tuning (tells (first_note c.args.pass.now.seat.me.0.upper.notes) tt) c.args.removal.now.key.now None
+    c.args.course.now c.in-Helped.helped c.in-Helped.spent c.args.pass.now c.clear.new.pass c.in-Helped.ensures.cleared c.requires.looking.known)

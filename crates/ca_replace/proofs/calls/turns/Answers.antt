@@ -47,22 +47,26 @@ attempt-tried-requires-clause-known g c = c.loop-course.invariant.may.known
 pub attempt-tried-requires-clause-asking : goal.attempt-tried-requires-clause-asking
 attempt-tried-requires-clause-asking g c = c.loop-course.invariant.may.asking
 
+pub attempt-tried-requires-clause-idle : goal.attempt-tried-requires-clause-idle
+attempt-tried-requires-clause-idle g c = c.loop-course.invariant.may.idle
+
 pub attempt-tried-requires-clause-begins : goal.attempt-tried-requires-clause-begins
 attempt-tried-requires-clause-begins g c = c.loop-course.invariant.may.begins
 
 -- Another attempt may begin behind this one.
-pub go_on-requires : goal.go_on-requires
-go_on-requires g c = let z = c.args.tree.now.space.table.shared.key in
+pub go_on-requires-clause-marked : goal.go_on-requires-clause-marked
+go_on-requires-clause-marked g c = c.begins_anew-anew.ensures
+
+pub go_on-requires-clause-may : goal.go_on-requires-clause-may
+go_on-requires-clause-may g c = let z = c.args.tree.now.space.table.shared.key in
     let tells = λ (x : _).
     g.A.Attempt.tells c.args.order.now.what.now x c.attempt-tried.new.left in
-    let next = c.if-not-has_next.ensures.0 refl in record {
-      may = may_follow tells (g.A.Attempt.about c.args.order.now.what.now) c.attempt-tried.result
-          c.loop-course.course.again c.attempt-tried.new.course.again c.loop-course.invariant.may
-          c.attempt-tried.ensures.frame next c.attempt-tried.ensures.tried
-          (turn_further tells z c.attempt-tried.result c.loop-course.pass.seat.me.0.upper
-          c.attempt-tried.new.pass.seat.me.0.upper next c.attempt-tried.ensures.tried)
-          c.attempt-tried.ensures.stays;
-    }
+    let next = c.if-not-has_next.ensures.0 refl in may_follow tells (g.A.Attempt.about c.args.order.now.what.now) c.attempt-tried.result
+    c.loop-course.course.again c.attempt-tried.new.course.again c.attempt-tried.new.course.marked c.loop-course.invariant.may
+    c.attempt-tried.ensures.frame next c.attempt-tried.ensures.tried
+    (turn_further tells z c.attempt-tried.result c.loop-course.pass.seat.me.0.upper
+    c.attempt-tried.new.pass.seat.me.0.upper next c.attempt-tried.ensures.tried)
+    c.attempt-tried.ensures.stays
 
 pub loop-course-preserved : goal.loop-course-preserved
 loop-course-preserved g c = let z = c.args.tree.now.space.table.shared.key in
@@ -88,7 +92,7 @@ loop-course-preserved g c = let z = c.args.tree.now.space.table.shared.key in
       may = c.go_on.ensures.may;
       since = further_on k.0.upper (at_pin n.0.upper) (at_pin p.0.upper)
           (next_since z (g.A.Attempt.about c.args.order.now.what.now) tells
-          c.attempt-tried.result k.0.upper m.0.upper n.0.upper c.attempt-tried.new.course.again
+          c.attempt-tried.result k.0.upper m.0.upper n.0.upper c.attempt-tried.new.course.again c.attempt-tried.new.course.marked
           next before.since did.tried did.stays) on.since;
       pinned = on.pinned k (pinned_as k m n before.pinned did.frame.pin.1);
       unspent = let room = c.if-spent_in_all-budget.false in let all = c.spent_in_all.ensures in
@@ -126,7 +130,8 @@ returns-then-not-has_next-clause-frame g c = let space = c.args.tree.now.space.t
           (two.frame.same.0 ∙ before.same.0) two.frame.pin two.frame.none
           (known_since tells space.key c.attempt-tried.result c.loop-course.pass.seat.me.0.upper
           c.attempt-tried.new.pass.seat.me.0.upper two.tried) c.unpin.ensures.frame.same.0
-          c.unpin.ensures.unpinned (λ _. two.frame.tally before.may.tallied));
+          c.unpin.ensures.unpinned (λ _. two.frame.tally before.may.tallied)
+          (two.frame.own_range ∙ before.may.idle.quiet));
     }
 
 pub returns-then-not-has_next-clause-tried : goal.returns-then-not-has_next-clause-tried
@@ -166,7 +171,7 @@ returns-then-not-has_next-clause-found g c = let i = turn_unpinned (λ (x : _). 
     met_then c.attempt-tried.result c.args.pass.now.seat.me
     c.loop-course.pass.seat.me c.unpin.new.pass.seat.me c.loop-course.invariant.waiting.met
     c.loop-course.invariant.waiting.counted.more
-    c.loop-course.invariant.waiting.counted.more_passed i.found
+    c.loop-course.invariant.waiting.counted.more_passed c.loop-course.invariant.waiting.counted.more_helped i.found
 
 pub returns-then-not-has_next-clause-pinned : goal.returns-then-not-has_next-clause-pinned
 returns-then-not-has_next-clause-pinned g c = let is = c.unpin.ensures.unpinned in

@@ -1,4 +1,4 @@
-use Rattle.std.proofs.Common.{◌≡◌, ◌-◌, ◌<◌}
+use Rattle.std.proofs.Common.{◌≡◌, ◌-◌, ◌<◌, false}
 use Rattle.ca_base.specs.Progress.{IsFurther}
 use Rattle.ca_replace.specs.Attempting.{at_pin, total}
 use Rattle.ca_replace.specs.Between.{MayBegin}
@@ -14,7 +14,7 @@ invariant-loop-course g l = record {
   sizes : l.pass.seat.me.0.sizes ≡ l.fn.pass.seat.me.0.sizes;
   pin_number : l.pass.seat.me.0.pin.number ≡ l.fn.pass.seat.me.0.pin.number;
   -- Another attempt may begin, and the pass has pinned since the call began.
-  may : MayBegin l.tree.space (g.A.Attempt.about l.order.what.now) l.course.again l.pass;
+  may : MayBegin l.tree.space (g.A.Attempt.about l.order.what.now) l.course.again false l.pass;
   since : IsFurther l.fn.pass.seat.me.0.upper (at_pin l.pass.seat.me.0.upper);
   pinned : HasPinned l.fn.pass.seat.me l.pass.seat.me;
   unspent : total l.course.spent < l.order.budget;

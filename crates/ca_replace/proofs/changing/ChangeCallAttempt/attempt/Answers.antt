@@ -21,7 +21,7 @@ use Rattle.ca_replace.proofs.Showing.{did, read_done}
 use Rattle.ca_replace.proofs.Meeting.{further_on}
 use Rattle.ca_replace.specs.Adapting.{is_put}
 use Rattle.ca_replace.proofs.Entries.{read_by}
-use Rattle.ca_replace.proofs.Behind.{frame_behind, frame_entered, ready_behind, turn_edited, turn_entered, turn_halted}
+use Rattle.ca_replace.proofs.Behind.{frame_behind, frame_entered, ready_behind, turn_edited, turn_entered, turn_halted, idle_behind}
 use Rattle.ca_replace.proofs.changing.ChangeCallAttempt.attempt.Goals as goal
 
 pub fetch-place-requires-clause-unanswered : goal.fetch-place-requires-clause-unanswered
@@ -179,7 +179,7 @@ returns-in-Ok-put_there-clause-tried g c = let key : List ℕ = c.args.self.now.
     )
     (further_since c.args.pass.now.seat.me.0.upper
     c.fetch-place.new.pass.seat.me.0.upper c.requires.asking c.fetch-place.ensures.looked.further)
-    c.in-Ok-put_there.ensures.tried
+    c.in-Ok-put_there.ensures.edited.tried
 
 pub returns-in_default-clause-frame : goal.returns-in_default-clause-frame
 returns-in_default-clause-frame g c =
@@ -191,18 +191,18 @@ returns-then-not-f-clause-frame g c =
 
 pub returns-in-Ok-put_there-clause-frame : goal.returns-in-Ok-put_there-clause-frame
 returns-in-Ok-put_there-clause-frame g c =
-    frame_behind c.fetch-place.ensures.looked c.requires.ready c.requires.known c.put_there.new.pass c.put_there.ensures.frame
+    frame_behind c.fetch-place.ensures.looked c.requires.ready c.requires.known c.put_there.new.pass c.put_there.ensures.edited.frame
 
 pub returns-in-Err-clause-frame : goal.returns-in-Err-clause-frame
 returns-in-Err-clause-frame g c =
-    frame_behind c.fetch-place.ensures.looked c.requires.ready c.requires.known c.put_there.new.pass c.put_there.ensures.frame
+    frame_behind c.fetch-place.ensures.looked c.requires.ready c.requires.known c.put_there.new.pass c.put_there.ensures.edited.frame
 
 pub returns-in-Err-clause-tried : goal.returns-in-Err-clause-tried
 returns-in-Err-clause-tried g c = (
   further_on c.args.pass.now.seat.me.0.upper c.fetch-place.new.pass.seat.me.0.upper
       c.put_there.new.pass.seat.me.0.upper c.fetch-place.ensures.looked.further
-      c.in-Err.ensures.tried.0,
-  c.in-Err.ensures.tried.1,
+      c.in-Err.ensures.edited.tried.0,
+  c.in-Err.ensures.edited.tried.1,
 )
 
 pub put_there-requires-clause-ready : goal.put_there-requires-clause-ready
@@ -222,12 +222,12 @@ returns-then-not-f-clause-turn g c =
 pub returns-in-Ok-put_there-clause-turn : goal.returns-in-Ok-put_there-clause-turn
 returns-in-Ok-put_there-clause-turn g c =
     turn_edited c.fetch-place.ensures.looked c.requires.ready c.requires.known c.put_there.new.pass is_put (Some _) None
-    c.args.tree.now.tuning c.args.course.now c.put_there.new.course _ changed.Put refl c.in-Ok-put_there.ensures.turn
+    c.args.tree.now.tuning c.args.course.now c.put_there.new.course _ changed.Put refl c.in-Ok-put_there.ensures.edited.turn
 
 pub returns-in-Err-clause-turn : goal.returns-in-Err-clause-turn
 returns-in-Err-clause-turn g c =
     turn_halted c.fetch-place.ensures.looked c.requires.ready c.requires.known c.put_there.new.pass is_put (Some _) None
-    c.args.tree.now.tuning c.args.course.now c.put_there.new.course _ c.in-Err.stop (λ e. absurd (c.in-Err.ensures.no_split (ap Err e))) c.in-Err.ensures.turn
+    c.args.tree.now.tuning c.args.course.now c.put_there.new.course _ c.in-Err.stop (λ e. absurd (c.in-Err.ensures.no_split (ap Err e))) c.in-Err.ensures.edited.turn
 
 pub returns-in-Err-clause-stays : goal.returns-in-Err-clause-stays
 returns-in-Err-clause-stays g c = let key : List ℕ = c.args.self.now.key.now in
@@ -239,16 +239,17 @@ returns-in-Err-clause-stays g c = let key : List ℕ = c.args.self.now.key.now i
     let l = left_of g.F.Fn c.args.self.now.f.now z.keypos key old c.f.result _ _ _ _ _
     c.if-not-f.false c.as_slice.ensures.value
     c.clear.ensures c.requires.may found.1 c.f.ensures in (
-      c.in-Err.ensures.stays.0 ∙ c.fetch-place.ensures.looked.since,
+      c.in-Err.ensures.edited.stays.0 ∙ c.fetch-place.ensures.looked.since,
       subst (λ (q : Pair).
           BeginsAt z q.0 c.put_there.new.pass.seat.me.0.upper c.put_there.new.course.again)
           (pair_of_bytes c.as_slice-2.result.now c.f.new.arg3.items key
-          c.f.new.arg4 c.as_slice-2.ensures.value l.key) c.in-Err.ensures.stays.1,
-      c.in-Err.ensures.stays.2 ∙ c.fetch-place.ensures.met,
+          c.f.new.arg4 c.as_slice-2.ensures.value l.key) c.in-Err.ensures.edited.stays.1,
+      λ e. c.in-Err.ensures.edited.stays.2 e ∙ c.fetch-place.ensures.met,
     )
 
 pub put_there-requires-clause-unanswered : goal.put_there-requires-clause-unanswered
 put_there-requires-clause-unanswered g c = c.fetch-place.ensures.looked.unanswered
 
-pub put_there-requires-clause-none_met : goal.put_there-requires-clause-none_met
-put_there-requires-clause-none_met g c = c.fetch-place.ensures.met ∙ c.requires.asking.none_met
+pub put_there-requires-clause-idle : goal.put_there-requires-clause-idle
+put_there-requires-clause-idle g c = idle_behind c.fetch-place.ensures.looked c.requires.ready c.requires.known c.fetch-place.ensures.met
+    c.requires.idle

@@ -1,11 +1,11 @@
 use Rattle.ca_replace.proofs.Again.{since_tried, stays_behind}
 use Rattle.std.specs.Prelude.{slice_range}
 use Rattle.ca_model.specs.Event.{Event, Write}
-use Rattle.std.proofs.Common.{◌≡◌, ◌∙◌, true}
+use Rattle.std.proofs.Common.{◌≡◌, true}
 use Rattle.ca_replace.proofs.Showing.{tried_on}
 use Rattle.std.proofs.Common.{Some}
 use Rattle.ca_base.specs.Targets.{key_in}
-use Rattle.ca_replace.proofs.Behind.{frame_behind, ready_behind, turn_tried}
+use Rattle.ca_replace.proofs.Behind.{frame_behind, ready_behind, turn_tried, idle_behind}
 use Rattle.ca_replace.proofs.puts.PutCallAttempt.attempt.Goals as goal
 
 pub returns-clause-tried : goal.returns-clause-tried
@@ -17,14 +17,14 @@ returns-clause-tried c = let o = c.args.self.now.keyed in
     (tried_on tells c.args.tree.now.space.table.shared.key c.put_there.result
     c.args.pass.now.seat.me.0.upper c.find-place.new.pass.seat.me.0.upper
     c.put_there.new.pass.seat.me.0.upper c.find-place.ensures.looked.further
-    c.put_there.ensures.tried)
+    c.put_there.ensures.edited.tried)
 
 pub find-place-requires-clause-unanswered : goal.find-place-requires-clause-unanswered
 find-place-requires-clause-unanswered c = c.requires.asking.unanswered
 
 pub returns-clause-frame : goal.returns-clause-frame
 returns-clause-frame c =
-    frame_behind c.find-place.ensures.looked c.requires.ready c.requires.known c.put_there.new.pass c.put_there.ensures.frame
+    frame_behind c.find-place.ensures.looked c.requires.ready c.requires.known c.put_there.new.pass c.put_there.ensures.edited.frame
 
 pub returns-clause-deep : goal.returns-clause-deep
 returns-clause-deep c = c.put_there.ensures.full
@@ -37,16 +37,18 @@ pub returns-clause-turn : goal.returns-clause-turn
 returns-clause-turn c =
     turn_tried c.find-place.ensures.looked c.requires.ready c.requires.known c.put_there.new.pass (λ (_ : Unit {0}). true)
     (Some (slice_range c.args.self.now.keyed.object.now c.args.self.now.keyed.key_at c.args.self.now.keyed.key_end)) (Some (slice_range c.args.self.now.keyed.object.now c.args.self.now.keyed.key_at c.args.self.now.keyed.key_end))
-    c.args.tree.now.tuning c.args.course.now c.put_there.new.course _ c.put_there.result c.put_there.ensures.turn
+    c.args.tree.now.tuning c.args.course.now c.put_there.new.course _ c.put_there.result c.put_there.ensures.edited.turn
 
 pub returns-clause-stays : goal.returns-clause-stays
 returns-clause-stays c = stays_behind c.args.tree.now.space.table.shared.key
     (key_in c.args.self.now.keyed) c.put_there.result c.args.pass.now.seat.me.0.upper
     c.find-place.new.pass.seat.me.0.upper c.put_there.new.pass.seat.me.0.upper
-    c.put_there.new.course.again c.find-place.ensures.looked.since c.find-place.ensures.met c.put_there.ensures.stays
+    c.put_there.new.course.again c.put_there.new.course.marked c.put_there.new.course.marked
+    c.find-place.ensures.looked.since (λ e. e) (λ _. c.find-place.ensures.met) c.put_there.ensures.edited.stays
 
 pub put_there-requires-clause-unanswered : goal.put_there-requires-clause-unanswered
 put_there-requires-clause-unanswered c = c.find-place.ensures.looked.unanswered
 
-pub put_there-requires-clause-none_met : goal.put_there-requires-clause-none_met
-put_there-requires-clause-none_met c = c.find-place.ensures.met ∙ c.requires.asking.none_met
+pub put_there-requires-clause-idle : goal.put_there-requires-clause-idle
+put_there-requires-clause-idle c = idle_behind c.find-place.ensures.looked c.requires.ready c.requires.known c.find-place.ensures.met
+    c.requires.idle

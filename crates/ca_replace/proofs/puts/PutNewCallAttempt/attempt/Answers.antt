@@ -8,7 +8,7 @@ use Rattle.ca_model.specs.Event.{Event, WriteNew}
 use Rattle.ca_replace.proofs.Showing.{did, not_new, read_done}
 use Rattle.ca_replace.proofs.Meeting.{further_on}
 use Rattle.std.proofs.Common.{Ok, Err, Some}
-use Rattle.ca_replace.proofs.Behind.{frame_behind, frame_entered, ready_behind, turn_edited, turn_entered, turn_halted}
+use Rattle.ca_replace.proofs.Behind.{frame_behind, frame_entered, ready_behind, turn_edited, turn_entered, turn_halted, idle_behind}
 use Rattle.ca_replace.proofs.puts.PutNewCallAttempt.attempt.Goals as goal
 
 pub enter-requires-clause-answer : goal.enter-requires-clause-answer
@@ -45,7 +45,7 @@ returns-in-Ok-clause-tried c = let o = c.args.self.now.keyed in
     (at_pin c.args.pass.now.seat.me.0.upper)
     c.find-place.new.pass.seat.me.0.upper c.put_there.new.pass.seat.me.0.upper refl
     (further_since c.args.pass.now.seat.me.0.upper
-    c.find-place.new.pass.seat.me.0.upper c.requires.asking c.find-place.ensures.looked.further) c.in-Ok.ensures.tried
+    c.find-place.new.pass.seat.me.0.upper c.requires.asking c.find-place.ensures.looked.further) c.in-Ok.ensures.edited.tried
 
 -- what an attempt came to
 abbrev why_of : Result Bool Halt → Halt
@@ -64,18 +64,18 @@ returns-then-is_ok-clause-frame c =
 
 pub returns-in-Ok-clause-frame : goal.returns-in-Ok-clause-frame
 returns-in-Ok-clause-frame c =
-    frame_behind c.find-place.ensures.looked c.requires.ready c.requires.known c.put_there.new.pass c.put_there.ensures.frame
+    frame_behind c.find-place.ensures.looked c.requires.ready c.requires.known c.put_there.new.pass c.put_there.ensures.edited.frame
 
 pub returns-in-Err-clause-frame : goal.returns-in-Err-clause-frame
 returns-in-Err-clause-frame c =
-    frame_behind c.find-place.ensures.looked c.requires.ready c.requires.known c.put_there.new.pass c.put_there.ensures.frame
+    frame_behind c.find-place.ensures.looked c.requires.ready c.requires.known c.put_there.new.pass c.put_there.ensures.edited.frame
 
 pub returns-in-Err-clause-tried : goal.returns-in-Err-clause-tried
 returns-in-Err-clause-tried c = (
   further_on c.args.pass.now.seat.me.0.upper c.find-place.new.pass.seat.me.0.upper
       c.put_there.new.pass.seat.me.0.upper c.find-place.ensures.looked.further
-      c.in-Err.ensures.tried.0,
-  c.in-Err.ensures.tried.1,
+      c.in-Err.ensures.edited.tried.0,
+  c.in-Err.ensures.edited.tried.1,
 )
 
 pub put_there-requires-clause-ready : goal.put_there-requires-clause-ready
@@ -90,22 +90,23 @@ returns-then-is_ok-clause-turn c =
 pub returns-in-Ok-clause-turn : goal.returns-in-Ok-clause-turn
 returns-in-Ok-clause-turn c =
     turn_edited c.find-place.ensures.looked c.requires.ready c.requires.known c.put_there.new.pass (λ (new : Bool). new) (Some (slice_range c.args.self.now.keyed.object.now c.args.self.now.keyed.key_at c.args.self.now.keyed.key_end)) (Some (slice_range c.args.self.now.keyed.object.now c.args.self.now.keyed.key_at c.args.self.now.keyed.key_end))
-    c.args.tree.now.tuning c.args.course.now c.put_there.new.course _ true refl c.in-Ok.ensures.turn
+    c.args.tree.now.tuning c.args.course.now c.put_there.new.course _ true refl c.in-Ok.ensures.edited.turn
 
 pub returns-in-Err-clause-turn : goal.returns-in-Err-clause-turn
 returns-in-Err-clause-turn c =
     turn_halted c.find-place.ensures.looked c.requires.ready c.requires.known c.put_there.new.pass (λ (new : Bool). new) (Some (slice_range c.args.self.now.keyed.object.now c.args.self.now.keyed.key_at c.args.self.now.keyed.key_end)) (Some (slice_range c.args.self.now.keyed.object.now c.args.self.now.keyed.key_at c.args.self.now.keyed.key_end))
-    c.args.tree.now.tuning c.args.course.now c.put_there.new.course _ c.in-Err.stop (λ _. refl) c.in-Err.ensures.turn
+    c.args.tree.now.tuning c.args.course.now c.put_there.new.course _ c.in-Err.stop (λ _. refl) c.in-Err.ensures.edited.turn
 
 pub returns-in-Err-clause-stays : goal.returns-in-Err-clause-stays
 returns-in-Err-clause-stays c = (
-  c.in-Err.ensures.stays.0 ∙ c.find-place.ensures.looked.since,
-  c.in-Err.ensures.stays.1,
-  c.in-Err.ensures.stays.2 ∙ c.find-place.ensures.met,
+  c.in-Err.ensures.edited.stays.0 ∙ c.find-place.ensures.looked.since,
+  c.in-Err.ensures.edited.stays.1,
+  λ e. c.in-Err.ensures.edited.stays.2 e ∙ c.find-place.ensures.met,
 )
 
 pub put_there-requires-clause-unanswered : goal.put_there-requires-clause-unanswered
 put_there-requires-clause-unanswered c = c.find-place.ensures.looked.unanswered
 
-pub put_there-requires-clause-none_met : goal.put_there-requires-clause-none_met
-put_there-requires-clause-none_met c = c.find-place.ensures.met ∙ c.requires.asking.none_met
+pub put_there-requires-clause-idle : goal.put_there-requires-clause-idle
+put_there-requires-clause-idle c = idle_behind c.find-place.ensures.looked c.requires.ready c.requires.known c.find-place.ensures.met
+    c.requires.idle

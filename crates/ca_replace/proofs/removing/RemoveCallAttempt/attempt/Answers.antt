@@ -12,7 +12,7 @@ use Rattle.ca_replace.specs.Tells.{Removes}
 use Rattle.ca_replace.proofs.Showing.{did, read_done}
 use Rattle.ca_replace.proofs.Meeting.{further_on}
 use Rattle.ca_replace.proofs.Entries.{read_by}
-use Rattle.ca_replace.proofs.Behind.{frame_behind, frame_entered, ready_behind, turn_edited, turn_entered, turn_halted}
+use Rattle.ca_replace.proofs.Behind.{frame_behind, frame_entered, ready_behind, turn_edited, turn_entered, turn_halted, idle_behind}
 use Rattle.ca_replace.proofs.removing.RemoveCallAttempt.attempt.Goals as goal
 
 pub fetch-place-requires-clause-unanswered : goal.fetch-place-requires-clause-unanswered
@@ -62,7 +62,7 @@ returns-in-Ok-remove_there-clause-tried c = let key : List ℕ = c.args.self.now
     (at_pin c.args.pass.now.seat.me.0.upper) w c.remove_there.new.pass.seat.me.0.upper
     (λ i. Remove key (Some (found.2 i))) (further_since c.args.pass.now.seat.me.0.upper
     c.fetch-place.new.pass.seat.me.0.upper c.requires.asking c.fetch-place.ensures.looked.further)
-    c.in-Ok-remove_there.ensures.tried
+    c.in-Ok-remove_there.ensures.edited.tried
 
 pub returns-in_default-clause-frame : goal.returns-in_default-clause-frame
 returns-in_default-clause-frame c =
@@ -70,18 +70,18 @@ returns-in_default-clause-frame c =
 
 pub returns-in-Ok-remove_there-clause-frame : goal.returns-in-Ok-remove_there-clause-frame
 returns-in-Ok-remove_there-clause-frame c =
-    frame_behind c.fetch-place.ensures.looked c.requires.ready c.requires.known c.remove_there.new.pass c.remove_there.ensures.frame
+    frame_behind c.fetch-place.ensures.looked c.requires.ready c.requires.known c.remove_there.new.pass c.remove_there.ensures.edited.frame
 
 pub returns-in-Err-clause-frame : goal.returns-in-Err-clause-frame
 returns-in-Err-clause-frame c =
-    frame_behind c.fetch-place.ensures.looked c.requires.ready c.requires.known c.remove_there.new.pass c.remove_there.ensures.frame
+    frame_behind c.fetch-place.ensures.looked c.requires.ready c.requires.known c.remove_there.new.pass c.remove_there.ensures.edited.frame
 
 pub returns-in-Err-clause-tried : goal.returns-in-Err-clause-tried
 returns-in-Err-clause-tried c = (
   further_on c.args.pass.now.seat.me.0.upper c.fetch-place.new.pass.seat.me.0.upper
       c.remove_there.new.pass.seat.me.0.upper c.fetch-place.ensures.looked.further
-      c.in-Err.ensures.tried.0,
-  c.in-Err.ensures.tried.1,
+      c.in-Err.ensures.edited.tried.0,
+  c.in-Err.ensures.edited.tried.1,
 )
 
 pub remove_there-requires-clause-ready : goal.remove_there-requires-clause-ready
@@ -96,22 +96,23 @@ returns-in_default-clause-turn c =
 pub returns-in-Ok-remove_there-clause-turn : goal.returns-in-Ok-remove_there-clause-turn
 returns-in-Ok-remove_there-clause-turn c =
     turn_edited c.fetch-place.ensures.looked c.requires.ready c.requires.known c.remove_there.new.pass (λ (was : Bool). was) None None
-    c.args.tree.now.tuning c.args.course.now c.remove_there.new.course _ true refl c.in-Ok-remove_there.ensures.turn
+    c.args.tree.now.tuning c.args.course.now c.remove_there.new.course _ true refl c.in-Ok-remove_there.ensures.edited.turn
 
 pub returns-in-Err-clause-turn : goal.returns-in-Err-clause-turn
 returns-in-Err-clause-turn c =
     turn_halted c.fetch-place.ensures.looked c.requires.ready c.requires.known c.remove_there.new.pass (λ (was : Bool). was) None None
-    c.args.tree.now.tuning c.args.course.now c.remove_there.new.course _ c.in-Err.stop (λ _. refl) c.in-Err.ensures.turn
+    c.args.tree.now.tuning c.args.course.now c.remove_there.new.course _ c.in-Err.stop (λ _. refl) c.in-Err.ensures.edited.turn
 
 pub returns-in-Err-clause-stays : goal.returns-in-Err-clause-stays
 returns-in-Err-clause-stays c = (
-  c.in-Err.ensures.stays.0 ∙ c.fetch-place.ensures.looked.since,
-  c.in-Err.ensures.stays.1,
-  c.in-Err.ensures.stays.2 ∙ c.fetch-place.ensures.met,
+  c.in-Err.ensures.edited.stays.0 ∙ c.fetch-place.ensures.looked.since,
+  c.in-Err.ensures.edited.stays.1,
+  λ e. c.in-Err.ensures.edited.stays.2 e ∙ c.fetch-place.ensures.met,
 )
 
 pub remove_there-requires-clause-unanswered : goal.remove_there-requires-clause-unanswered
 remove_there-requires-clause-unanswered c = c.fetch-place.ensures.looked.unanswered
 
-pub remove_there-requires-clause-none_met : goal.remove_there-requires-clause-none_met
-remove_there-requires-clause-none_met c = c.fetch-place.ensures.met ∙ c.requires.asking.none_met
+pub remove_there-requires-clause-idle : goal.remove_there-requires-clause-idle
+remove_there-requires-clause-idle c = idle_behind c.fetch-place.ensures.looked c.requires.ready c.requires.known c.fetch-place.ensures.met
+    c.requires.idle

@@ -4,7 +4,7 @@ use Rattle.ca_model.specs.Event.{Event}
 use Rattle.ca_model.specs.Known.{Meets}
 use Rattle.ca_node.specs.Told.{MyTree, IsKnown}
 use Rattle.ca_node.proofs.Tallies.{tallied_still}
-use Rattle.ca_node.specs.TreeView.{TreeView}
+use Rattle.ca_node.specs.TreeView.{TreeView, left_over}
 use Rattle.ca_rows.specs.declared.sizes.Sizes.{Sizes}
 use Rattle.ca_replace.specs.Attempting.{HasTriedTo}
 use Rattle.ca_replace.specs.Reads.{get_event}
@@ -89,7 +89,9 @@ keep_few-requires c = let tree = c.self.inside.tree.now in
           ∙ ap (λ (m : MyTree). m.0.upper.splits) pin))
           (ap (λ (m : MyTree). m.0.upper.joins) look
           ∙ (ap (λ (m : MyTree). m.0.upper.joins) walk
-          ∙ ap (λ (m : MyTree). m.0.upper.joins) pin))));
+          ∙ ap (λ (m : MyTree). m.0.upper.joins) pin)))
+          (ap (λ (m : MyTree). m.0.upper.ranges.own) look ∙ (ap (λ (m : MyTree). m.0.upper.ranges.own) walk
+          ∙ (ap (λ (m : MyTree). m.0.upper.ranges.own) pin ∙ ap left_over c.self.invariant.quiet))));
     }
 
 pub invariant_of-self : goal.invariant_of-self

@@ -3,7 +3,7 @@ use Rattle.ca_node.specs.Place.{all_keys}
 use Rattle.ca_node.specs.Told.{MyTree}
 use Rattle.ca_rows.specs.Told.{begun_of, met_of}
 use Rattle.ca_node.proofs.Tallies.{tallied_still, led_counts}
-use Rattle.ca_node.specs.TreeView.{pinned}
+use Rattle.ca_node.specs.TreeView.{pinned, left_over}
 use Rattle.ca_rows.specs.declared.sizes.Sizes.{Sizes}
 use Rattle.ca_replace.proofs.Entries.{held_upper}
 use Rattle.ca_replace.proofs.Showing.{led_further}
@@ -69,7 +69,8 @@ keep_few-requires c = let tree = c.self.inside.tree.now in
           (c.load_link.ensures.frame.tally
           ∙ (c.pin.ensures.frame.tally ∙ c.learn.ensures.frame.tally))
           (counts.0 ∙ ap (λ (m : MyTree). m.0.upper.splits) both) (counts.1
-          ∙ ap (λ (m : MyTree). m.0.upper.joins) both)));
+          ∙ ap (λ (m : MyTree). m.0.upper.joins) both))
+          (counts.2 ∙ (ap (λ (m : MyTree). m.0.upper.ranges.own) both ∙ ap left_over c.self.invariant.quiet)));
     }
 
 pub invariant_of-self : goal.invariant_of-self

@@ -1,0 +1,56 @@
+-- What a pass does about the mark of a base that it is to exchange.
+use Rattle.std.specs.Prelude.{◌≡◌, ◌≢◌, ℕ, ◌+◌, ◌<◌, ◌≤◌, Bool, false, []}
+use Rattle.ca_base.specs.Counting.{losses, HasMet}
+use Rattle.ca_base.specs.Putting.{first_note}
+use Rattle.ca_base.specs.Readiness.{StaysReady}
+use Rattle.ca_model.specs.declared.outcome.Spent.{Spent}
+use Rattle.ca_node.specs.Told.{MyTree, with_upper, IsSettled}
+use Rattle.ca_node.specs.TreeView.{KnownRanges, TreeView}
+use Rattle.ca_range.specs.Filling.{links_lost}
+use Rattle.ca_range.specs.Spending.{IsSpentOn}
+use Rattle.ca_range.specs.Staying.{OnlySteps}
+use Rattle.ca_range.specs.declared.clearing.Way.{Way}
+use Rattle.ca_range.specs.declared.clearing.Way.TheVariants as way
+use Rattle.ca_range.specs.declared.helped.Helped.{Helped}
+use Rattle.ca_range.specs.declared.helped.Helped.TheVariants as helped
+use Rattle.ca_rows.specs.declared.space.Pass.{Pass}
+use Rattle.ca_rows.specs.declared.space.Space.{Space}
+use Rattle.ca_rows.specs.Passes.{KeepsList}
+
+-- how many turns a seat spent: exchanges that were lost, operations that were helped, and places that were passed
+abbrev pub turns_at : MyTree → ℕ
+turns_at m = losses m + m.0.upper.turns.helped + m.0.upper.turns.passed
+
+-- It learnt of ranges alone, but of its own one nothing. Where the base wasn't marked it found none of another pass unfinished.
+abbrev pub LearnsOfRanges : Bool → MyTree → MyTree → Type 0
+LearnsOfRanges marked m m' = (ranges : KnownRanges) × (marked ≡ false → ranges.unfinished ≡ []) × (ranges.own ≡ m.0.upper.ranges.own)
+    × (m' ≡ with_upper m (record m.0.upper { ranges = ranges }))
+
+-- nothing was spent
+abbrev pub none_spent : Spent
+none_spent = record { lost = 0; helped = 0; passed = 0 }
+
+-- So the help of a range ended: a turn was spent; or the pool's head was found empty, or with its tag at the last value, once.
+abbrev pub HasGone : Helped → MyTree → MyTree → Type 0
+HasGone helped.Finished m m' = HasMet 0 0 m m' × (turns_at m < turns_at m')
+HasGone (helped.Lost exchange) m m' = HasMet 0 0 m m' × (turns_at m < turns_at m')
+HasGone (helped.Busy spent) m m' = HasMet 0 0 m m' × (turns_at m < turns_at m')
+HasGone helped.NoRow m m' = HasMet 1 0 m m'
+HasGone (helped.Worn counter) m m' = HasMet 0 1 m m'
+
+module _ {R : Type 0} where
+  -- A range of another pass was helped, which came to this, and so much was spent.
+  pub record HasHelpedWith (space : Space R TreeView) (helped : Helped) (spent : Spent) (pass new : Pass R TreeView) : Type 0 where
+    pub frame : StaysReady space pass new
+    pub steps : OnlySteps space.table.shared.key (links_lost helped) pass.seat.me.0.upper new.seat.me.0.upper
+    pub counted : IsSpentOn none_spent spent pass.seat.me new.seat.me
+    pub gone : HasGone helped pass.seat.me new.seat.me
+    -- That pass is another one of the space.
+    pub owner : ℕ
+    pub other : (0 < owner) × (owner ≤ space.table.shared.key.passes) × (owner ≢ pass.seat.me.0.upper.number)
+
+  -- No range has the base that was shown last, as the pass knows then; or another pass's range was helped.
+  abbrev pub IsCleared : Space R TreeView → Way → Pass R TreeView → Pass R TreeView → Type 0
+  IsCleared space (way.Free marked) pass new = KeepsList pass new × IsSettled new.seat.me.0.upper (first_note new.seat.me.0.upper.notes).its
+      × LearnsOfRanges marked pass.seat.me new.seat.me
+  IsCleared space (way.Helped helped spent) pass new = HasHelpedWith space helped spent pass new

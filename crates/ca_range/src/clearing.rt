@@ -1,0 +1,59 @@
+//! What an edit does about the mark of the base that it is to exchange.
+ghost use Rattle.std.specs.Prelude.{◌≡◌, ◌≤◌, []};
+ghost use Rattle.ca_adapt.specs.Tuned.{IsTuned};
+ghost use Rattle.ca_base.specs.Readiness.{IsReady};
+ghost use Rattle.ca_node.specs.TreePasses.{tree_of};
+ghost use Rattle.ca_node.specs.TreeView.{Quiet};
+ghost use Rattle.ca_range.specs.Ahead.{IsAtLast};
+ghost use Rattle.ca_range.specs.Clearing.{IsCleared};
+ghost use Rattle.ca_rows.specs.Passes.{sizes};
+
+use crate::account::Account;
+use crate::ahead::is_active;
+use crate::helped::Helped;
+use crate::helping::help_ranges;
+use crate::marks::{MarkedBase, range_of};
+use crate::watching::watch;
+use ca_adapt::Tuning;
+use ca_model::Spent;
+use ca_node::{Cursor, TreePass, TreeSpace};
+
+/// What was found of a base that is to be exchanged.
+#[derive(Clone, Copy)]
+pub enum Way {
+    /// No range has it. Whether one marked it.
+    Free(bool),
+    /// A range of another pass has it, and was helped: what became of that, and what was spent.
+    Helped(Helped, Spent),
+}
+
+/// Looks which range marked the base that was shown last. Where that is one of another pass that isn't over, the pass helps it, with a budget of its own.
+/// The pass has no range, and found none unfinished since it was pinned.
+pub fn clear(
+    space: &TreeSpace,
+    pass: &mut TreePass,
+    cursor: Cursor,
+    tuning: &Tuning,
+    budget: u32,
+) -> Way
+    requires ready { IsReady space.now pass.old }
+    requires number { pass.old.number ≡ (tree_of pass.old).number }
+    requires quiet { (tree_of pass.old).ranges.own ≡ Quiet }
+    requires none_met { (tree_of pass.old).ranges.unfinished ≡ [] }
+    requires tuned { IsTuned (sizes space.now) tuning.now }
+    requires at { IsAtLast (sizes space.now) (tree_of pass.old) cursor }
+    requires budget { 1 ≤ budget }
+    ensures cleared { IsCleared space.now result pass.old pass.new }
+{
+    let Some(range) = range_of(space, pass, cursor.base) else {
+        return Way::Free(false);
+    };
+    let mut account = Account::new();
+    let state = watch(space, pass, range.owner, &mut account);
+    if !is_active(state, range.number) {
+        return Way::Free(true);
+    }
+    let from = MarkedBase { cursor, range };
+    let helped = help_ranges(space, pass, from, tuning, budget, &mut account);
+    Way::Helped(helped, account.spent)
+}
