@@ -83,8 +83,8 @@ impl Tuning {
         if lost { self.lost } else { self.calm }
     }
 
-    // The statistic, or 0 where it is outside of its bounds.
-    fn kept(&self, statistic: i32) -> i32
+    /// The statistic, or 0 where it is outside of its bounds.
+    pub fn kept(&self, statistic: i32) -> i32
         requires { IsAllowed self.now }
         ensures kept { IsKept self.now statistic result }
         ensures small { IsWithin (neg_ℤ (pos 1000000)) (pos 1000000) result }

@@ -1,27 +1,26 @@
 -- A base that was shown last may be divided by rows that were written, and which rows a pass has
 -- then.
-use Rattle.std.proofs.Common.{◌≡◌, ◌≢◌, ℕ, ◌+◌, ◌-◌, ◌/◌, ◌<◌, ◌≤◌, true, List, [], ◌∷◌, length, map, take, drop, get_or, sym, refl, ap, ◌∙◌, subst, ⊎_elim, arith, length-take}
+use Rattle.std.proofs.Common.{◌≡◌, ◌≢◌, ℕ, ◌+◌, ◌-◌, ◌/◌, ◌<◌, ◌≤◌, true, List, [], ◌∷◌, length, map, take, drop, get_or, sym, ap, ◌∙◌, subst, inl, arith, length-take}
 use Rattle.std.proofs.lemmas.List.{take_rest, length-map}
 use mathlib.Core.Option.{some, none}
 use Rattle.ca_model.specs.StoreMap.{IsStoreMap}
-use Rattle.ca_node.specs.Laws.{in_nothing}
 use Rattle.ca_node.specs.Links.{IsIn, AreApart}
 use Rattle.ca_node.specs.Row.{count, items, key, pair, item_words, row_in, IsHeaded}
 use Rattle.ca_node.specs.Told.{MyTree, IsSettled, IsLastThere, IsDivision, IsDivided, given}
 use Rattle.ca_node.specs.TreeView.{Note, TreeView, Division}
 use Rattle.ca_node.specs.declared.cursor.Cursor.{Cursor}
 use Rattle.ca_node.proofs.HeldRows.{given_fewer, taken_out_more}
-use Rattle.ca_node.proofs.Looking.{in_more}
 use Rattle.ca_base.specs.Finding.{IsAtCursor, IsReadable}
 use Rattle.ca_base.specs.Putting.{IsShownLast, first_note, words_of}
 use Rattle.ca_base.specs.Splitting.{SpellsRoute, IsHalving, division_by, division_of}
-use Rattle.ca_base.specs.Taking.{HasHeld, AreHeld, AreUnlinked}
+use Rattle.ca_base.specs.Taking.{HasHeld, AreHeld, AreUnlinked, lent_of}
 use Rattle.ca_base.specs.Prefixes.{SpellsHalf, worded}
 use Rattle.ca_base.specs.Writing.{IsRewritten}
 use Rattle.ca_base.proofs.NewFronts.{half_items, half_headed}
 use Rattle.ca_rows.specs.Layout.{row_limit}
 use Rattle.ca_base.proofs.Halves.{half_long}
 use Rattle.ca_base.proofs.Rebasing.{last_there, note_is}
+use Rattle.ca_base.proofs.Rest.{is_one}
 use Rattle.ca_base.proofs.Unlinking.{few_at_once, unlinked_then}
 use Rattle.ca_rows.specs.declared.kept.KeptRows.{KeptRows}
 use Rattle.ca_rows.specs.declared.sizes.Sizes.{Sizes}
@@ -38,20 +37,15 @@ three_apart a b c h = (
   λ e. h.1.0 (0, ap some (sym e)),
 )
 
--- What is in a list of one row is that row.
-is_one : (r row : ℕ) → IsIn r (row ∷ []) → row ≡ r
-is_one r row i = ⊎_elim (λ (e : row ≡ r). e)
-    (λ (j : IsIn r []). absurd (in_nothing r [] refl j)) (in_more row r [] i)
-
 -- After a split the old base is unlinked, and the pass has no other row.
 pub divided_rows : (rows : ℕ) (kept kept' : KeptRows) (m m' : MyTree) (x : Division) (base : ℕ)
     (ins : List ℕ) → x.route ∷ x.left ∷ x.right ∷ [] ≡ ins
     → x.old.row ≡ base → IsDivided x m m' → kept' ≡ kept → AreApart ins
     → AreHeld rows kept.rows m.0 ins → AreUnlinked rows kept'.rows m'.0 (base ∷ [])
 divided_rows rows kept kept' m m' x base ins are same d too apart h =
-    let held = subst (HasHeld rows kept.rows m.0.claims) (sym are) h.0 in
+    let held = subst (HasHeld rows kept.rows m.0.claims (lent_of m.0.upper.ranges.own)) (sym are) h.0 in
     let comes : List ℕ = x.route ∷ x.left ∷ x.right ∷ [] in let goes : List ℕ = x.old.row ∷ [] in
-    let then = unlinked_then rows kept.rows m.0.claims comes goes held
+    let then = unlinked_then rows kept.rows m.0.claims (lent_of m.0.upper.ranges.own) comes goes held
     (λ r i. subst (λ (y : ℕ). claim_of m.0.claims y ≡ none) (is_one r x.old.row i) d.unclaimed) in
     let came = subst
     (λ (xs : List ℕ). held_count (given xs m.0.claims) + length xs ≤ held_count m.0.claims)
@@ -76,7 +70,7 @@ pub last_readable : (z : Sizes) (u : TreeView) (base : ℕ) → IsShownLast z u 
     → IsStoreMap z.keypos (map pair (first_note u.notes).objects)
     → IsReadable z u base (first_note u.notes)
 last_readable z u base shown leaf ordered = record {
-  noted = shown.noted;
+  noted = inl shown.noted;
   here = shown.here;
   is_base = shown.is_base;
   few = let few = shown.is_base.few in omega arith;

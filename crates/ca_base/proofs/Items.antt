@@ -1,12 +1,13 @@
 -- What the words of a base say that a pass was shown.
-use Rattle.std.proofs.Common.{◌≡◌, ℕ, zero, suc, ◌+◌, ◌%◌, ◌<◌, ◌≤◌, List, [], ◌∷◌, length, get_or, drop, sym, refl, ap, ◌∙◌, inl, inr, arith, length-drop}
+use Rattle.std.proofs.Common.{◌≡◌, ℕ, zero, suc, ◌+◌, ◌%◌, ◌<◌, ◌≤◌, List, [], ◌∷◌, length, get_or, drop, sym, refl, ap, ◌∙◌, inl, inr, ⊎_elim, arith, length-drop}
 use Rattle.std.proofs.lemmas.List.{get_or-take, get_or-drop, length-take-le, get_or-map, length-map}
 use mathlib.Core.Option.{some}
 use lib.ListN.{get_elem?}
+use Rattle.ca_node.specs.Links.{IsIn}
 use Rattle.ca_node.specs.Row.{count, items, item_words, row_in, head_in, head_of, prefix_length}
-use Rattle.ca_node.specs.Told.{IsShown, IsShownWord}
+use Rattle.ca_node.specs.Told.{IsShownWord}
 use Rattle.ca_node.specs.TreeView.{Note, TreeView}
-use Rattle.ca_base.specs.Finding.{IsReadable, IsObjectShown}
+use Rattle.ca_base.specs.Finding.{IsRowShown, IsReadable, IsObjectShown}
 use Rattle.ca_rows.specs.declared.sizes.Sizes.{Sizes}
 use Rattle.ca_node.specs.Layout.{items_word}
 
@@ -17,22 +18,25 @@ at_place [] k d l = absurd (omega arith)
 at_place (x ∷ xs) zero d l = refl
 at_place (x ∷ xs) (suc k) d l = at_place xs k d (omega arith)
 
--- A word of a row that was shown as a base or an object is one that was shown, and so it is what is
--- loaded.
-pub word_shown : (u : TreeView) (row index : ℕ) → (its : List ℕ) × IsShown u row its → (word : ℕ)
-    × IsShownWord u row index word
-word_shown u row index s = (get_or s.0 index 0, (s.0, inl s.1, refl))
+-- A word of a row that was shown as a base or an object, by itself or as one of a run, is one that was shown, and so it is what is loaded.
+told_word : (u : TreeView) (row index : ℕ) (its : List ℕ) → IsRowShown u row its → IsShownWord u row index (get_or its index 0)
+told_word u row index its s = ⊎_elim
+    (λ (i : IsIn s.0 u.notes). (its, inl (s.0, i, s.2), refl))
+    (λ (i : IsIn s.0 u.ranges.run). (its, inr (inr (inr (s.0, i, s.2))), refl))
+    s.1
 
-pub as_shown : (u : TreeView) (row index n : ℕ)
-    → ((word : ℕ) → IsShownWord u row index word → n ≡ word) → (its : List ℕ) → IsShown u row its
+pub word_shown : (u : TreeView) (row index : ℕ) → (its : List ℕ) × IsRowShown u row its → (word : ℕ) × IsShownWord u row index word
+word_shown u row index s = (get_or s.0 index 0, told_word u row index s.0 s.1)
+
+pub as_shown : (u : TreeView) (row index n : ℕ) → ((word : ℕ) → IsShownWord u row index word → n ≡ word) → (its : List ℕ) → IsRowShown u row its
     → n ≡ get_or its index 0
-as_shown u row index n is its s = is (get_or its index 0) (its, inl s, refl)
+as_shown u row index n is its s = is (get_or its index 0) (told_word u row index its s)
 
 module _ (z : Sizes) (u : TreeView) (base : ℕ) (note : Note) (r : IsReadable z u base note) where
-  pub shows : IsShown u base note.its
+  pub shows : IsRowShown u base note.its
   shows = (note, r.noted, inl (r.here, refl))
 
-  pub base_shown : (its : List ℕ) × IsShown u base its
+  pub base_shown : (its : List ℕ) × IsRowShown u base its
   base_shown = (note.its, shows)
 
   words_many : length (item_words note.its) ≡ count note.its
@@ -43,7 +47,7 @@ module _ (z : Sizes) (u : TreeView) (base : ℕ) (note : Note) (r : IsReadable z
   many = length-map (item_words note.its) row_in ∙ words_many
 
   -- Its first word says how many objects it has.
-  pub count_is : (word : ℕ) → ((its : List ℕ) → IsShown u base its → word ≡ get_or its 0 0)
+  pub count_is : (word : ℕ) → ((its : List ℕ) → IsRowShown u base its → word ≡ get_or its 0 0)
       → (word % 65536 ≡ length note.objects) × (word % 65536 ≤ 120)
   count_is word is = let first : count note.its ≡ word % 65536 = ap
       (λ (n : ℕ). n % 65536) (sym (is note.its shows)) in
@@ -51,7 +55,7 @@ module _ (z : Sizes) (u : TreeView) (base : ℕ) (note : Note) (r : IsReadable z
 
   -- The word of an item is this one.
   word_is : (place word : ℕ)
-      → ((its : List ℕ) → IsShown u base its → word ≡ get_or its (items_word + place) 0)
+      → ((its : List ℕ) → IsRowShown u base its → word ≡ get_or its (items_word + place) 0)
       → place < length note.objects
       → get_or (item_words note.its) place 0 ≡ word
   word_is place word is l = let m = many in let a = r.is_base.as_many in
@@ -61,7 +65,7 @@ module _ (z : Sizes) (u : TreeView) (base : ℕ) (note : Note) (r : IsReadable z
 
   -- It has the head of the object's key.
   pub head_is : (place word : ℕ)
-      → ((its : List ℕ) → IsShown u base its → word ≡ get_or its (items_word + place) 0)
+      → ((its : List ℕ) → IsRowShown u base its → word ≡ get_or its (items_word + place) 0)
       → place < length note.objects
       → head_in word ≡ head_of (prefix_length note.its) (get_or note.objects place [])
   head_is place word is l = let m = many in let w = words_many in let a = r.is_base.as_many in
@@ -72,7 +76,7 @@ module _ (z : Sizes) (u : TreeView) (base : ℕ) (note : Note) (r : IsReadable z
 
   -- It names its object row.
   pub item_is : (place word : ℕ)
-      → ((its : List ℕ) → IsShown u base its → word ≡ get_or its (items_word + place) 0)
+      → ((its : List ℕ) → IsRowShown u base its → word ≡ get_or its (items_word + place) 0)
       → place < length note.objects
       → get_elem? (items note.its) place ≡ some (row_in word)
   item_is place word is l = let m = many in let w = words_many in let a = r.is_base.as_many in
@@ -81,13 +85,13 @@ module _ (z : Sizes) (u : TreeView) (base : ℕ) (note : Note) (r : IsReadable z
       ∙ ap row_in (word_is place word is l))
 
   pub item_inside : (place word : ℕ)
-      → ((its : List ℕ) → IsShown u base its → word ≡ get_or its (items_word + place) 0)
+      → ((its : List ℕ) → IsRowShown u base its → word ≡ get_or its (items_word + place) 0)
       → place < length note.objects
       → (0 < row_in word) × (row_in word ≤ z.rows)
   item_inside place word is l = r.is_base.named (row_in word) (place, item_is place word is l)
 
   pub object_is : (place word : ℕ)
-      → ((its : List ℕ) → IsShown u base its → word ≡ get_or its (items_word + place) 0)
+      → ((its : List ℕ) → IsRowShown u base its → word ≡ get_or its (items_word + place) 0)
       → place < length note.objects
       → IsObjectShown u (row_in word) (get_or note.objects place [])
   object_is place word is l = let its : List ℕ = get_or note.objects place [] in

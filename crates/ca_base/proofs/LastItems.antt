@@ -2,7 +2,7 @@
 use Rattle.std.proofs.Common.{◌≡◌, ℕ, ◌+◌, ◌-◌, ◌<◌, ◌≤◌, List, length, take, drop, ◌++◌, get_or, sym, refl, ap, ◌∙◌, subst, inl, arith, length-take, length-drop, length-append}
 use Rattle.std.proofs.lemmas.List.{get_or-take, get_or-drop, get_or_append_left, get_or-append_right, length-take-le, get_or-map}
 use Rattle.ca_node.specs.Row.{count, row_in}
-use Rattle.ca_node.specs.Told.{MyTree, IsShown}
+use Rattle.ca_node.specs.Told.{MyTree}
 use Rattle.ca_node.specs.TreeView.{Note, TreeView}
 use Rattle.ca_base.specs.Putting.{IsShownLast, first_note, last_items, last_words}
 use Rattle.ca_base.specs.Writing.{IsHeld, HasFilled, HasWritten, SpellsBase, HasEight, IsHeadWord, base_head}
@@ -10,13 +10,14 @@ use Rattle.ca_base.proofs.Filling.{filled_as, filled_on, rewritten_again}
 use Rattle.ca_base.proofs.Spelling.{spells_base}
 use Rattle.ca_rows.specs.declared.sizes.Sizes.{Sizes}
 use Rattle.ca_node.specs.Layout.{items_word}
+use Rattle.ca_base.specs.Finding.{IsRowShown}
 
 module _ (z : Sizes) (u : TreeView) (base : ℕ) (shown : IsShownLast z u base) where
   abbrev note : Note
   note = first_note u.notes
 
-  pub last_shown : IsShown u base note.its
-  last_shown = (note, shown.noted, inl (shown.here, refl))
+  pub last_shown : IsRowShown u base note.its
+  last_shown = (note, inl shown.noted, inl (shown.here, refl))
 
   pub last_inside : base ≤ z.rows
   last_inside = let here = shown.here in let high = shown.is_base.in_range in omega arith

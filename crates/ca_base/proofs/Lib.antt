@@ -12,6 +12,7 @@ pub mod Inserting
 pub mod Items
 pub mod KeyWords
 pub mod LastItems
+pub mod LentRows
 pub mod NewFronts
 pub mod ObjectBytes
 pub mod Readying

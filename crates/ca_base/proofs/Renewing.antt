@@ -30,7 +30,7 @@ held_once c a b p q = let same : Holds a ≡ Holds b = sym p ∙ q in cc
 module _ (z : Sizes) (kept : Vec Kept Global) (m : MyTree) (new : ℕ) (x : Update)
     (up : IsUpdate z m new x) (old : IsBaseNote z x.old)
     (first_is : first_note m.0.upper.notes ≡ x.old)
-    (h : HasHeld z.rows kept m.0.claims (new ∷ x.comes)) where
+    (lent : List ℕ) (h : HasHeld z.rows kept m.0.claims lent (new ∷ x.comes)) where
   -- what the update's new base is noted as
   abbrev pub new_note : Note
   new_note = record { row = new; its = x.its; objects = x.objects; place = x.old.place }

@@ -6,6 +6,11 @@ use Rattle.ca_node.specs.Links.{IsIn, AreApart}
 use Rattle.ca_node.proofs.Looking.{in_more}
 use Rattle.ca_base.specs.Putting.{gone}
 
+-- What is in a list of one row is that row.
+pub is_one : (r row : ℕ) → IsIn r (row ∷ []) → row ≡ r
+is_one r row i = ⊎_elim (λ (e : row ≡ r). e)
+    (λ (j : IsIn r []). absurd (in_nothing r [] refl j)) (in_more row r [] i)
+
 -- The row at a place isn't behind it once more.
 rest_apart : (rows : List ℕ) (at : ℕ) → at < length rows → AreApart rows
     → ¬ IsIn (get_or rows at 0) (drop (suc at) rows)

@@ -1,7 +1,7 @@
 -- What the words of a route row spell once it was filled.
 use Rattle.std.proofs.Common.{◌≡◌, ℕ, ◌+◌, ◌*◌, ◌/◌, ◌<◌, ◌≤◌, List, [], ◌∷◌, length, take, drop, get_or, sym, ap, ◌∙◌, subst, arith, length-drop}
 use Rattle.std.proofs.lemmas.List.{get_or-drop}
-use Rattle.ca_node.specs.Row.{bytes_in, count}
+use Rattle.ca_node.specs.Row.{bytes_in, count, route_key}
 use Rattle.ca_node.specs.Told.{MyTree}
 use Rattle.ca_base.specs.Splitting.{SpellsRoute}
 use Rattle.ca_base.specs.Writing.{IsHeld, HasEight, IsFilled, HasFilled, HasWritten}
@@ -9,6 +9,15 @@ use Rattle.ca_base.proofs.Filling.{rewritten_again}
 use Rattle.ca_base.proofs.Words.{packed}
 use Rattle.ca_rows.specs.Layout.{row_words}
 use Rattle.ca_node.specs.Layout.{key_word}
+
+-- The bytes of a key that were filled in from word 4 on are the key that a row has, by so many as its first word says.
+pub key_spelled : (bytes one new : List ℕ) → length one ≡ row_words → length bytes ≤ 1000
+    → IsFilled key_word ((length bytes + 7) / 8) (HasEight bytes) one new → count new ≡ length bytes → route_key new ≡ bytes
+key_spelled bytes one new long short g many = ap (λ n. take n (bytes_in (drop key_word new))) many
+    ∙ packed (drop key_word new) bytes ((length bytes + 7) / 8) (omega arith) (omega (arith, length-drop key_word new, g.long, long)) has_eight
+  where
+    has_eight : (k : ℕ) → k < (length bytes + 7) / 8 → HasEight bytes k (get_or (drop key_word new) k 0)
+    has_eight k l = subst (HasEight bytes k) (sym (get_or-drop key_word new k 0)) (g.inside k l)
 
 -- The first word, the links and the join word, and the key's bytes from word 11 on.
 pub spells_route : (bytes : List ℕ) (at_level left right attempt form join : ℕ)
@@ -24,12 +33,7 @@ spells_route bytes at_level left right attempt form join its one new long low is
       is_route = let h = first in omega arith;
       level_is = let h = first in omega arith;
       count_is = count_is;
-      key_is = ap (λ n. take n (bytes_in (drop key_word new))) count_is
-          ∙ packed (drop key_word new) bytes ((length bytes + 7) / 8) (omega arith) (omega (
-            arith,
-            length-drop key_word new,
-            wide,
-          )) has_eight;
+      key_is = key_spelled bytes one new (f.long ∙ long) short g count_is;
       left_is = g.before 1 (omega arith) ∙ f.inside 1 (omega arith);
       right_is = g.before 2 (omega arith) ∙ f.inside 2 (omega arith);
       join_is = g.before 3 (omega arith) ∙ (f.inside 3 (omega arith) ∙ joins);
@@ -43,9 +47,6 @@ spells_route bytes at_level left right attempt form join its one new long low is
 
     count_is : count new ≡ length bytes
     count_is = let h = first in omega arith
-
-    has_eight : (k : ℕ) → k < (length bytes + 7) / 8 → HasEight bytes k (get_or (drop key_word new) k 0)
-    has_eight k l = subst (HasEight bytes k) (sym (get_or-drop key_word new k 0)) (g.inside k l)
 
 -- A row that was filled with a route's words is a route.
 pub route_written : (row at_level left right attempt form join : ℕ) (bytes : List ℕ)

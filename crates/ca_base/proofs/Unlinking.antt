@@ -12,17 +12,16 @@ use Rattle.ca_rows.specs.Told.{met_of}
 use Rattle.ca_node.specs.Told.{MyTree, IsKnown, Update, IsUpdated, given, one_more_lost, taken_out, updated, with_upper}
 use Rattle.ca_node.specs.TreeView.{TreeView}
 use Rattle.ca_node.proofs.HeldRows.{given_fewer, taken_out_more}
-use Rattle.ca_node.proofs.Looking.{in_more}
 use Rattle.ca_node.proofs.Members.{in_rest, has, given_here, given_else, taken_here, taken_else, in_first}
 use Rattle.ca_base.specs.Progress.{HasDone}
-use Rattle.ca_base.specs.Taking.{HasHeld, AreHeld, HasUnlinked, AreUnlinked}
+use Rattle.ca_base.specs.Taking.{HasHeld, AreHeld, HasUnlinked, AreUnlinked, lent_of}
 use Rattle.ca_base.specs.Writing.{IsRewritten}
-use Rattle.ca_base.proofs.Held.{wrote}
+use Rattle.ca_base.proofs.Held.{else_held, lent_still, wrote}
 use Rattle.ca_rows.specs.declared.kept.Kept.{Kept}
 use Rattle.ca_rows.specs.declared.kept.KeptRows.{KeptRows}
 use Rattle.ca_rows.specs.declared.sizes.Sizes.{Sizes}
 use Rattle.ca_rows.specs.declared.view.Claim.{Claim}
-use Rattle.ca_rows.specs.declared.view.Claim.TheVariants.{Holds, Unlinked, Keeps}
+use Rattle.ca_rows.specs.declared.view.Claim.TheVariants.{Holds, Lends, Unlinked, Keeps}
 use Rattle.ca_rows.specs.declared.view.Claimed.{Claimed}
 use Rattle.ca_rows.specs.declared.view.View.{View}
 use Rattle.ca_rows.specs.Claims.{claim_of, claimed, held_count}
@@ -32,8 +31,8 @@ use Rattle.ca_rows.proofs.HeldCount.{claimed_one_less}
 use Rattle.ca_rows.proofs.Keeping.{kept_as}
 use Rattle.ca_rows.specs.Layout.{row_words}
 
-module _ (rows : ℕ) (kept : Vec Kept Global) (claims : List Claimed) (ins outs : List ℕ)
-    (h : HasHeld rows kept claims ins)
+module _ (rows : ℕ) (kept : Vec Kept Global) (claims : List Claimed) (lent ins outs : List ℕ)
+    (h : HasHeld rows kept claims lent ins)
     (free : (r : ℕ) → IsIn r outs → claim_of claims r ≡ none) where
   abbrev now : List Claimed
   now = taken_out outs (given ins claims)
@@ -48,6 +47,13 @@ module _ (rows : ℕ) (kept : Vec Kept Global) (claims : List Claimed) (ins outs
   kept_else r t e i = let w = (h.each r i).2 in
       let same = some-injective (Holds w.0) (Keeps t) (sym w.2 ∙ e) in absurd cc
 
+  lent_stays : (r : ℕ) → claim_of claims r ≡ some Lends → ¬ IsIn r outs
+  lent_stays r e o = some-ne-none Lends (sym e ∙ free r o)
+
+  lent_not_held : (r : ℕ) → claim_of claims r ≡ some Lends → ¬ IsIn r ins
+  lent_not_held r e i = let w = (h.each r i).2 in
+      let same = some-injective (Holds w.0) Lends (sym w.2 ∙ e) in absurd cc
+
   -- A claim that is left is one on a row that went, or was there before.
   left : (r : ℕ) (c : Claim) → claim_of now r ≡ some c → ((c ≡ Unlinked) × IsIn r outs)
       ⊎ ((claim_of claims r ≡ some c) × ¬ IsIn r ins)
@@ -61,25 +67,27 @@ module _ (rows : ℕ) (kept : Vec Kept Global) (claims : List Claimed) (ins outs
       (λ (m : ¬ IsIn r ins). inr (sym (else_now r n m) ∙ e, m)) (has ins r)) (has outs r)
 
   -- The rows that the seat held came, and others went that nobody claimed: those it has unlinked.
-  pub unlinked_then : HasUnlinked rows kept now outs
+  pub unlinked_then : HasUnlinked rows kept now lent outs
   unlinked_then = record {
     are_kept = kept_as rows claims kept h.are_kept now
         (λ r t e. ⊎_elim
         (λ (o : (Keeps t ≡ Unlinked) × IsIn r outs). let same = o.0 in absurd cc)
         (λ (o : (claim_of claims r ≡ some (Keeps t)) × ¬ IsIn r ins). o.0) (left r (Keeps t) e))
         (λ r t e. else_now r (kept_out r t e) (kept_else r t e) ∙ e);
-    only = λ r c e. ⊎_elim (λ (o : (c ≡ Unlinked) × IsIn r outs). inr o.1)
+    only = λ r c e. ⊎_elim (λ (o : (c ≡ Unlinked) × IsIn r outs). inr (inl o.1))
         (λ (o : (claim_of claims r ≡ some c) × ¬ IsIn r ins). ⊎_elim (λ k. inl k)
-        (λ (i : IsIn r ins). absurd (o.1 i)) (h.only r c o.0)) (left r c e);
+        (λ is. ⊎_elim (λ (i : IsIn r ins). absurd (o.1 i)) (λ (l : IsIn r lent). inr (inr l)) is)
+        (h.only r c o.0)) (left r c e);
     each = λ r o. taken_here outs (given ins claims) r o;
+    lends = λ r i. let e = h.lends r i in else_now r (lent_stays r e) (lent_not_held r e) ∙ e;
   }
 
 -- A row that was unlinked was retired.
 retired_claim : (rows : ℕ) (kept kept' : Vec Kept Global) (claims : List Claimed) (row t : ℕ)
     → AreKept rows (claimed row (Keeps t) claims) kept'
-    → (rest : List ℕ) → ¬ IsIn row rest → HasUnlinked rows kept claims (row ∷ rest)
-    → HasUnlinked rows kept' (claimed row (Keeps t) claims) rest
-retired_claim rows kept kept' claims row t k rest out h = record {
+    → (lent rest : List ℕ) → ¬ IsIn row rest → HasUnlinked rows kept claims lent (row ∷ rest)
+    → HasUnlinked rows kept' (claimed row (Keeps t) claims) lent rest
+retired_claim rows kept kept' claims row t k lent rest out h = record {
   are_kept = k;
   only = λ r c e. dite (ℕ_discrete r row)
       (λ (f : r ≡ row). inl (
@@ -88,11 +96,13 @@ retired_claim rows kept kept' claims row t k rest out h = record {
             ∙ claimed_here claims row (Keeps t))),
       ))
       (λ n. ⊎_elim (λ y. inl y)
-      (λ i. inr (⊎_elim (λ (f : row ≡ r). absurd (n (sym f)))
-      (λ (j : IsIn r rest). j) (in_more row r rest i)))
+      (λ i. inr (else_held row r rest lent n i))
       (h.only r c (sym (claimed_else claims row r (Keeps t) n) ∙ e)));
   each = λ r i. claimed_else claims row r (Keeps t) (λ f. out (subst (λ (y : ℕ). IsIn y rest) f i))
       ∙ h.each r (in_rest r row rest i);
+  lends = lent_still claims (claimed row (Keeps t) claims) lent row h.lends
+      (λ e. let same = some-injective Unlinked Lends (sym (h.each row (in_first row rest)) ∙ e) in absurd cc)
+      (λ r n. claimed_else claims row r (Keeps t) n);
 }
 
 pub retired_too : (rows : ℕ) (kept kept' : Vec Kept Global) (m m' : MyTree) (row t : ℕ)
@@ -104,7 +114,7 @@ retired_too rows kept kept' m m' row t told k rest out h =
     (h.0.each row (in_first row rest)) in let now = h.1.now in let ever = h.1.ever in
     subst (λ (x : MyTree). AreUnlinked rows kept' x.0 rest) (sym told) (
       retired_claim rows kept kept' m.0.claims row t (subst
-          (λ (x : MyTree). AreKept rows x.0.claims kept') told k) rest out h.0,
+          (λ (x : MyTree). AreKept rows x.0.claims kept') told k) (lent_of m.0.upper.ranges.own) rest out h.0,
       record { now = omega arith; ever = ever },
     )
 
@@ -117,6 +127,7 @@ none_left rows kept view h = (
     only = h.0.only;
     each = λ r i.
         absurd (in_nothing r [] refl i);
+    lends = h.0.lends;
   },
   h.1,
 )
@@ -142,9 +153,9 @@ pub swapped : (rows : ℕ) (kept kept' : KeptRows) (m m' : MyTree) (new : ℕ) (
     → AreApart ins → AreHeld rows kept.rows m.0 ins
     → (¬ IsIn base outs) × AreUnlinked rows kept'.rows m'.0 (base ∷ outs)
 swapped rows kept kept' m m' new x base ins outs comes same goes few u too apart h =
-    let held = subst (HasHeld rows kept.rows m.0.claims) (sym comes) h.0 in
+    let held = subst (HasHeld rows kept.rows m.0.claims (lent_of m.0.upper.ranges.own)) (sym comes) h.0 in
     let then =
-    unlinked_then rows kept.rows m.0.claims (new ∷ x.comes) (x.old.row ∷ x.goes) held
+    unlinked_then rows kept.rows m.0.claims (lent_of m.0.upper.ranges.own) (new ∷ x.comes) (x.old.row ∷ x.goes) held
     u.unclaimed in
     let came = subst
     (λ (xs : List ℕ). held_count (given xs m.0.claims) + length xs ≤ held_count m.0.claims)
@@ -202,6 +213,7 @@ pub written_row : (rows : ℕ) (kept kept' : KeptRows) (m m' : MyTree) (held : L
 written_row rows kept kept' m m' held row its i long w too h = let n = w.no_more in
     let now = h.1.now in let ever = h.1.ever in
     subst (λ (x : KeptRows). AreHeld rows x.rows m'.0 held) (sym too) (
-      wrote rows kept.rows m m' held row its i long h.0 w,
+      subst (λ (x : MyTree). HasHeld rows kept.rows m'.0.claims (lent_of x.0.upper.ranges.own) held) (sym w.only)
+          (wrote rows kept.rows m m' (lent_of m.0.upper.ranges.own) held row its i long h.0 w),
       record { now = omega arith; ever = subst (λ (x : MyTree). x.0.most ≤ 8) (sym w.only) ever },
     )

@@ -1,5 +1,5 @@
 -- Bases and objects that a pass was shown, and where a key stands among the objects of a base.
-use Rattle.std.specs.Prelude.{◌≡◌, ℕ, ◌+◌, ◌*◌, ◌<◌, ◌≤◌, List, [], length, map, slice_index_or, Result}
+use Rattle.std.specs.Prelude.{◌≡◌, ◌⊎◌, ℕ, ◌+◌, ◌*◌, ◌<◌, ◌≤◌, List, [], length, map, slice_index_or, Result}
 use mathlib.Core.Option.{some}
 use lib.ListN.{get_elem?}
 use Rattle.ca_model.specs.StoreMap.{IsStoreMap}
@@ -8,20 +8,34 @@ use Rattle.ca_node.specs.declared.cursor.Cursor.{Cursor}
 use Rattle.ca_node.specs.Links.{IsIn}
 use Rattle.ca_node.specs.Row.{bytes_in, count, items, pair, code_words, head_of, prefix_length}
 use Rattle.ca_node.specs.Notes.{IsBaseNote}
-use Rattle.ca_node.specs.Told.{IsShown, link_word}
+use Rattle.ca_node.specs.Told.{IsOfNote, link_word}
 use Rattle.ca_node.specs.TreeView.{Note, TreeView}
 use Rattle.ca_rows.specs.declared.sizes.Sizes.{Sizes}
 use Rattle.ca_rows.specs.Layout.{row_words}
 
--- The pass was shown the base, with its objects.
+-- The pass was shown the base of the note, with its objects, or a run that it is one of.
+abbrev pub WasShown : TreeView → Note → Type 0
+WasShown u note = IsIn note u.notes ⊎ IsIn note u.ranges.run
+
+-- The row was shown, with these words: it is that of such a base, or an object row that one names.
+abbrev pub IsRowShown : TreeView → ℕ → List ℕ → Type 0
+IsRowShown u row its = (note : Note) × WasShown u note × IsOfNote note row its
+
+-- The pass was shown the base, with its objects, and not as one of a run alone.
 pub record IsBaseShown (z : Sizes) (u : TreeView) (base : ℕ) (note : Note) : Type 0 where
   pub noted : IsIn note u.notes
   pub here : note.row ≡ base
   pub is_base : IsBaseNote z note
 
--- The pass was shown the base, with its objects. They are few enough for a row, and their keys ascend.
+-- The pass was shown the base, with its objects, by itself or as one of a run.
+pub record IsBaseSeen (z : Sizes) (u : TreeView) (base : ℕ) (note : Note) : Type 0 where
+  pub noted : WasShown u note
+  pub here : note.row ≡ base
+  pub is_base : IsBaseNote z note
+
+-- The pass was shown the base, with its objects, by itself or as one of a run. They are few enough for a row, and their keys ascend.
 pub record IsReadable (z : Sizes) (u : TreeView) (base : ℕ) (note : Note) : Type 0 where
-  pub noted : IsIn note u.notes
+  pub noted : WasShown u note
   pub here : note.row ≡ base
   pub is_base : IsBaseNote z note
   pub few : count note.its ≤ 120
@@ -36,7 +50,7 @@ pub record IsAtCursor (z : Sizes) (note : Note) (cursor : Cursor) : Type 0 where
 
 -- The pass was shown the object row with these words.
 pub record IsObjectShown (u : TreeView) (row : ℕ) (its : List ℕ) : Type 0 where
-  pub shown : IsShown u row its
+  pub shown : IsRowShown u row its
   pub long : length its ≡ row_words
 
 -- all bytes that an object row has room for; the object's are the first of them

@@ -2,7 +2,7 @@
 ghost use Rattle.ca_node.specs.Layout.{items_word};
 ghost use Rattle.ca_node.specs.Row.{prefix as prefix_of};
 ghost use Rattle.ca_node.specs.TreeView.{Note};
-ghost use Rattle.ca_base.specs.Finding.{IsBaseShown};
+ghost use Rattle.ca_base.specs.Finding.{IsBaseSeen};
 ghost use Rattle.ca_rows.specs.Layout.{row_limit};
 ghost use Rattle.std.specs.Prelude.{◌≡◌, ℕ, List, [], ◌+◌, ◌-◌, ◌<◌, ◌≤◌, ◌++◌, length, take, drop, slice_index};
 ghost use Rattle.std.specs.List.{remove};
@@ -151,9 +151,9 @@ pub(crate) fn write_base_without(
 // The prefix of a base that lacks one of the target's objects: that of the target, or none where no object is left.
 fn keep_prefix(space: &TreeSpace, pass: &mut TreePass, target: &Target, into: &mut Prefix)
     requires reading { IsReading space.now pass.old }
-    requires shown { (note : Note) × IsBaseShown (sizes space.now) (tree_of pass.old) target.now.cursor.base note }
+    requires shown { (note : Note) × IsBaseSeen (sizes space.now) (tree_of pass.old) target.now.cursor.base note }
     ensures frame { OnlyReads pass.old pass.new }
-    ensures kept { 1 < target.now.many → (note : Note) → IsBaseShown (sizes space.now) (tree_of pass.old) target.now.cursor.base note
+    ensures kept { 1 < target.now.many → (note : Note) → IsBaseSeen (sizes space.now) (tree_of pass.old) target.now.cursor.base note
         → into.new.items ≡ prefix_of note.its }
     ensures none { target.now.many ≤ 1 → into.new.items ≡ [] }
 {

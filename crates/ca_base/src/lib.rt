@@ -4,6 +4,7 @@
 
 mod comparing;
 mod copying;
+mod lending;
 mod place;
 mod prefixes;
 mod reading;
@@ -18,6 +19,7 @@ mod target;
 mod updating;
 mod writing;
 
+pub use lending::retire_border;
 pub use place::search;
 pub use reading::{append, copy_object, count, item, statistic_word};
 pub use removing::remove_at;
@@ -28,4 +30,4 @@ pub use swapping::{STATISTIC, retire_unlinked};
 pub use taking::{give_back, take, take_two};
 pub use target::{Insertion, Keyed, Removal, Target};
 pub use updating::{Putting, put_at};
-pub use writing::{set_word, write_words};
+pub use writing::{set_word, write_bytes, write_words};

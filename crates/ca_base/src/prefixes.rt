@@ -3,7 +3,7 @@ ghost use Rattle.std.specs.Prelude.{◌≡◌, ℕ, ◌<◌, ◌≤◌, List, le
 ghost use Rattle.ca_model.specs.StoreMap.{bytes_cmp};
 ghost use Rattle.ca_node.specs.Row.{prefix as prefix_of, prefix_length};
 ghost use Rattle.ca_node.specs.TreeView.{Note};
-ghost use Rattle.ca_base.specs.Finding.{IsBaseShown};
+ghost use Rattle.ca_base.specs.Finding.{IsBaseSeen};
 ghost use Rattle.ca_base.specs.Writing.{HasBytes};
 ghost use Rattle.ca_base.specs.Prefixes.{AreShared, IsShift, IsTrimmed, reheaded};
 ghost use Rattle.ca_rows.specs.Passes.{OnlyReads, IsReading, sizes};
@@ -38,10 +38,10 @@ pub(crate) struct Trimmed<'a> {
 // How many bytes the prefix of a base has that the pass was shown.
 pub(crate) fn prefix_len(space: &TreeSpace, pass: &mut TreePass, base: u32) -> usize
     requires reading { IsReading space.now pass.old }
-    requires shown { (note : Note) × IsBaseShown (sizes space.now) (tree_of pass.old) base note }
+    requires shown { (note : Note) × IsBaseSeen (sizes space.now) (tree_of pass.old) base note }
     ensures frame { OnlyReads pass.old pass.new }
     ensures few { result ≤ 32 }
-    ensures len { (note : Note) → IsBaseShown (sizes space.now) (tree_of pass.old) base note → result ≡ prefix_length note.its }
+    ensures len { (note : Note) → IsBaseSeen (sizes space.now) (tree_of pass.old) base note → result ≡ prefix_length note.its }
 {
     (load_word(space, pass, base, 0) / PREFIX_LENGTH % 16_777_216) as usize
 }
@@ -57,11 +57,11 @@ pub(crate) fn compare_prefix(
     len: usize,
 ) -> Ordering
     requires reading { IsReading space.now pass.old }
-    requires shown { (note : Note) × IsBaseShown (sizes space.now) (tree_of pass.old) base note }
+    requires shown { (note : Note) × IsBaseSeen (sizes space.now) (tree_of pass.old) base note }
     requires front { HasBytes key.now front }
     requires few { len ≤ 32 }
     ensures frame { OnlyReads pass.old pass.new }
-    ensures order { (note : Note) → IsBaseShown (sizes space.now) (tree_of pass.old) base note → len ≡ prefix_length note.its
+    ensures order { (note : Note) → IsBaseSeen (sizes space.now) (tree_of pass.old) base note → len ≡ prefix_length note.its
         → result ≡ bytes_cmp (prefix_of note.its) (take len key.now) }
 {
     let stop = len.min(key.len());
@@ -79,9 +79,9 @@ pub(crate) fn compare_prefix(
 // Copies the prefix of a base that the pass was shown, a word at a time.
 pub(crate) fn copy_prefix(space: &TreeSpace, pass: &mut TreePass, base: u32, into: &mut Prefix)
     requires reading { IsReading space.now pass.old }
-    requires shown { (note : Note) × IsBaseShown (sizes space.now) (tree_of pass.old) base note }
+    requires shown { (note : Note) × IsBaseSeen (sizes space.now) (tree_of pass.old) base note }
     ensures frame { OnlyReads pass.old pass.new }
-    ensures prefix { (note : Note) → IsBaseShown (sizes space.now) (tree_of pass.old) base note → into.new.items ≡ prefix_of note.its }
+    ensures prefix { (note : Note) → IsBaseSeen (sizes space.now) (tree_of pass.old) base note → into.new.items ≡ prefix_of note.its }
 {
     let len = prefix_len(space, pass, base);
     into.clear();

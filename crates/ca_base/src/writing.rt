@@ -123,8 +123,8 @@ pub(crate) fn write_items(space: &TreeSpace, pass: &mut TreePass, row: u32, at: 
     }
 }
 
-// Writes bytes, from this word on.
-pub(crate) fn write_bytes(space: &TreeSpace, pass: &mut TreePass, row: u32, from: u32, bytes: &[u8])
+/// Writes bytes, eight a word, from this word on, with zeros behind their end to the end of the word.
+pub fn write_bytes(space: &TreeSpace, pass: &mut TreePass, row: u32, from: u32, bytes: &[u8])
     requires row { HoldsRow space.now pass.old row }
     requires inside { from + 125 ≤ row_words }
     requires short { length bytes.now ≤ 1000 }

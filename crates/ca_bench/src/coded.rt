@@ -1,7 +1,8 @@
 //! Objects of a load as a tree takes them.
-ghost use Rattle.std.specs.Prelude.{◌≡◌, ◌<◌, ◌≤◌, length};
+ghost use Rattle.std.specs.Prelude.{◌≡◌, ◌<◌, ◌≤◌, None, length};
 ghost use Rattle.ca_term.specs.Object.{is_object};
 ghost use Rattle.ca_term.specs.Tree.{IsTerm};
+ghost use Rattle.ca_replace.specs.Resting.{knows};
 
 use crate::player::BUDGET;
 use ca_model::{Code, Outcome};
@@ -34,7 +35,9 @@ impl Model for Coded {
 impl Coded {
     /// Whether a store has an object with this key; then `into` is that object.
     pub fn is_in(&self, store: &mut TreeStore<'_>, into: &mut Code) -> bool
-        ensures { store.new.z ≡ store.old.z }
+        requires closed { (knows store.old).run ≡ None }
+        ensures sizes { store.new.store.z ≡ store.old.store.z }
+        ensures closed { (knows store.new).run ≡ None }
     {
         let key = &self.code.as_slice()[self.key_at..self.key_end];
         store.get(key, into, BUDGET) == Outcome::Done(true)
@@ -42,23 +45,29 @@ impl Coded {
 
     /// Puts it.
     pub fn put_into(&self, store: &mut TreeStore<'_>) -> Outcome<()>
-        requires { store.old.z.keypos ≡ 1 }
-        ensures { store.new.z ≡ store.old.z }
+        requires sizes { store.old.store.z.keypos ≡ 1 }
+        requires closed { (knows store.old).run ≡ None }
+        ensures sizes { store.new.store.z ≡ store.old.store.z }
+        ensures closed { (knows store.new).run ≡ None }
     {
         store.put(self.code.as_slice(), self.key_at, self.key_end, BUDGET)
     }
 
     /// Puts it where the store has no object with its key.
     pub fn put_new_into(&self, store: &mut TreeStore<'_>) -> Outcome<bool>
-        requires { store.old.z.keypos ≡ 1 }
-        ensures { store.new.z ≡ store.old.z }
+        requires sizes { store.old.store.z.keypos ≡ 1 }
+        requires closed { (knows store.old).run ≡ None }
+        ensures sizes { store.new.store.z ≡ store.old.store.z }
+        ensures closed { (knows store.new).run ≡ None }
     {
         store.put_new(self.code.as_slice(), self.key_at, self.key_end, BUDGET)
     }
 
     /// Removes the object with this key, where the store has one. `into` is that object.
     pub fn remove_from(&self, store: &mut TreeStore<'_>, into: &mut Code) -> Outcome<bool>
-        ensures { store.new.z ≡ store.old.z }
+        requires closed { (knows store.old).run ≡ None }
+        ensures sizes { store.new.store.z ≡ store.old.store.z }
+        ensures closed { (knows store.new).run ≡ None }
     {
         let key = &self.code.as_slice()[self.key_at..self.key_end];
         store.remove(key, into, BUDGET)

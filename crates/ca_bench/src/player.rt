@@ -1,8 +1,9 @@
 //! A client of a tree that grows, which plays a mix of calls on objects of numbers.
-ghost use Rattle.std.specs.Prelude.{◌≡◌, IsTrue};
+ghost use Rattle.std.specs.Prelude.{◌≡◌, IsTrue, None};
 ghost use Rattle.ca_bench.specs.Numbers.{number_code};
 ghost use Rattle.ca_model.specs.Function.{StandsAt};
 ghost use Rattle.ca_model.specs.StoreMap.{IsPair};
+ghost use Rattle.ca_replace.specs.Resting.{knows};
 
 use crate::coded::Coded;
 use crate::draws::{Draws, even, skewed};
@@ -65,7 +66,8 @@ pub struct Player<'t> {
     full: u32,
     busy: u32,
     into: Code,
-    pub ghost first: { store.z.keypos ≡ 1 },
+    pub ghost first: { store.store.z.keypos ≡ 1 },
+    pub ghost closed: { (knows store).run ≡ None },
 }
 
 impl Drop for Player<'_> {
@@ -85,7 +87,8 @@ impl Drop for Player<'_> {
 impl<'t> Player<'t> {
     /// A client of this load. Clients of other numbers play in another order.
     pub fn new(store: TreeStore<'t>, load: Load<'t>, number: u32) -> Player<'t>
-        requires { store.z.keypos ≡ 1 }
+        requires first { store.store.z.keypos ≡ 1 }
+        requires closed { (knows store).run ≡ None }
     {
         Player {
             store,
@@ -282,8 +285,10 @@ fn counter_key(drawn: u32, count: u32, keys: u32) -> u32 {
 
 // Puts the object whose counter is one more in the place of the key's object.
 fn raise(store: &mut TreeStore<'_>, key: u32, old: &mut Code) -> Outcome<Changed>
-    requires { store.old.z.keypos ≡ 1 }
-    ensures { store.new.z ≡ store.old.z }
+    requires sizes { store.old.store.z.keypos ≡ 1 }
+    requires closed { (knows store.old).run ≡ None }
+    ensures sizes { store.new.store.z ≡ store.old.store.z }
+    ensures closed { (knows store.new).run ≡ None }
 {
     let write = |object: &[u8], into: &mut Code, at: &mut usize| -> bool
         ensures { IsTrue result → IsPair 1 (number_code key, into.new.items) × StandsAt (number_code key) into.new.items at.new }

@@ -33,7 +33,7 @@ below_it k c h less low = by (bytes_cmp c h) refl low
     by Greater is low = cc
 
 -- A key within a lower upper edge is within the other one.
-lower_within : (cut hi : Bound) (k : List ℕ) → IsLower cut hi → is_up_to cut k ≡ true → is_up_to hi k ≡ true
+pub lower_within : (cut hi : Bound) (k : List ℕ) → IsLower cut hi → is_up_to cut k ≡ true → is_up_to hi k ≡ true
 lower_within Unbounded hi k lower in_cut = absurd lower
 lower_within (Included c) Unbounded k lower in_cut = refl
 lower_within (Included c) (Included h) k lower in_cut = rw (not_above k c h in_cut (is_less _ lower)) refl

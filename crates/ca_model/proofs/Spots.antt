@@ -51,32 +51,35 @@ one_taken [] i h = absurd (omega arith)
 one_taken (q ∷ m) zero h = refl
 one_taken (q ∷ m) (suc i) h = let s : suc i + 1 ≡ suc (i + 1) = omega arith in rw s (ap (λ x. q ∷ x) (one_taken m i (omega arith)))
 
+-- Where a key stands, or would stand, is where the parts begin and end that edges at it give.
+pub edges_at : (p : ℕ) (m : StoreMap) (k : List ℕ) (i : ℕ) → IsStoreMap p m → IsAt m k i → ArePlaces m k i (i + 1)
+edges_at p m k i t place = record {
+  rising = omega arith;
+  inside = omega (arith, place.in_range);
+  from_it = from_parts p m k t ∙ rw (place.equal, place.greater) (one_more m i place.in_range);
+  past_it = place.greater;
+  up_to_it = up_to_parts p m k t ∙ rw (place.less, place.equal) (one_taken m i place.in_range);
+  before_it = place.less;
+}
+
+pub edges_before : (p : ℕ) (m : StoreMap) (k : List ℕ) (i : ℕ) → IsStoreMap p m → IsBefore m k i → ArePlaces m k i i
+edges_before p m k i t place = record {
+  rising = omega arith;
+  inside = place.in_range;
+  from_it = from_parts p m k t ∙ rw place.equal place.greater;
+  past_it = place.greater;
+  up_to_it = up_to_parts p m k t ∙ rw (place.less, place.equal) (append-nil (take i m));
+  before_it = place.less;
+}
+
 -- What a binary search by the keys answers gives the places of a key.
 pub places_at : (p : ℕ) (m : StoreMap) (k : List ℕ) (r : Result ℕ ℕ) (i : ℕ) → IsStoreMap p m → IsSearchInRange r (length m)
     → IsBinarySearchResult (λ q. bytes_cmp q.0 k) m r → r ≡ Ok i → ArePlaces m k i (i + 1)
-places_at p m k r i t b s e =
-    let place : IsAt m k i = subst (λ (x : Result ℕ ℕ). IsPlace m k x) e (searched p m k r t b s) in
-    record {
-      rising = omega arith;
-      inside = omega (arith, place.in_range);
-      from_it = from_parts p m k t ∙ rw (place.equal, place.greater) (one_more m i place.in_range);
-      past_it = place.greater;
-      up_to_it = up_to_parts p m k t ∙ rw (place.less, place.equal) (one_taken m i place.in_range);
-      before_it = place.less;
-    }
+places_at p m k r i t b s e = edges_at p m k i t (subst (λ (x : Result ℕ ℕ). IsPlace m k x) e (searched p m k r t b s))
 
 pub places_before : (p : ℕ) (m : StoreMap) (k : List ℕ) (r : Result ℕ ℕ) (i : ℕ) → IsStoreMap p m → IsSearchInRange r (length m)
     → IsBinarySearchResult (λ q. bytes_cmp q.0 k) m r → r ≡ Err i → ArePlaces m k i i
-places_before p m k r i t b s e =
-    let place : IsBefore m k i = subst (λ (x : Result ℕ ℕ). IsPlace m k x) e (searched p m k r t b s) in
-    record {
-      rising = omega arith;
-      inside = place.in_range;
-      from_it = from_parts p m k t ∙ rw place.equal place.greater;
-      past_it = place.greater;
-      up_to_it = up_to_parts p m k t ∙ rw (place.less, place.equal) (append-nil (take i m));
-      before_it = place.less;
-    }
+places_before p m k r i t b s e = edges_before p m k i t (subst (λ (x : Result ℕ ℕ). IsPlace m k x) e (searched p m k r t b s))
 
 -- Each pair of a store map is an object under its key.
 pub pair_there : (p : ℕ) (m : StoreMap) (i : ℕ) → IsStoreMap p m → i < length m → IsPair p (get_or m i nothing)

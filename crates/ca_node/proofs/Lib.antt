@@ -1,3 +1,4 @@
+mod ChainLength
 pub mod Copying
 pub mod Deciding
 pub mod Divided
@@ -12,6 +13,7 @@ pub mod Holding
 pub mod KeyOrder
 pub mod LastTrees
 pub mod Listing
+pub mod LentOver
 pub mod Logs
 pub mod Looking
 pub mod Marks
@@ -29,7 +31,7 @@ pub mod Rebased
 pub mod Remembering
 pub mod RouteWords
 pub mod Runs
-mod SideBySide
+mod SameNotes
 pub mod Tallies
 pub mod Turned
 pub mod Updating

@@ -30,10 +30,10 @@ use Rattle.ca_node.specs.Standing.{mark_of}
 use Rattle.ca_node.specs.Stays.{word_at, row_long}
 use Rattle.ca_node.specs.May.{MayLoad}
 use Rattle.ca_node.specs.Notes.{IsBaseNote}
-use Rattle.ca_node.specs.Told.{MyTree, with_upper, IsRouteNote, IsKnown, IsMissed, IsKnownLink, IsAnyLink, IsPlaceOf, come_to, come_at, led_to_base, led_to_route, IsLedToBase, IsLedToRoute, IsLed, Leads, IsOfNote, IsShown, IsShownRoute, IsShownOfRange, IsRead, Reads, entered, ReadsLast, Refuses, IsRise, one_more_lost}
+use Rattle.ca_node.specs.Told.{MyTree, with_upper, IsRouteNote, IsKnown, IsMissed, IsKnownLink, IsAnyLink, IsPlaceOf, come_to, come_at, led_to_base, led_to_route, IsLedToBase, IsLedToRoute, IsLed, Leads, IsOfNote, IsShown, IsShownRoute, IsShownOfRange, IsRead, Reads, entered, ReadsLast, Refuses, IsRise, PassesOn, passed_on, one_more_lost}
 use Rattle.ca_node.specs.States.{IsAlone, IsReadSince}
 use Rattle.ca_node.specs.Tree.{StartsWith, ArePast, IsLinkOfView, IsFixed, IsTrue, IsTrueWay, Knows, IsTree}
-use Rattle.ca_node.specs.TreeView.{Note, Way, Border, Inventory, KnownRanges, Turns, TreeView}
+use Rattle.ca_node.specs.TreeView.{Note, Way, Border, Inventory, KnownRanges, Turns, TreeView, one_passed}
 use Rattle.ca_node.proofs.Logs.{last_state, state_stays, read_lawful, past_more}
 use Rattle.ca_rows.specs.Layout.{row_words}
 use Rattle.ca_node.specs.Layout.{root_word, sequence_unit}
@@ -770,18 +770,18 @@ module _ (z : Sizes) where
 
   -- A load after which the seat counts otherwise, and knows what it knew.
   pub recounted : (s : State (Unit {0}) (View TreeView)) (r : R z s) (i id : ℕ) (d : View TreeView)
-      (counts : Counts) (lost : ℕ)
+      (counts : Counts) (turns : Turns)
       → get_elem? s.views id ≡ some d
       → R z record {
         words = set s.words i (get_or s.words i 0);
         homes = s.homes;
         views = set s.views id
-            (record d { upper = record d.upper { counts = counts; lost = lost } });
+            (record d { upper = record d.upper { counts = counts; turns = turns } });
       }
-  recounted s r i id d counts lost at = let f = r.above in
+  recounted s r i id d counts turns at = let f = r.above in
       let us : List TreeView = map upper_of s.views in
       let first = at_map upper_of s.views id d at in
-      let u' : TreeView = record d.upper { counts = counts; lost = lost } in
+      let u' : TreeView = record d.upper { counts = counts; turns = turns } in
       let k = relisted z.rows r.made s.words f.role us (set us id u') f.history id d.upper
       (numbered us id d.upper u' first (λ _. refl))
       (knows_upper z s r id d at) in
@@ -853,6 +853,17 @@ module _ (z : Sizes) where
     record d { upper = record d.upper { counts = one_more d.upper.counts } },
     keeps,
     tt,
-    recounted s r i id d (one_more d.upper.counts) d.upper.lost at,
+    recounted s r i id d (one_more d.upper.counts) d.upper.turns at,
     (refl, inr (inr (inr (inl (one_more, rise, refl)))), refl),
+  )
+
+  -- A load by which the seat passes on.
+  pub passes_on : (slots id : ℕ) (me : MyTree) (i : ℕ) → Allows (R z) slots id me i
+      (λ x. x) (Raises MayLoad PassesOn (step slots i 0 0 none) me)
+  passes_on slots id me i s r _ at _ = let d = me.0 in (
+    record d { upper = passed_on d.upper },
+    keeps,
+    tt,
+    recounted s r i id d d.upper.counts (one_passed d.upper.turns) at,
+    (refl, inr (inr (inr (inr (inr (inr refl))))), refl),
   )

@@ -38,6 +38,8 @@ use Rattle.ca_node.proofs.Looking.{R, knows_upper, knows_ranges, in_more, whole,
 use Rattle.ca_node.proofs.OwnEnding.{few, goes, over_else, quiet_else, end_step}
 use Rattle.ca_node.proofs.OwnWord.{result_here}
 use Rattle.ca_node.proofs.Runs.{run, run_trues, run_bases, run_shown, on_chain}
+use Rattle.ca_node.proofs.SameNotes.{same_notes}
+use Rattle.ca_node.proofs.ChainLength.{few_chained}
 
 module _ (z : Sizes) (s : State (Unit {0}) (View TreeView)) (r : R z s) (id : ℕ) (me : MyTree) (at : get_elem? s.views id ≡ some me.0)
     (begun : Begun) (border : Border) where
@@ -178,6 +180,11 @@ module _ (z : Sizes) (s : State (Unit {0}) (View TreeView)) (r : R z s) (id : �
         shown = shown_now;
         bases = sized z s r id me at (λ y. (note : Note) → IsIn note the_run → IsBaseNote y note)
             (run_bases z r.made s.words (map upper_of s.views) r.above pass begun.number last.row now base_is marked);
+        few = sized z s r id me at (λ y. length the_run ≤ y.rows) (few_chained z.rows s.words role the_run last.row shown_now.chained
+            (λ note i. (run_base note i).0));
+        alike = λ note old i was same. same_notes z.rows s.words role note old
+            (run_bases z r.made s.words (map upper_of s.views) r.above pass begun.number last.row now base_is marked note i).is_base
+            (run_base note i).0 ((knows_upper z s r id me.0 at).notes old was) same;
       };
       high_is = run_now.1 ∙ ap (λ q. (span_of q).high) stands;
       now = refl;

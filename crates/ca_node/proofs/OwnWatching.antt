@@ -28,6 +28,8 @@ use Rattle.ca_node.specs.TreeView.{Note, Border, Begun, Ranging, Quiet, Unmarked
 use Rattle.ca_node.proofs.Looking.{R, looked, knows_upper, knows_ranges, in_more, whole, since_whole, past_whole, known_now, sized}
 use Rattle.ca_node.proofs.OwnDeciding.{own_there}
 use Rattle.ca_node.proofs.OwnEnding.{over_else}
+use Rattle.ca_node.proofs.SameNotes.{same_notes}
+use Rattle.ca_node.proofs.ChainLength.{few_chained}
 
 module _ (z : Sizes) (s : State (Unit {0}) (View TreeView)) (r : R z s) (id : ℕ) (me : MyTree) (at : get_elem? s.views id ≡ some me.0)
     (is_pinned : me.0.pin.pinned ≡ true) (is_pass : 0 < me.0.upper.number) (most : me.0.upper.number ≤ 64) (word_at : ℕ)
@@ -148,6 +150,9 @@ module _ (z : Sizes) (s : State (Unit {0}) (View TreeView)) (r : R z s) (id : �
           shown = subst (λ (h : History). objects_of was.notes ≡ within was.run.low was.run.high (state h was.run.at)) (whole z s r id me at) was.run.shown;
         };
         bases = sized z s r id me at (λ y. (note : Note) → IsIn note was.notes → IsBaseNote y note) was.bases;
+        few = sized z s r id me at (λ y. length was.notes ≤ y.rows) (few_chained z.rows s.words role was.notes was.last was.run.chained was.trues);
+        alike = λ note old i seen same. same_notes z.rows s.words role note old (was.bases note i).is_base (was.trues note i)
+            ((knows_upper z s r id me.0 at).notes old seen) same;
       };
       whole = was.whole;
       now = refl;
@@ -196,5 +201,5 @@ module _ (z : Sizes) where
         keeps,
         tt,
         t.1,
-        (refl, inr (inr (inr (inr (inr told)))), told),
+        (refl, inr (inr (inr (inr (inr (inl told))))), told),
       )

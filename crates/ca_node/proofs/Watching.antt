@@ -27,7 +27,6 @@ use Rattle.ca_node.specs.May.{MayLoad}
 use Rattle.ca_node.specs.Told.{MyTree, with_upper, over_by, watched, HasWatched, Watches, status_word}
 use Rattle.ca_node.specs.TreeView.{Note, Border, Ranging, Quiet, Unmarked, Marking, Left, TreeView}
 use Rattle.ca_node.proofs.Listing.{in_either, in_back}
-use Rattle.ca_node.proofs.SideBySide.{few_notes}
 use Rattle.ca_node.proofs.Looking.{R, knows_upper, knows_ranges, in_more}
 
 -- The ranges are over that are so by the word: the last one is active where the word is this number.
@@ -166,9 +165,6 @@ module _ (z : Sizes) where
           own = λ active whose quiet. subst (λ (x : Ranging). IsSoFar z s.words f.role (f.ranged.ends d.upper.number) d.upper.since f.history
               d.upper.number d.upper.ranges.borders x) quiet (known.own (subst (λ (p : ℕ). 0 < p) whose lo)) (word / sequence_unit)
               (subst (λ (p : ℕ). IsActive s.words p (word / sequence_unit)) whose (lo, hi, same ∙ omega arith));
-          few = λ active notes shown side. subst (λ (y : Sizes). length notes ≤ y.rows) (sym sized) (few_notes z f.role notes
-              (λ note i. let has = shown note i in let t = mine.notes note has.0 in
-              ((t.marks pass (word / sequence_unit) has.1).1 (lo, hi, same ∙ omega arith), t.some_row, t.in_range)) side);
         },
       ) in (
         record d { upper = u' },

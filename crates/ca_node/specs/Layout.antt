@@ -13,12 +13,15 @@ sequence_unit = 67108864
 abbrev pub form_unit : ℕ
 form_unit = 72057594037927936
 
--- the form of an object row, and that of a base row
+-- the form of an object row, that of a base row, and that of a row which says up to where a range goes
 abbrev pub object_form : ℕ
 object_form = 1
 
 abbrev pub base_form : ℕ
 base_form = 2
+
+abbrev pub border_form : ℕ
+border_form = 4
 
 -- the first word of a row with an object's bytes, with the bytes of a route's key, with those of a base's prefix, with a base's items
 abbrev pub code_word : ℕ

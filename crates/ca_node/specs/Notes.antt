@@ -1,11 +1,9 @@
 -- What a note on a base of a tree says of it.
-use Rattle.std.specs.Prelude.{◌≡◌, ℕ, ◌<◌, ◌≤◌, List, [], ◌∷◌, length}
-use Rattle.ca_model.specs.Edges.{Excluded}
+use Rattle.std.specs.Prelude.{◌≡◌, ℕ, ◌<◌, ◌≤◌, List, length}
 use Rattle.ca_rows.specs.Layout.{row_words}
 use Rattle.ca_rows.specs.declared.sizes.Sizes.{Sizes}
 use Rattle.ca_node.specs.Links.{IsIn}
 use Rattle.ca_node.specs.Marks.{IsMark}
-use Rattle.ca_node.specs.Place.{HasKey}
 use Rattle.ca_node.specs.Row.{IsObjectRow, IsBaseRow, count, level, items, IsHeaded}
 use Rattle.ca_node.specs.TreeView.{Note}
 
@@ -25,9 +23,3 @@ pub record IsBaseNote (z : Sizes) (note : Note) : Type 0 where
   pub as_many : length note.objects ≡ length (items note.its)
   pub objects_long : (its : List ℕ) → IsIn its note.objects → (length its ≡ row_words) × IsObjectRow its
   pub headed : IsHeaded note.its note.objects
-
--- The notes are on bases side by side, from the last one on: each has the key where the keys of the next one in the list end.
-abbrev pub AreSideBySide : List Note → Type 0
-AreSideBySide [] = Unit {0}
-AreSideBySide (note ∷ []) = Unit {0}
-AreSideBySide (note ∷ left ∷ notes) = ((key : List ℕ) × (left.place.span.high ≡ Excluded key) × HasKey note.place.span key) × AreSideBySide (left ∷ notes)

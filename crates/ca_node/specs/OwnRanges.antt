@@ -1,5 +1,5 @@
 -- What a pass does with its own range: it begins it, looks how far it is, decides it, or gives it up.
-use Rattle.std.specs.Prelude.{◌≡◌, ◌≢◌, ◌⊎◌, Bool, true, false, ℕ, ◌+◌, ◌/◌, ◌%◌, ◌<◌, List, ◌∷◌, ◌++◌}
+use Rattle.std.specs.Prelude.{◌≡◌, ◌≢◌, ◌⊎◌, Bool, true, false, ℕ, ◌+◌, ◌/◌, ◌%◌, ◌<◌, ◌≤◌, List, ◌∷◌, ◌++◌, length}
 use mathlib.Core.Option.{some}
 use Rattle.atomic_table.specs.Table.{Step}
 use Rattle.ca_model.specs.History.{History}
@@ -35,10 +35,13 @@ Opens begun st m n m' = IsOpening m begun × (m' ≡ with_upper m (opened begun 
 abbrev pub ended_with_run : ℕ → ℕ → List Note → KnownRanges → KnownRanges
 ended_with_run pass number run ranges = record ranges { over = over_up_to pass number ∷ ranges.over; own = Quiet; run = run }
 
--- The run of the seat's range was shown, which ends with this row: it has what a state since the pin has, one that the seat has seen.
+-- The run of the seat's range was shown, which ends with this row: it has what a state since the pin has, one that the seat has seen. A base of it that was
+-- shown before has the words that it had. They are no more than there are rows.
 pub record IsRunSeen (m : MyTree) (more : History) (begun : Begun) (last : ℕ) (run : List Note) : Type 0 where
   pub shown : IsRunShown m.0.upper.since (m.0.upper.seen ++ more) begun.edge last run
   pub bases : 0 < m.0.sizes.rows → (note : Note) → IsIn note run → IsBaseNote m.0.sizes note
+  pub few : 0 < m.0.sizes.rows → length run ≤ m.0.sizes.rows
+  pub alike : (note old : Note) → IsIn note run → IsIn old m.0.upper.notes → old.row ≡ note.row → (note.its ≡ old.its) × (note.objects ≡ old.objects)
 
 -- The word of the seat's own range was loaded. Where something was marked for it and it isn't active any more, another one has decided it: its run is shown,
 -- and it has all keys up to where the range goes.

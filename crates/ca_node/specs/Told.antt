@@ -21,7 +21,7 @@ use Rattle.ca_node.specs.declared.link.Link.{Link}
 use Rattle.ca_node.specs.declared.link.Link.TheVariants as link
 use Rattle.ca_node.specs.declared.range_state.RangeState.{RangeState}
 use Rattle.ca_node.specs.declared.range_state.RangeState.TheVariants.{Idle, Active, Decided}
-use Rattle.ca_node.specs.Notes.{IsBaseNote, AreSideBySide}
+use Rattle.ca_node.specs.Notes.{IsBaseNote}
 use Rattle.ca_node.specs.Place.{Span, all_keys, left_of, right_of, HasKey, Place, left_place, right_place, edit_key}
 use Rattle.ca_node.specs.Row.{IsObjectRow, IsBaseRow, IsRouteRow, IsBorderRow, count, level, items, mark, mark_owner, mark_number, mark_bound, IsMarkedBy, IsUnmarked, IsIdle, key, route_key, pair, IsHeaded}
 use Rattle.ca_node.specs.States.{HasState, IsAlone, IsReadAt}
@@ -209,10 +209,6 @@ pub record HasWatched (pass : ℕ) (m : MyTree) (n : ℕ) (m' : MyTree) : Type 0
   -- A range that is active is one of a pass of the space. The seat's own is active only where it began one.
   pub made : n % sequence_unit ≡ row_limit → pass ≤ m.0.sizes.passes
   pub own : n % sequence_unit ≡ row_limit → pass ≡ m.0.upper.number → m.0.upper.ranges.own ≢ Quiet
-  -- Such bases that stand side by side are no more than there are rows.
-  pub few : n % sequence_unit ≡ row_limit → (notes : List Note)
-      → ((note : Note) → IsIn note notes → IsIn note m.0.upper.notes × IsMarkedBy note.its pass (n / sequence_unit)) → AreSideBySide notes
-      → length notes ≤ m.0.sizes.rows
 
 abbrev pub Watches : Step (Unit {0}) → MyTree → ℕ → MyTree → Type 0
 Watches st m n m' = (pass : ℕ) × (0 < pass) × (st.word ≡ status_word m.0.sizes pass) × HasWatched pass m n m'
@@ -458,6 +454,14 @@ IsRise rise = (why : Cause) × (rise ≡ one_more why)
 -- A word was loaded as a call was refused, and the call is counted so.
 abbrev pub Refuses : (Counts → Counts) → Step (Unit {0}) → MyTree → ℕ → MyTree → Type 0
 Refuses rise st m n m' = m' ≡ with_upper m (record m.0.upper { counts = rise m.0.upper.counts })
+
+-- what a seat knows that passed on to another place
+abbrev pub passed_on : TreeView → TreeView
+passed_on u = record u { turns = one_passed u.turns }
+
+-- A word was loaded as the seat passed on, which is counted.
+abbrev pub PassesOn : Step (Unit {0}) → MyTree → ℕ → MyTree → Type 0
+PassesOn st m n m' = m' ≡ with_upper m (passed_on m.0.upper)
 
 -- what a front knows: the history that the pass has seen
 abbrev pub front_of : TreeView → TreeView

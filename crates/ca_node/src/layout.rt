@@ -22,10 +22,16 @@ pub const BASE: u64 = 2 << 56;
 /// A route.
 pub const ROUTE: u64 = 3 << 56;
 
-/// The form of an object row, and that of a base row, as numbers: so it is noted of a row that is kept what it was.
+/// A row that says up to where a range goes.
+pub const BORDER: u64 = 4 << 56;
+
+/// The form of an object row, that of a base row, and that of a row which says up to where a range goes, as numbers: so it is noted of a row that is kept
+/// what it was.
 pub const OBJECT_FORM: u32 = (OBJECT / FORM) as u32;
 
 pub const BASE_FORM: u32 = (BASE / FORM) as u32;
+
+pub const BORDER_FORM: u32 = (BORDER / FORM) as u32;
 
 /// The first word of an object's bytes.
 pub const CODE: u32 = 1;

@@ -11,6 +11,7 @@ mod layout;
 mod link;
 mod marking;
 mod own_ranges;
+mod passing;
 mod plays;
 mod range_state;
 mod ranges;
@@ -26,11 +27,13 @@ pub use exchange::{divide_base, replace_base};
 pub use handed::Front;
 pub use handing::{front, learn};
 pub use layout::{
-    BASE, BASE_FORM, CODE, ITEMS, KEY, OBJECT, OBJECT_FORM, PREFIX, PREFIX_LENGTH, ROUTE,
+    BASE, BASE_FORM, BORDER, BORDER_FORM, CODE, ITEMS, KEY, OBJECT, OBJECT_FORM, PREFIX,
+    PREFIX_LENGTH, ROUTE,
 };
 pub use link::Link;
 pub use marking::{mark_first, mark_next};
 pub use own_ranges::{abort_own, decide_own, leave_range, load_own_status, open_range};
+pub use passing::pass_on;
 pub use plays::{Finishing, Intent, Marking, Owning, Plan};
 pub use range_state::RangeState;
 pub use ranges::{decide_for, load_status};

@@ -19,7 +19,8 @@ use ca_rows::ROW_LIMIT;
 pub fn load_own_status(space: &TreeSpace, pass: &mut TreePass) -> RangeState
     requires owner { IsOwner space.now pass.old }
     ensures frame { KeepsList pass.old pass.new }
-    ensures found { (word : ℕ) × (result ≡ status_of word) × IsFoundSo (known pass.old) word (known pass.new) (tree_of pass.old).ranges.own }
+    ensures found { (word : ℕ) × (result ≡ status_of word) × IsFoundSo (known pass.old) word (known pass.new) (tree_of pass.old).ranges.own
+        × (word < 18446744073709551616) }
 {
     let word = status_word_of(space, pass.number());
     state_of(space.load::<WatchOwn>(pass, word))

@@ -4,7 +4,7 @@ ghost use Rattle.ca_node.specs.Copies.{Copy, no_copy, Copies, marking_now};
 ghost use Rattle.ca_node.specs.Endings.{Helps};
 ghost use Rattle.ca_node.specs.OwnRanges.{Opens, WatchesOwn, DecidesOwn, Aborts, Leaves};
 ghost use Rattle.ca_node.specs.Row.{mark_bound};
-ghost use Rattle.ca_node.specs.Told.{Leads, Reads, Watches, Update, Updates, no_update, Divides, no_division, front_of, learnt};
+ghost use Rattle.ca_node.specs.Told.{Leads, PassesOn, Reads, Watches, Update, Updates, no_update, Divides, no_division, front_of, learnt};
 ghost use Rattle.ca_node.specs.TreeView.{blank, no_note, no_border, none_begun, Note, Border, Begun, Division};
 ghost use Rattle.ca_rows.specs.Closed.{joined};
 ghost use Rattle.ca_rows.specs.Rule.{fresh, no_sizes};
@@ -40,6 +40,13 @@ pub struct Watch;
 
 impl Play<(), View<Knowledge>> for Watch {
     ghost then = { Watches };
+}
+
+/// A load by which a pass goes on to another place.
+pub struct PassOn;
+
+impl Play<(), View<Knowledge>> for PassOn {
+    ghost then = { PassesOn };
 }
 
 /// Which base a step marks for a range: the copy that takes its place, the range as it was begun and the words of the row that says up to where it goes, and

@@ -1,5 +1,5 @@
 -- A copy that was written takes a base's place.
-use Rattle.std.proofs.Common.{◌≡◌, ℕ, ◌<◌, ◌≤◌, true, List, [], ◌∷◌, length, sym, refl, ap, ◌∙◌, subst, inl, inr, ⊎_elim, arith}
+use Rattle.std.proofs.Common.{◌≡◌, ℕ, ◌<◌, ◌≤◌, true, List, [], ◌∷◌, length, sym, refl, ap, ◌∙◌, subst, inl, inr, arith}
 use mathlib.Core.Option.{some, none}
 use Rattle.ca_node.specs.Copies.{Copy, IsCopy, IsCopied, IsNextCopy, copied, copy_note}
 use Rattle.ca_base.specs.Finding.{IsBaseShown}
@@ -7,13 +7,13 @@ use Rattle.ca_node.specs.Laws.{in_nothing}
 use Rattle.ca_node.specs.Links.{IsIn}
 use Rattle.ca_node.specs.Notes.{IsBaseNote}
 use Rattle.ca_node.specs.Row.{mark_owner, mark_number}
-use Rattle.ca_node.specs.Told.{MyTree, IsSettled, IsLastThere, given, with_upper}
-use Rattle.ca_node.specs.TreeView.{KnownRanges, Note, TreeView}
+use Rattle.ca_node.specs.Told.{MyTree, IsSettled, IsLastThere, given, taken_out, with_upper}
+use Rattle.ca_node.specs.TreeView.{KnownRanges, Note, Ranging, TreeView}
 use Rattle.ca_node.proofs.HeldRows.{given_fewer, taken_out_more}
-use Rattle.ca_node.proofs.Looking.{in_more}
 use Rattle.ca_base.specs.Putting.{first_note, words_of}
-use Rattle.ca_base.specs.Taking.{AreHeld, AreUnlinked}
+use Rattle.ca_base.specs.Taking.{AreHeld, HasUnlinked, AreUnlinked, lent_of}
 use Rattle.ca_base.proofs.Rebasing.{last_there}
+use Rattle.ca_base.proofs.Rest.{is_one}
 use Rattle.ca_base.proofs.Unlinking.{few_at_once, unlinked_then}
 use Rattle.ca_rows.specs.Claims.{claim_of}
 use Rattle.ca_rows.specs.declared.kept.KeptRows.{KeptRows}
@@ -29,23 +29,19 @@ pub shown_still : (z : Sizes) (m m' : MyTree) (base : ℕ) → m'.0.upper ≡ m.
     → IsBaseShown z m'.0.upper base (first_note m.0.upper.notes)
 shown_still z m m' base same shown = subst (λ (u : TreeView). IsBaseShown z u base (first_note m.0.upper.notes)) (sym same) shown
 
--- What is in a list of one row is that row.
-is_one : (r row : ℕ) → IsIn r (row ∷ []) → row ≡ r
-is_one r row i = ⊎_elim (λ (e : row ≡ r). e) (λ (j : IsIn r []). absurd (in_nothing r [] refl j)) (in_more row r [] i)
-
 -- After the exchange the old base is unlinked, and the pass has no other row.
 pub copied_rows : (rows : ℕ) (kept kept' : KeptRows) (m m' : MyTree) (ranges : KnownRanges) (new : ℕ) (x : Copy) (base : ℕ) → x.old.row ≡ base
-    → IsCopied [] ranges new x m m' → kept' ≡ kept → AreHeld rows kept.rows m.0 (new ∷ []) → AreUnlinked rows kept'.rows m'.0 (base ∷ [])
-copied_rows rows kept kept' m m' ranges new x base same d too h =
+    → ranges.own ≡ m.0.upper.ranges.own → IsCopied [] ranges new x m m' → kept' ≡ kept → AreHeld rows kept.rows m.0 (new ∷ []) → AreUnlinked rows kept'.rows m'.0 (base ∷ [])
+copied_rows rows kept kept' m m' ranges new x base same own d too h =
     let comes : List ℕ = new ∷ [] in let goes : List ℕ = x.old.row ∷ [] in
-    let then = unlinked_then rows kept.rows m.0.claims comes goes h.0
+    let then = unlinked_then rows kept.rows m.0.claims (lent_of m.0.upper.ranges.own) comes goes h.0
     (λ r i. subst (λ (y : ℕ). claim_of m.0.claims y ≡ none) (is_one r x.old.row i) d.unclaimed) in
     let came = given_fewer comes m.0.claims (in_nothing new [] refl, tt) (λ r i. let own = (h.0.each r i).2 in (own.0, own.2)) in
     let went = taken_out_more goes (given comes m.0.claims) in
     let before = h.1.now in let ever = h.1.ever in
     let now = subst (λ (y : MyTree × KeptRows). AreUnlinked rows y.1.rows y.0.0 goes)
     (λ i. (sym d.now i, sym too i)) (
-      then,
+      subst (λ (r : Ranging). HasUnlinked rows kept.rows (taken_out goes (given comes m.0.claims)) (lent_of r) goes) (sym own) then,
       record {
         now = omega arith;
         ever = few_at_once goes (given comes m.0.claims) m.0.most ever (omega arith);
@@ -101,7 +97,7 @@ module _ (z : Sizes) (m0 m : MyTree) (row base : ℕ) (its : List ℕ) (mark : M
   }
 
   -- What a note on it says.
-  is_note : IsBaseNote z note → 0 < row → row ≤ z.rows → 0 < mark.range.owner → mark.range.owner ≤ 64 → IsBaseNote z (copy_note row copy)
+  pub is_note : IsBaseNote z note → 0 < row → row ≤ z.rows → 0 < mark.range.owner → mark.range.owner ≤ 64 → IsBaseNote z (copy_note row copy)
   is_note is lo hi owner less = record {
     some_row = lo;
     in_range = hi;
@@ -127,6 +123,7 @@ module _ (z : Sizes) (m0 m : MyTree) (row base : ℕ) (its : List ℕ) (mark : M
     is_base = is_note shown.is_base lo hi owner less;
     marked = spells.marked;
     bound_is = spells.bound_is;
+    back_is = spells.back_is;
     statistic_is = spells.statistic_is;
     now = e ∙ λ i. copied [] (upper i).ranges row (same i) (upper i);
   }

@@ -10,6 +10,7 @@ use Rattle.ca_model.specs.Edges.{Bound, Unbounded, Included, Excluded, is_from, 
 use Rattle.ca_model.specs.StoreMap.{bytes_cmp}
 use Rattle.ca_base.specs.Putting.{first_note}
 use Rattle.ca_node.specs.Layout.{key_word}
+use Rattle.ca_node.specs.Place.{HasKey}
 use Rattle.ca_node.specs.Row.{bytes_in, count, route_key}
 use Rattle.ca_node.specs.TreeView.{TreeView}
 use Rattle.ca_node.specs.Walking.{IsHighRoute}
@@ -101,12 +102,16 @@ goes_past z v r (Included high) key bytes short h up = absurd (never_last z v r 
 goes_past z v r (Excluded high) key bytes short h up = let k = high_key z v r (Excluded high) high h refl in
     rank_rises 1000 key high short k.1 bytes k.0 (is_less (bytes_cmp key high) up)
 
--- So the next base goes farther.
-pub next_farther : (z : Sizes) (range : Range) (left next : Cursor) (u v : TreeView) → IsAtLast z u left → IsBefore z range next u v → reach u < reach v
-next_farther z range left next u v at b = let k = high_key z u left.high (first_note u.notes).place.span.high b.key at.high b.ends in
+-- So the next base goes farther, which has the key where the other one ends.
+pub key_farther : (z : Sizes) (left next : Cursor) (u v : TreeView) (key : List ℕ) → IsAtLast z u left → IsAtLast z v next
+    → (first_note u.notes).place.span.high ≡ Excluded key → HasKey (first_note v.notes).place.span key → reach u < reach v
+key_farther z left next u v key at there ends has = let k = high_key z u left.high (first_note u.notes).place.span.high key at.high ends in
     let span = (first_note v.notes).place.span in
-    subst (λ (x : Bound). reach_to x < reach v) (sym b.ends)
-    (goes_past z v next.high span.high b.key k.0 k.1 b.at.high (has_high (is_from span.low b.key) (is_up_to span.high b.key) b.has))
+    subst (λ (x : Bound). reach_to x < reach v) (sym ends)
+    (goes_past z v next.high span.high key k.0 k.1 there.high (has_high (is_from span.low key) (is_up_to span.high key) has))
+
+pub next_farther : (z : Sizes) (range : Range) (left next : Cursor) (u v : TreeView) → IsAtLast z u left → IsBefore z range next u v → reach u < reach v
+next_farther z range left next u v at b = key_farther z left next u v b.key at b.at b.ends b.has
 
 -- No base goes farther than all keys.
 pub far_inside : (z : Sizes) (u : TreeView) (cursor : Cursor) → IsAtLast z u cursor → reach u ≤ room 1000

@@ -1,9 +1,9 @@
 -- A pass is ready still after steps that only raised what it knows of the tree.
 use Rattle.std.proofs.Common.{◌≡◌, ℕ, ◌<◌, [], sym, ap, ◌∙◌, subst}
 use Rattle.ca_base.specs.Readiness.{IsReady, StaysReady}
-use Rattle.ca_base.specs.Taking.{AreHeld}
+use Rattle.ca_base.specs.Taking.{AreHeld, HasHeld, lent_of}
 use Rattle.ca_node.specs.Told.{MyTree, with_upper}
-use Rattle.ca_node.specs.TreeView.{TreeView}
+use Rattle.ca_node.specs.TreeView.{Ranging, TreeView}
 use Rattle.ca_node.proofs.Tallies.{tallied_still}
 use Rattle.ca_rows.specs.Calls.{IsNumbered}
 use Rattle.ca_rows.specs.Passes.{KeepsList, OnlyReads}
@@ -21,8 +21,11 @@ module _ {R : Type 0} (space : Space R TreeView) (pass new : Pass R TreeView) wh
     numbered = subst (λ (p : ℕ × Pin). IsNumbered p.0 p.1) (λ i. (sym k.number i, sym (ap (λ (x : MyTree). x.0.pin) raised) i)) r.numbered;
     pinned = ap (λ (x : MyTree). x.0.pin.pinned) raised ∙ r.pinned;
     number = subst (λ (n : ℕ). 0 < n) (sym (ap (λ (u : TreeView). u.number) steps.only)) r.number;
-    none = subst (λ (x : MyTree × KeptRows). AreHeld space.table.shared.key.rows x.1.rows x.0.0 []) (λ i. (sym raised i, sym k.kept i))
-        (r.none.0, record { now = r.none.1.now; ever = r.none.1.ever });
+    none = subst (λ (x : MyTree × KeptRows). AreHeld space.table.shared.key.rows x.1.rows x.0.0 []) (λ i. (sym raised i, sym k.kept i)) (
+      subst (λ (own : Ranging). HasHeld space.table.shared.key.rows pass.kept.rows pass.seat.me.0.claims (lent_of own) [])
+          (sym (ap (λ (u : TreeView). u.ranges.own) steps.only)) r.none.0,
+      record { now = r.none.1.now; ever = r.none.1.ever },
+    );
   }
 
   -- So it is after a step that leaves it ready.

@@ -29,11 +29,11 @@ use Rattle.ca_range.specs.Staying.{IsCounted, OnlySteps, with_steps_of}
 use Rattle.ca_range.specs.declared.account.Range.{Range}
 
 -- None is one of them.
-none_more : (u : TreeView) → (more : History) × (u.seen ≡ u.seen ++ more)
+pub none_more : (u : TreeView) → (more : History) × (u.seen ≡ u.seen ++ more)
 none_more u = ([], sym (append-nil u.seen))
 
 -- A history is known still where neither the log nor what was seen is another one.
-known_same : (z : Sizes) (u v : TreeView) → v.number ≡ u.number → v.seen ≡ u.seen → v.log ≡ u.log → IsKnown z u → IsKnown z v
+pub known_same : (z : Sizes) (u v : TreeView) → v.number ≡ u.number → v.seen ≡ u.seen → v.log ≡ u.log → IsKnown z u → IsKnown z v
 known_same z u v n s l k = record {
   lawful = subst (λ (x : TreeView). IsLawful x.number x.seen x.log) (λ i. record u { number = sym n i; seen = sym s i; log = sym l i }) k.lawful;
   past = subst (λ (x : TreeView). ArePast (length x.seen) x.log) (λ i. record u { seen = sym s i; log = sym l i }) k.past;

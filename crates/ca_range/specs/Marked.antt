@@ -7,7 +7,7 @@ use Rattle.ca_node.specs.Copies.{Copy, copied, copy_note}
 use Rattle.ca_node.specs.Links.{IsIn}
 use Rattle.ca_node.specs.Notes.{IsBaseNote}
 use Rattle.ca_node.specs.Place.{HasKey}
-use Rattle.ca_node.specs.Row.{mark_bound, mark_number, mark_owner, IsMarkedBy}
+use Rattle.ca_node.specs.Row.{mark_back, mark_bound, mark_number, mark_owner, IsMarkedBy}
 use Rattle.ca_node.specs.Told.{MyTree}
 use Rattle.ca_node.specs.TreeView.{Note, TreeView, no_note}
 use Rattle.ca_rows.specs.Claims.{claim_of}
@@ -45,6 +45,7 @@ pub record IsMarkedNow (z : Sizes) (note : Note) (mark : Mark) (row : ℕ) (u v 
   pub is_base : IsBaseNote z (copy_note row copy)
   pub marked : IsMarkedBy copy.its mark.range.owner mark.range.number
   pub bound_is : mark_bound copy.its ≡ mark.bound
+  pub back_is : mark_back copy.its ≡ mark.back
   pub statistic_is : slice_index copy.its 1 ≡ mark.statistic
   pub now : v ≡ copied [] u.ranges row copy u
 

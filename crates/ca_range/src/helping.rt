@@ -68,8 +68,8 @@ pub fn help_ranges(
     Helped::Busy(account.spent)
 }
 
-// How many turns were spent.
-fn turns(spent: &Spent) -> u64
+/// How many turns were spent.
+pub(crate) fn turns(spent: &Spent) -> u64
     ensures { result ≡ turns_of spent.now }
 {
     u64::from(spent.lost) + u64::from(spent.helped) + u64::from(spent.passed)
@@ -112,8 +112,8 @@ fn advance(
     }
 }
 
-// How the next base of a range is marked, behind this one that the range marked.
-fn mark_for(
+/// How the next base of a range is marked, behind this one that the range marked.
+pub(crate) fn mark_for(
     space: &TreeSpace,
     pass: &mut TreePass,
     left: u32,

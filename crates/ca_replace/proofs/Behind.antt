@@ -85,7 +85,7 @@ module _ {R : Type 0} {space : Space R TreeView} {key : List ℕ} {cursor : Curs
     pinned = ap (λ (p : Pin). p.pinned) l.still.1 ∙ ready.pinned;
     number = subst (λ n. 0 < n) (sym l.further.number) ready.number;
     none = held_looked z.rows pass.kept mid.kept pass.seat.me mid.seat.me [] ready.none l.kept
-        l.still.2 l.quiet.most;
+        l.still.2 l.quiet.most l.own_range;
   }
 
   -- So it is behind what it does then, where it is behind that alone.
@@ -119,7 +119,7 @@ module _ {R : Type 0} {space : Space R TreeView} {key : List ℕ} {cursor : Curs
       pin = (ap (λ (m : MyTree). m.0.sizes) e.now, ap (λ (m : MyTree). m.0.pin) e.now);
       own_range = ap (λ (m : MyTree). m.0.upper.ranges.own) e.now;
       none = held_upper z.rows mid.kept new.kept mid.seat.me new.seat.me _ [] ready_behind.none
-          e.now keeps.kept;
+          e.now refl keeps.kept;
     }
 
     pub turn_entered : {T : Type 0} (edits : T → Bool) (adds : Option (List ℕ)) (t : Tuning)

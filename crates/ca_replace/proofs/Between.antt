@@ -64,13 +64,13 @@ module _ {R : Type 0} (space : Space R TreeView) (pass new : Pass R TreeView) wh
   -- A pass that pinned may begin an attempt, at the root.
   pub may_pinned : (key : List ℕ) (pin : Pin) (notes : List Note) (ways : List Way) (ranges : KnownRanges)
       → IsOn space pass → IsNumbered pass.number pass.seat.me.0.pin → 0 < pass.seat.me.0.upper.number
-      → AreHeld space.table.shared.key.rows pass.kept.rows pass.seat.me.0 [] → IsKnown space.table.shared.key pass.seat.me.0.upper
+      → AreHeld space.table.shared.key.rows pass.kept.rows pass.seat.me.0 [] → pass.seat.me.0.upper.ranges.own ≡ Quiet → IsKnown space.table.shared.key pass.seat.me.0.upper
       → IsTallied pass.tally pass.seat.me.0.upper → IsSame pass.seat new.seat → new.number ≡ pass.number
       → new.kept ≡ pass.kept → new.tally ≡ pass.tally → pin.pinned ≡ true
       → pin.number ≡ pass.seat.me.0.pin.number → ranges.unfinished ≡ [] → ranges.own ≡ Quiet
       → pass.number ≡ pass.seat.me.0.upper.number
       → new.seat.me ≡ moved pass.seat.me pin pass.seat.me.0.upper.seen notes ways ranges → MayBegin space key None false new
-  may_pinned key pin notes ways ranges own numbered some none known tallied same number kept tally is_pinned
+  may_pinned key pin notes ways ranges own numbered some none was_quiet known tallied same number kept tally is_pinned
       pin_number unmet quiet is_number is = let now : IsKnown space.table.shared.key new.seat.me.0.upper = subst
       (λ (x : MyTree). IsKnown space.table.shared.key x.0.upper) (sym is)
       record {
@@ -88,7 +88,8 @@ module _ {R : Type 0} (space : Space R TreeView) (pass new : Pass R TreeView) wh
           pinned = ap (λ (x : MyTree). x.0.pin.pinned) is ∙ is_pinned;
           number = subst (λ (x : MyTree). 0 < x.0.upper.number) (sym is) some;
           none = held_looked space.table.shared.key.rows pass.kept new.kept pass.seat.me new.seat.me [] none kept
-              (ap (λ (x : MyTree). x.0.claims) is) (ap (λ (x : MyTree). x.0.most) is);
+              (ap (λ (x : MyTree). x.0.claims) is) (ap (λ (x : MyTree). x.0.most) is)
+              (ap (λ (x : MyTree). x.0.upper.ranges.own) is ∙ (quiet ∙ sym was_quiet));
         };
         known = now;
         asking = asking_pinned space.table.shared.key new.seat.me.0.upper now
@@ -114,7 +115,7 @@ module _ {R : Type 0} (space : Space R TreeView) (pass new : Pass R TreeView) wh
       may_pinned key (announced told moment pass.seat.me).0.pin pass.seat.me.0.upper.notes pass.seat.me.0.upper.ways
       (announced told moment pass.seat.me).0.upper.ranges r.of
       r.numbered (subst (λ n. 0 < n) (sym r.same_number) r.numbered.1)
-      (holds_none space.table.shared.table_id space.table.shared.key pass.number pass.kept.rows pass.seat r) r.known
+      (holds_none space.table.shared.table_id space.table.shared.key pass.number pass.kept.rows pass.seat r) r.quiet r.known
       r.tallied same number kept tally refl refl refl (ap left_over r.quiet) (sym r.same_number) is
 
   -- So may one that pinned anew.
@@ -125,7 +126,7 @@ module _ {R : Type 0} (space : Space R TreeView) (pass new : Pass R TreeView) wh
   may_anew key told moment may same number kept tally is =
       may_pinned key (announced told moment (left pass.seat.me)).0.pin [] []
       (announced told moment (left pass.seat.me)).0.upper.ranges may.ready.own
-      may.ready.numbered may.ready.number may.ready.none may.known may.tallied same number kept
+      may.ready.numbered may.ready.number may.ready.none may.idle.quiet may.known may.tallied same number kept
       tally refl refl refl (ap left_over (ap left_over may.idle.quiet)) may.idle.number is
 
   -- What it knows is what it knew, but for the pin.

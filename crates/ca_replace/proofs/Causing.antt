@@ -70,7 +70,7 @@ pub record EndsSo {T : Type 0} (z : Sizes) (budget : ℕ) (adds : Option (List �
   pub worn : tried ≡ Err (halt.Stopped stop.Worn) → m'.0.worn ≡ m.0.worn + 1
 
 -- A call that is refused for the turns that it spent.
-busy : (budget : ℕ) (now : Spent) (m m' : MyTree) → budget ≤ total now → HasSpentInAll now m m'
+pub busy : (budget : ℕ) (now : Spent) (m m' : MyTree) → budget ≤ total now → HasSpentInAll now m m'
     → (budget ≤ total now) × (now.lost ≡ min 4294967295 (losses m' - losses m))
     × (now.helped ≡ min 4294967295 (helps m' - helps m))
     × (now.passed ≡ min 4294967295 (passes m' - passes m))

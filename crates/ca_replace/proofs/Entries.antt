@@ -5,13 +5,14 @@ use Rattle.ca_model.specs.Event.{Event, IsAnswer, effect}
 use Rattle.ca_model.specs.Known.{Known, Meets}
 use Rattle.ca_node.specs.States.{IsReadSince, IsUnanswered, OfSomeState}
 use Rattle.ca_node.specs.Told.{MyTree, with_upper, IsEntered, IsKnown}
-use Rattle.ca_node.specs.TreeView.{TreeView}
+use Rattle.ca_node.specs.TreeView.{Ranging, TreeView}
 use Rattle.ca_node.proofs.Logs.{read_lawful, past_more}
 use Rattle.ca_node.proofs.Looking.{longer_past}
-use Rattle.ca_base.specs.Taking.{AreHeld, HasHeld}
+use Rattle.ca_base.specs.Taking.{AreHeld, HasHeld, lent_of}
 use Rattle.ca_replace.specs.Reads.{get_event}
 use Rattle.ca_rows.specs.declared.kept.KeptRows.{KeptRows}
 use Rattle.ca_rows.specs.declared.sizes.Sizes.{Sizes}
+use Rattle.ca_rows.specs.declared.view.Claimed.{Claimed}
 use Rattle.ca_rows.specs.Claims.{held_count}
 
 -- A call that edits nothing may be entered in the log by a state since the pin, where none was
@@ -43,21 +44,22 @@ known_read z m m' event k e = let u = m.0.upper in let at = e.at in let read = e
 
 -- What the pass holds doesn't depend on what it knows of the tree.
 pub held_upper : (rows : ℕ) (kept kept' : KeptRows) (m m' : MyTree) (u : TreeView) (held : List ℕ)
-    → AreHeld rows kept.rows m.0 held → m' ≡ with_upper m u
+    → AreHeld rows kept.rows m.0 held → m' ≡ with_upper m u → u.ranges.own ≡ m.0.upper.ranges.own
     → kept' ≡ kept → AreHeld rows kept'.rows m'.0 held
-held_upper rows kept kept' m m' u held h is same = subst
+held_upper rows kept kept' m m' u held h is own same = subst
     (λ (x : MyTree × KeptRows). AreHeld rows x.1.rows x.0.0 held) (λ i. (sym is i, sym same i)) (
-      record { are_kept = h.0.are_kept; only = h.0.only; each = h.0.each },
+      subst (λ (o : Ranging). HasHeld rows kept.rows m.0.claims (lent_of o) held) (sym own) h.0,
       record { now = h.1.now; ever = h.1.ever },
     )
 
 -- Nor on what it was shown by a look.
 pub held_looked : (rows : ℕ) (kept kept' : KeptRows) (m m' : MyTree) (held : List ℕ)
     → AreHeld rows kept.rows m.0 held → kept' ≡ kept
-    → m'.0.claims ≡ m.0.claims → m'.0.most ≡ m.0.most → AreHeld rows kept'.rows m'.0 held
-held_looked rows kept kept' m m' held h same claims most = let ever = h.1.ever in (
-  subst (λ (k : KeptRows). HasHeld rows k.rows m'.0.claims held) (sym same) (subst
-      (λ x. HasHeld rows kept.rows x held) (sym claims) h.0),
+    → m'.0.claims ≡ m.0.claims → m'.0.most ≡ m.0.most → m'.0.upper.ranges.own ≡ m.0.upper.ranges.own
+    → AreHeld rows kept'.rows m'.0 held
+held_looked rows kept kept' m m' held h same claims most own = let ever = h.1.ever in (
+  subst (λ (x : KeptRows × List Claimed × Ranging). HasHeld rows x.0.rows x.1 (lent_of x.2) held)
+      (λ i. (sym same i, sym claims i, sym own i)) h.0,
   record { now = subst (λ x. held_count x ≤ length held) (sym claims) h.1.now; ever = omega arith },
 )
 

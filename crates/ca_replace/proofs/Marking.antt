@@ -1,5 +1,6 @@
 -- A look at the mark of the base that was shown last leaves all else that an attempt knows.
-use Rattle.std.proofs.Common.{◌≡◌, ℕ, Bool, false, List, [], map, Result, sym, refl, ap, ◌∙◌, subst}
+use Rattle.std.proofs.Common.{◌≡◌, ℕ, Bool, false, List, [], map, Result, sym, refl, ap, ◌∙◌, subst, inl}
+use Rattle.ca_base.proofs.Fronted.{first_noted}
 use Rattle.ca_base.specs.Progress.{IsFurther}
 use Rattle.ca_base.specs.Putting.{first_note}
 use Rattle.ca_model.specs.Places.{IsPlace}
@@ -25,7 +26,7 @@ looking_still : (z : Sizes) (key : List ℕ) (cursor : Cursor) (u : TreeView) (r
     → IsLooking z (record u { ranges = ranges }) key cursor
 looking_still z key cursor u ranges l = record {
   readable = record {
-    noted = l.readable.noted;
+    noted = inl (first_noted z u cursor.base l.readable);
     here = l.readable.here;
     is_base = l.readable.is_base;
     few = l.readable.few;

@@ -22,7 +22,7 @@ module _ {R : Type 0} {space : Space R TreeView} {pass new : Pass R TreeView} wh
     number = subst (λ (m : MyTree). 0 < m.0.upper.number) (sym f.still) ready.number;
     none = held_looked space.table.shared.key.rows pass.kept new.kept pass.seat.me new.seat.me []
         ready.none f.kept (ap (λ (m : MyTree). m.0.claims) f.still)
-        (ap (λ (m : MyTree). m.0.most) f.still);
+        (ap (λ (m : MyTree). m.0.most) f.still) (ap (λ (m : MyTree). m.0.upper.ranges.own) f.still);
   }
 
   -- Behind an operation.

@@ -1,5 +1,5 @@
 -- What an attempt of a call looks at, and what it comes to.
-use Rattle.std.proofs.Common.{◌≡◌, ℕ, Bool, false, ◌<◌, ◌≤◌, List, [], ◌∷◌, ◌++◌, length, map, get_or, Result, Ok, Err, IsOk, None, Some, sym, refl, ap, ◌∙◌, subst, ⊎_elim, arith}
+use Rattle.std.proofs.Common.{◌≡◌, ℕ, Bool, false, ◌<◌, ◌≤◌, List, [], ◌∷◌, ◌++◌, length, map, get_or, Result, Ok, Err, IsOk, None, Some, sym, refl, ap, ◌∙◌, subst, inl, ⊎_elim, arith}
 use Rattle.std.proofs.lemmas.List.{length-map}
 use denote.Ref.{Bor}
 use Rattle.ca_base.specs.declared.stop.Exchange.TheVariants as exchange
@@ -27,6 +27,7 @@ use Rattle.ca_replace.specs.Attempting.{IsLooking, HasFetched, HasDoneSuch, HasS
 use Rattle.ca_replace.specs.Causes.{IsFull, IsFullSince}
 use Rattle.ca_base.specs.Finding.{IsPlaceIn}
 use Rattle.ca_base.specs.Progress.{IsFurther, HasDone}
+use Rattle.ca_base.proofs.Fronted.{first_noted}
 use Rattle.ca_base.proofs.Searching.{found_object}
 use Rattle.ca_replace.proofs.Counted.{none_met}
 use Rattle.ca_replace.proofs.Entries.{known_read, read_by}
@@ -51,7 +52,7 @@ looking z key m m' cursor w most =
     let few = w.is_base.few in
     subst (λ (v : TreeView). IsLooking z v key.now cursor) (sym here) record {
       readable = record {
-        noted = (0, refl);
+        noted = inl (0, refl);
         here = w.cursor_is.base;
         is_base = w.is_base;
         few = omega arith;
@@ -138,7 +139,7 @@ led_further z link m m' row led sized some_rows = let rows : 0 < m.0.sizes.rows 
 pub shown_last : (z : Sizes) (u : TreeView) (key : List ℕ) (cursor : Cursor)
     → IsLooking z u key cursor → IsSettled u (first_note u.notes).its → IsShownLast z u cursor.base
 shown_last z u key cursor l settled = record {
-  noted = l.readable.noted;
+  noted = first_noted z u cursor.base l.readable;
   here = l.readable.here;
   is_base = l.readable.is_base;
   settled = settled;

@@ -8,8 +8,9 @@ use Rattle.ca_model.specs.declared.outcome.Changed.TheVariants as changed
 use Rattle.ca_model.specs.declared.outcome.Outcome.{Outcome}
 use Rattle.ca_model.specs.declared.outcome.Outcome.TheVariants as outcome
 use Rattle.atomic_table.specs.Seated.{TableId}
-use Rattle.ca_model.specs.Answer.{IfDone, Altered, Removed, RemovedIf}
-use Rattle.ca_model.specs.Event.{Event, Get, Remove, Change}
+use Rattle.ca_model.specs.Answer.{IfDone, Altered, FoundAbove, FoundBelow, Removed, RemovedIf}
+use Rattle.ca_model.specs.Edges.{Bound}
+use Rattle.ca_model.specs.Event.{Event, Get, Remove, Change, Above, Below}
 use Rattle.ca_model.specs.Known.{Meets}
 use Rattle.ca_node.specs.Told.{IsKnown}
 use Rattle.ca_node.specs.TreeView.{TreeView}
@@ -17,6 +18,7 @@ use Rattle.ca_base.specs.Progress.{HasDone}
 use Rattle.ca_replace.specs.Attempting.{HasDoneSuch}
 use Rattle.ca_replace.specs.Resting.{known_of}
 use Rattle.ca_replace.specs.Tells.{Alters, Removes, RemovesIf}
+use Rattle.ca_replace.specs.Within.{FindsAbove, FindsBelow}
 use Rattle.ca_replace.proofs.Meeting.{meets}
 use Rattle.ca_rows.specs.declared.sizes.Sizes.{Sizes}
 
@@ -70,3 +72,14 @@ module _ (table : TableId) (z : Sizes) (u v : TreeView) (before : IsKnown z u)
   removed_if g f changed.Absent h = (met (Get key None) h.0 h.1.0 h.2, h.1.1)
   removed_if g f changed.Kept h = (h.1.0, met (Get key (Some old)) h.0 h.1.1 h.2)
   removed_if g f changed.Put h = (h.1.0, met (Remove key (Some old)) h.0 h.1.1 h.2)
+
+  -- It read the first object within a lower edge, or the last one within an upper edge.
+  pub found_above : (lo : Bound) (found : Bool) → HasDoneSuch (FindsAbove lo found old) u v
+      → FoundAbove (known_of table z u) (known_of table z v) lo found old
+  found_above lo true h = met (Above lo (Some old)) h.0 h.1 h.2
+  found_above lo false h = (met (Above lo None) h.0 h.1.0 h.2, h.1.1)
+
+  pub found_below : (hi : Bound) (found : Bool) → HasDoneSuch (FindsBelow hi found old) u v
+      → FoundBelow (known_of table z u) (known_of table z v) hi found old
+  found_below hi true h = met (Below hi (Some old)) h.0 h.1 h.2
+  found_below hi false h = (met (Below hi None) h.0 h.1.0 h.2, h.1.1)

@@ -15,13 +15,13 @@ use Rattle.ca_node.specs.Links.{IsIn}
 use Rattle.ca_node.specs.Tallied.{IsTallied}
 use Rattle.ca_node.specs.Told.{MyTree, IsKnown}
 use Rattle.ca_rows.specs.Told.{met_of}
-use Rattle.ca_node.specs.TreeView.{TreeView, pinned, unpinned, Quiet, left_over}
+use Rattle.ca_node.specs.TreeView.{Ranging, TreeView, pinned, unpinned, Quiet, left_over}
 use Rattle.ca_model.specs.declared.outcome.Cause.{Cause}
 use Rattle.ca_model.specs.declared.outcome.Spent.{Spent}
 use Rattle.ca_replace.specs.Attempting.{HasAttempted, HasDoneSuch, HasNext, HasTriedSince, HasTriedTo, refused_as}
 use Rattle.ca_base.specs.Progress.{IsFurther, HasDone, IsRefused}
 use Rattle.ca_replace.specs.Resting.{IsResting, known_of}
-use Rattle.ca_base.specs.Taking.{AreHeld, HoldsFew}
+use Rattle.ca_base.specs.Taking.{AreHeld, HasHeld, HoldsFew, lent_of}
 use Rattle.ca_rows.specs.declared.kept.Kept.{Kept}
 use Rattle.ca_rows.specs.declared.kept.KeptRows.{KeptRows}
 use Rattle.ca_rows.specs.declared.sizes.Sizes.{Sizes}
@@ -70,6 +70,7 @@ holds_none table z number kept seat r = (
     are_kept = r.are_kept;
     only = λ row c e. inl (r.only_keeps row c e);
     each = λ row i. absurd (in_nothing row [] refl i);
+    lends = λ row i. absurd (in_nothing row (lent_of seat.me.0.upper.ranges.own) (ap lent_of r.quiet) i);
   },
   r.few,
 )
@@ -170,7 +171,8 @@ rests_again {tally' = tally'} table z number kept kept' seat one two last r pin 
       );
       same_number = ap (λ (m : MyTree). m.0.upper.number) unpin ∙ (known.1 ∙ (pin.2 ∙ r.same_number));
       is_unpinned = ap (λ (m : MyTree). m.0.pin.pinned) unpin;
-      only_keeps = λ row c e. ⊎_elim (λ k. k) (λ (i : IsIn row []). absurd (in_nothing row [] refl i))
+      only_keeps = λ row c e. ⊎_elim (λ k. k) (λ is. ⊎_elim (λ (i : IsIn row []). absurd (in_nothing row [] refl i))
+          (λ (l : IsIn row (lent_of two.me.0.upper.ranges.own)). absurd (in_nothing row (lent_of two.me.0.upper.ranges.own) (ap lent_of quiet) l)) is)
           (held.0.only row c (sym (ap (λ (m : MyTree). claim_of m.0.claims row) unpin) ∙ e));
       are_kept = subst (λ (m : MyTree). AreKept z.rows m.0.claims kept') (sym unpin) held.0.are_kept;
       few = subst
@@ -234,13 +236,13 @@ rests_as table z number number' kept kept' seat a t b r = subst
 pub none_pinned : {tally : Tally} (table : TableId) (z : Sizes) (number : ℕ) (kept kept' : KeptRows)
     (seat one : MySeat) (e : Pin) (u : TreeView)
     → IsResting table z number tally kept.rows seat
-    → one.me ≡ (record seat.me.0 { pin = e; upper = u }, seat.me.1) → kept' ≡ kept
+    → one.me ≡ (record seat.me.0 { pin = e; upper = u }, seat.me.1) → u.ranges.own ≡ Quiet → kept' ≡ kept
     → AreHeld z.rows kept'.rows one.me.0 []
-none_pinned table z number kept kept' seat one e u r is same =
+none_pinned table z number kept kept' seat one e u r is quiet same =
     let none = holds_none table z number kept.rows seat r in
     subst (λ (x : MyTree × KeptRows). AreHeld z.rows x.1.rows x.0.0 [])
     (λ i. (sym is i, sym same i)) (
-      record { are_kept = none.0.are_kept; only = none.0.only; each = none.0.each },
+      subst (λ (own : Ranging). HasHeld z.rows kept.rows seat.me.0.claims (lent_of own) []) (r.quiet ∙ sym quiet) none.0,
       record { now = none.1.now; ever = none.1.ever },
     )
 

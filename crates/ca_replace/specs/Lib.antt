@@ -5,13 +5,17 @@ pub mod Called
 pub mod Causes
 pub mod Cutting
 pub mod Growing
+pub mod Leaving
 pub mod Looking
 pub mod Made
+pub mod Ranging
 pub mod Reads
 pub mod Refusals
 pub mod Resting
+pub mod Running
 pub mod Seen
 pub mod StoreView
 pub mod Tells
 pub mod Turning
 pub mod Winning
+pub mod Within

@@ -1,5 +1,5 @@
 -- Passes between two calls, and what is known of them.
-use Rattle.std.specs.Prelude.{◌≡◌, ◌==◌, ◌≤◌, ℕ, cond, false, List, [], ◌∷◌, Some, None, Vec}
+use Rattle.std.specs.Prelude.{◌≡◌, ◌==◌, ◌≤◌, ℕ, cond, false, true, List, [], ◌∷◌, Option, Some, None, Vec}
 use Rattle.std.specs.Global.{Global}
 use mathlib.Core.Option.{some}
 use Rattle.atomic_table.specs.declared.shared.Seat.{Seat}
@@ -12,6 +12,8 @@ use Rattle.ca_node.specs.Told.{IsKnown}
 use Rattle.ca_node.specs.TreeView.{Quiet, TreeView}
 use Rattle.ca_base.specs.Taking.{HoldsFew}
 use Rattle.ca_replace.specs.declared.adapting.Last.{Last}
+use Rattle.ca_replace.specs.declared.opened.OpenRun.{OpenRun}
+use Rattle.ca_replace.specs.Running.{IsOpenRun, left_of}
 use Rattle.ca_rows.specs.declared.kept.Kept.{Kept}
 use Rattle.ca_rows.specs.declared.sizes.Sizes.{Sizes}
 use Rattle.ca_rows.specs.declared.space.Pass.{Pass}
@@ -68,6 +70,39 @@ pub record StoreView : Type 0 where
 abbrev pub Rests : StoreView → Type 0
 Rests s = IsResting s.table s.z s.number s.tally s.kept s.seat
 
+-- The pass with this number is one of this table. It is pinned, and a run is open that it reads. It has no rows but those that it keeps, and its log is
+-- lawful for the history that it has seen.
+pub record IsAtRun (table : TableId) (z : Sizes) (number : ℕ) (tally : Tally) (kept : Vec Kept Global) (seat : Seat (Unit {0}) (View TreeView))
+    (run : OpenRun) : Type 0 where
+  pub of : IsOf table z seat
+  pub numbered : IsNumbered number seat.me.0.pin
+  pub same_number : seat.me.0.upper.number ≡ number
+  pub is_pinned : seat.me.0.pin.pinned ≡ true
+  pub only_keeps : (row : ℕ) (c : Claim) → claim_of seat.me.0.claims row ≡ some c → (at : ℕ) × (c ≡ Keeps at)
+  pub are_kept : AreKept z.rows seat.me.0.claims kept
+  pub few : HoldsFew 0 seat.me.0
+  pub known : IsKnown z seat.me.0.upper
+  -- No pass was found to lag since it pinned.
+  pub unlagged : seat.me.0.pin.entered.lags ≡ seat.me.0.pin.lags
+  pub quiet : seat.me.0.upper.ranges.own ≡ Quiet
+  pub tallied : IsTallied tally seat.me.0.upper
+  pub opened : IsOpenRun z seat.me.0.upper run
+
+-- what contracts see of a pass on a tree, and the run that is open
+pub record StoreAndRun : Type 0 where
+  pub store : StoreView
+  pub run : Option OpenRun
+
+-- Where no run is open the pass rests; else it reads the run.
+abbrev pub IsBetween : StoreView → Option OpenRun → Type 0
+IsBetween s None = Rests s
+IsBetween s (Some run) = IsAtRun s.table s.z s.number s.tally s.kept s.seat run
+
+-- what is left of the run that is open
+abbrev pub run_left : TreeView → Option OpenRun → Option (List (List ℕ))
+run_left u None = None
+run_left u (Some run) = Some (left_of u run)
+
 -- the numbers that tell a table from all others
 abbrev pub numbers_of : TableId → List ℕ
 numbers_of table = table.words ∷ table.slots ∷ table.views_name ∷ table.atom ∷ table.block ∷ table.offset ∷ table.slot_names
@@ -89,5 +124,5 @@ known_of table z u = record {
   counts = u.counts;
 }
 
-abbrev pub knows : StoreView → Known
-knows s = known_of s.table s.z s.seat.me.0.upper
+abbrev pub knows : StoreAndRun → Known
+knows s = record (known_of s.store.table s.store.z s.store.seat.me.0.upper) { run = run_left s.store.seat.me.0.upper s.run }

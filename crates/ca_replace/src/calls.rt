@@ -36,8 +36,8 @@ pub(crate) struct Order<'a, A> {
 }
 
 impl<A> Order<'_, A> {
-    // The budget. A proof learns from the answer that it is one of 32 bits.
-    fn budget(&self) -> u32
+    /// The budget. A proof learns from the answer that it is one of 32 bits.
+    pub(crate) fn budget(&self) -> u32
         ensures { result ≡ self.now.budget }
     {
         self.budget
@@ -241,8 +241,8 @@ fn go_on<A: Attempt>(
     }
 }
 
-// Counts a refusal.
-fn give_up(tree: &Tree, pass: &mut TreePass, why: Cause)
+/// Counts a refusal.
+pub(crate) fn give_up(tree: &Tree, pass: &mut TreePass, why: Cause)
     requires resting { IsAtRest tree.now.space pass.old }
     ensures frame { StaysAtRest tree.now.space pass.old pass.new }
     ensures kept { pass.new.kept ≡ pass.old.kept }

@@ -1,14 +1,18 @@
 //! Ends of calls that edit nothing.
 ghost use Rattle.std.specs.Prelude.{◌≡◌, ◌≤◌, [], None};
+ghost use Rattle.ca_model.specs.Edges.{bound_of};
 ghost use Rattle.ca_model.specs.Event.{Event, Get};
 ghost use Rattle.ca_node.specs.States.{IsReadSince};
 ghost use Rattle.ca_node.specs.Told.{IsEntered, ReadsLast};
 ghost use Rattle.ca_replace.specs.Reads.{event_of};
+ghost use Rattle.ca_replace.specs.Within.{range_event};
 ghost use Rattle.ca_rows.specs.Passes.{IsOn, KeepsList, sizes, known};
 ghost use Rattle.ca_node.specs.TreePasses.{tree_of};
 
 use atomic_table::Play;
+use ca_model::Edge;
 use ca_node::{Knowledge, TreePass, TreeSpace};
+use ca_range::Run;
 use ca_rows::{ROW_WORDS, View};
 use std::marker::{Brand, PhantomData};
 
@@ -27,6 +31,14 @@ pub(crate) enum Read<'a> {
     NothingToChange(&'a [u8]),
     // The key, and the object that has it, which was not changed.
     Unchanged(&'a [u8], &'a [u8]),
+    // A lower edge, and the first object within it.
+    First(Edge<'a>, &'a [u8]),
+    // A lower edge that no object is within.
+    NoneAbove(Edge<'a>),
+    // An upper edge, and the last object within it.
+    Last(Edge<'a>, &'a [u8]),
+    // An upper edge that no object is within.
+    NoneBelow(Edge<'a>),
 }
 
 // Which event a step enters in the log. It exists in proofs alone.
@@ -68,4 +80,39 @@ fn enter_as<K: Entered>(space: &TreeSpace, pass: &mut TreePass, row: u32, _read:
     ensures entered { IsEntered K.event (known pass.old) (known pass.new) }
 {
     space.load::<ReadLast<K>>(pass, ROW_WORDS as u32 * row);
+}
+
+// Ends a call that opens a run of these bases, by one load of the last one's first word. What they have is that of a state since the pin, and no call was
+// answered since.
+pub(crate) fn enter_run(
+    space: &TreeSpace,
+    pass: &mut TreePass,
+    run: Run,
+    lo: Edge<'_>,
+    hi: Edge<'_>,
+)
+    requires own { IsOn space.now pass.old }
+    requires inside { run.last ≤ (sizes space.now).rows }
+    requires answer { IsReadSince (range_event run (tree_of pass.old) (bound_of lo) (bound_of hi)) (tree_of pass.old) }
+    ensures frame { KeepsList pass.old pass.new }
+    ensures entered { IsEntered (range_event run (tree_of pass.old) (bound_of lo.entry) (bound_of hi.entry)) (known pass.old) (known pass.new) }
+{
+    enter_run_as::<Brand>(space, pass, run, lo, hi);
+}
+
+// The load that enters the event which K names.
+fn enter_run_as<K: Entered>(
+    space: &TreeSpace,
+    pass: &mut TreePass,
+    run: Run,
+    _lo: Edge<'_>,
+    _hi: Edge<'_>,
+)
+    requires own { IsOn space.now pass.old }
+    requires inside { run.last ≤ (sizes space.now).rows }
+    requires answer { IsReadSince K.event (tree_of pass.old) }
+    ensures frame { KeepsList pass.old pass.new }
+    ensures entered { IsEntered K.event (known pass.old) (known pass.new) }
+{
+    space.load::<ReadLast<K>>(pass, ROW_WORDS as u32 * run.last);
 }

@@ -1,15 +1,18 @@
 //! A pass as a store.
 ghost use Rattle.std.specs.Prelude.{◌≡◌, ◌≤◌, [], None, OnErr, OnOk, Some, length, min, pos, slice_range, true, vec_len};
 ghost use Rattle.ca_adapt.specs.declared.adapted.Adapted.TheVariants.{Stay as IsStay};
-ghost use Rattle.ca_model.specs.Answer.{Altered, Got, IfBusy, IfDone, IfRefused, IsDone, IsNeverDeep, Removed, RemovedIf};
+ghost use Rattle.ca_model.specs.Answer.{Altered, FoundAbove, FoundBelow, Got, IfBusy, IfDone, IfRefused, IsDone, IsNeverDeep, Removed, RemovedIf};
+ghost use Rattle.ca_model.specs.Edges.{bound_of, IsProperBound};
 ghost use Rattle.ca_model.specs.Event.{Write, WriteNew};
-ghost use Rattle.ca_model.specs.Function.{KeepsKey, MayBeAskedFor};
-ghost use Rattle.ca_model.specs.Known.{Declines, Meets, Stays};
+ghost use Rattle.ca_model.specs.Function.{KeepsKey, MayBeAskedFor, MayBeAskedForAll};
+ghost use Rattle.ca_model.specs.Known.{Declines, Meets, Stays, StaysBesideRun};
+ghost use Rattle.ca_model.specs.Runs.{HandedOut, IsOpen, Opens};
 ghost use Rattle.ca_model.specs.StoreMap.{IsPair};
 ghost use Rattle.ca_replace.specs.Adapting.{is_put};
 ghost use Rattle.ca_replace.specs.Called.{HasTold, StaysStore};
 ghost use Rattle.ca_replace.specs.Causes.{IsSparing};
 ghost use Rattle.ca_replace.specs.Growing.{IsUntouched};
+ghost use Rattle.ca_replace.specs.Ranging.{HasRangeCause};
 ghost use Rattle.ca_replace.specs.Resting.{IsResting, knows};
 ghost use Rattle.ca_replace.specs.Seen.{store_of};
 ghost use Rattle.ca_term.specs.declared.bounds.TheConstants.{MOST_CODE_BYTES};
@@ -20,18 +23,24 @@ use crate::calls::{Order, call, empty_if_refused};
 use crate::changing::ChangeCall;
 use crate::giving::keep_few;
 use crate::looking::look_up;
+use crate::opened::OpenRun;
 use crate::puts::{PutCall, PutNewCall};
+use crate::reading::{above, below, range};
+use crate::refusing::outcome_by;
 use crate::removing::{RemoveCall, RemoveIfCall};
+use crate::running::found_next;
 use crate::tree::Tree;
+use crate::within::RangeCall;
 use ca_adapt::Adapted;
 use ca_base::Keyed;
-use ca_model::{Changed, Code, Outcome};
+use ca_model::{Changed, Code, Edge, Outcome};
 use ca_node::{Front, Link, Spot, TreePass, adapted, front, learn, load_link, walk};
+use ca_range::Sought;
 use std::alloc::AllocError;
 use std::marker::Model;
 
-/// A pass on a tree, as a store of the tree's map. Between two calls it isn't pinned. Contracts see the tree's table, the pass, and what is kept of
-/// its last update.
+/// A pass on a tree, as a store of the tree's map. Between two calls it isn't pinned, but where a run is open. Contracts see the tree's table, the pass, what
+/// is kept of its last update, and the run.
 ///
 /// A call that may add a key splits each full base that it meets, and then looks anew; behind its update it splits the new base, where its statistic
 /// says so. On a tree for one pass a call splits at most one base before its update and one behind it, so the tree grows by at most five linked rows,
@@ -42,13 +51,15 @@ pub struct TreeStore<'t> {
     last: Last,
     // What `change` hands to a function, which writes the new object into it. It is kept, since a kilobyte would be cleared for each call's own.
     room: Code,
+    // The run that is open, if one is: then the pass is pinned.
+    run: Option<OpenRun>,
 }
 
 impl<'t> Model for TreeStore<'t> {
     ghost use Rattle.ca_replace.specs.Causes.{HasCause, IsSparing};
-    ghost use Rattle.ca_replace.specs.Resting.{StoreView};
+    ghost use Rattle.ca_replace.specs.Resting.{StoreAndRun};
 
-    ghost Value = { StoreView };
+    ghost Value = { StoreAndRun };
 
     ghost use Rattle.ca_replace.specs.StoreView.{view_of, IsStore};
 
@@ -64,6 +75,7 @@ impl Drop for TreeStore<'_> {
             pass: _,
             last: _,
             room: _,
+            run: _,
         } = self;
     }
 }
@@ -72,7 +84,8 @@ impl TreeStore<'_> {
     /// The store of a pass of this tree that holds no row and isn't pinned, as one that was just made.
     pub fn new(tree: &Tree, pass: TreePass) -> TreeStore<'_>
         requires { IsResting tree.now.space.table.shared.table_id (sizes tree.now.space) pass.number pass.tally pass.kept.rows pass.seat }
-        ensures store { result ≡ store_of tree.now pass (record { statistic = pos 0; adapted = IsStay }) }
+        ensures store { result.store ≡ store_of tree.now pass (record { statistic = pos 0; adapted = IsStay }) }
+        ensures closed { result.run ≡ None }
     {
         let last = Last {
             statistic: 0,
@@ -83,42 +96,45 @@ impl TreeStore<'_> {
             pass,
             last,
             room: Code::new(),
+            run: None,
         }
     }
 
     /// The pass, which may be made a store again.
     pub fn into_pass(self) -> TreePass
-        ensures same { (result.number ≡ self.entry.number) × (result.kept.rows ≡ self.entry.kept) × (result.seat ≡ self.entry.seat) }
-        ensures tally { result.tally ≡ self.entry.tally }
-        ensures resting { IsResting self.entry.table self.entry.z result.number result.tally result.kept.rows result.seat }
+        requires closed { (knows self).run ≡ None }
+        ensures same { (result.number ≡ self.entry.store.number) × (result.kept.rows ≡ self.entry.store.kept) × (result.seat ≡ self.entry.store.seat) }
+        ensures tally { result.tally ≡ self.entry.store.tally }
+        ensures resting { IsResting self.entry.store.table self.entry.store.z result.number result.tally result.kept.rows result.seat }
     {
         let Self {
             tree: _,
             pass,
             last: _,
             room: _,
+            run: _,
         } = self;
         pass
     }
 
     /// How many rows the pass keeps that were unlinked, until no other pass can be reading them.
     pub fn kept(&self) -> u32
-        ensures { result ≡ vec_len self.now.kept }
+        ensures { result ≡ vec_len self.now.store.kept }
     {
         self.pass.kept()
     }
 
     /// How many splits and how many joins the pass carried out, each up to the last number that 64 bits hold.
     pub fn adapted(&self) -> (u64, u64)
-        ensures splits { result.0 ≡ min 18446744073709551615 self.now.seat.me.0.upper.splits }
-        ensures joins { result.1 ≡ min 18446744073709551615 self.now.seat.me.0.upper.joins }
+        ensures splits { result.0 ≡ min 18446744073709551615 self.now.store.seat.me.0.upper.splits }
+        ensures joins { result.1 ≡ min 18446744073709551615 self.now.store.seat.me.0.upper.joins }
     {
         adapted(&self.pass)
     }
 
     /// The last update by this store: the statistic of its new base, and what was done about that base. Before the first one that is 0, and nothing.
     pub fn last_adapted(&self) -> (i64, Adapted)
-        ensures { (result.0 ≡ self.now.last.statistic) × (result.1 ≡ self.now.last.adapted) }
+        ensures { (result.0 ≡ self.now.store.last.statistic) × (result.1 ≡ self.now.store.last.adapted) }
     {
         (i64::from(self.last.statistic), self.last.adapted)
     }
@@ -143,9 +159,9 @@ impl TreeStore<'_> {
         ensures done { IsDone result }
         ensures got { IfDone result (λ found. Got (knows self.old) (knows self.new) key.now found into.new.items) }
         ensures closed { (knows self.new).run ≡ None }
-        ensures frame { StaysStore self.old self.new }
-        ensures last { (self.new.last ≡ self.old.last) × IsUntouched self.old.seat.me.0.upper self.new.seat.me.0.upper }
-        ensures sparing { IsSparing self.old self.new }
+        ensures frame { StaysStore self.old.store self.new.store }
+        ensures last { (self.new.store.last ≡ self.old.store.last) × IsUntouched self.old.store.seat.me.0.upper self.new.store.seat.me.0.upper }
+        ensures sparing { IsSparing self.old.store self.new.store }
     {
         let _budget = budget;
         let space = &self.tree.space;
@@ -169,9 +185,9 @@ impl TreeStore<'_> {
         ensures put { IfDone result (λ _. Meets (knows self.old) (knows self.new) (Write (slice_range object.now key_at key_end) object.now)) }
         ensures refused { IfRefused result (λ rise. Declines (knows self.old) (knows self.new) (rise (knows self.old).counts)) }
         ensures busy { IfBusy result (λ spent. budget ≤ spent) }
-        ensures told { HasTold (λ _. true) (Some (slice_range object.now key_at key_end)) budget self.old self.new result }
+        ensures told { HasTold (λ _. true) (Some (slice_range object.now key_at key_end)) budget self.old.store self.new.store result }
         ensures closed { (knows self.new).run ≡ None }
-        ensures frame { StaysStore self.old self.new }
+        ensures frame { StaysStore self.old.store self.new.store }
     {
         let keyed = Keyed {
             object,
@@ -202,9 +218,9 @@ impl TreeStore<'_> {
         ensures put { IfDone result (λ new. Meets (knows self.old) (knows self.new) (WriteNew (slice_range object.now key_at key_end) object.now new)) }
         ensures refused { IfRefused result (λ rise. Declines (knows self.old) (knows self.new) (rise (knows self.old).counts)) }
         ensures busy { IfBusy result (λ spent. budget ≤ spent) }
-        ensures told { HasTold (λ new. new) (Some (slice_range object.now key_at key_end)) budget self.old self.new result }
+        ensures told { HasTold (λ new. new) (Some (slice_range object.now key_at key_end)) budget self.old.store self.new.store result }
         ensures closed { (knows self.new).run ≡ None }
-        ensures frame { StaysStore self.old self.new }
+        ensures frame { StaysStore self.old.store self.new.store }
     {
         let keyed = Keyed {
             object,
@@ -228,9 +244,9 @@ impl TreeStore<'_> {
         ensures emptied { IfRefused result (λ _. old.new.items ≡ []) }
         ensures never_deep { IsNeverDeep result }
         ensures busy { IfBusy result (λ spent. budget ≤ spent) }
-        ensures told { HasTold (λ was. was) None budget self.old self.new result }
+        ensures told { HasTold (λ was. was) None budget self.old.store self.new.store result }
         ensures closed { (knows self.new).run ≡ None }
-        ensures frame { StaysStore self.old self.new }
+        ensures frame { StaysStore self.old.store self.new.store }
     {
         let what = &RemoveCall { key };
         let order = Order { what, budget };
@@ -259,9 +275,9 @@ impl TreeStore<'_> {
         ensures emptied { IfRefused result (λ _. old.new.items ≡ []) }
         ensures never_deep { IsNeverDeep result }
         ensures busy { IfBusy result (λ spent. budget ≤ spent) }
-        ensures told { HasTold is_put None budget self.old self.new result }
+        ensures told { HasTold is_put None budget self.old.store self.new.store result }
         ensures closed { (knows self.new).run ≡ None }
-        ensures frame { StaysStore self.old self.new }
+        ensures frame { StaysStore self.old.store self.new.store }
     {
         let what = &RemoveIfCall { key, f };
         let order = Order { what, budget };
@@ -292,9 +308,9 @@ impl TreeStore<'_> {
         ensures emptied { IfRefused result (λ _. old.new.items ≡ []) }
         ensures never_deep { IsNeverDeep result }
         ensures busy { IfBusy result (λ spent. budget ≤ spent) }
-        ensures told { HasTold is_put None budget self.old self.new result }
+        ensures told { HasTold is_put None budget self.old.store self.new.store result }
         ensures closed { (knows self.new).run ≡ None }
-        ensures frame { StaysStore self.old self.new }
+        ensures frame { StaysStore self.old.store self.new.store }
     {
         let what = &ChangeCall { key, f };
         let order = Order { what, budget };
@@ -304,13 +320,47 @@ impl TreeStore<'_> {
         outcome
     }
 
+    /// Hands out the next object of the open run, in key order: true, and `into` is the object. At the end of the run it answers false, and
+    /// `into` is empty. The store learns of no edit by it.
+    pub fn found(&mut self, into: &mut Code) -> bool
+        requires open { IsOpen (knows self.old) }
+        ensures handed_out { HandedOut (knows self.old) (knows self.new) result into.new.items }
+        ensures stays { StaysBesideRun (knows self.old) (knows self.new) }
+        ensures frame { StaysStore self.old.store self.new.store }
+        ensures pass { (self.new.store.kept ≡ self.old.store.kept) × (self.new.store.seat.me ≡ self.old.store.seat.me) }
+        ensures last { self.new.store.last ≡ self.old.store.last }
+    {
+        let Some(run) = &mut self.run else {
+            into.clear();
+            return false;
+        };
+        found_next(&self.tree.space, &mut self.pass, run, into)
+    }
+
+    /// Ends the open run, and does nothing where none is open. Behind a run the pass keeps few rows, or there is a cause.
+    pub fn close_run(&mut self)
+        ensures closed { (knows self.new).run ≡ None }
+        ensures stays { StaysBesideRun (knows self.old) (knows self.new) }
+        ensures frame { StaysStore self.old.store self.new.store }
+        ensures last { (self.new.store.last ≡ self.old.store.last) × IsUntouched self.old.store.seat.me.0.upper self.new.store.seat.me.0.upper }
+        ensures sparing { IsOpen (knows self.old) → IsSparing self.old.store self.new.store }
+    {
+        let Some(_) = self.run else {
+            return;
+        };
+        self.run = None;
+        self.tree.space.unpin(&mut self.pass);
+        keep_few(self.tree, &mut self.pass);
+    }
+
     /// A copy of what the pass has seen of the tree's history.
     pub fn front(&mut self) -> Front
-        ensures frame { StaysStore self.old self.new }
-        ensures last { (self.new.last ≡ self.old.last) × IsUntouched self.old.seat.me.0.upper self.new.seat.me.0.upper }
-        ensures pass { (self.new.kept ≡ self.old.kept) × (self.new.seat.me ≡ self.old.seat.me) }
-        ensures table { result.half.seat.table_id ≡ self.old.table }
-        ensures seen { result.half.seat.me.0.upper.seen ≡ self.old.seat.me.0.upper.seen }
+        ensures frame { StaysStore self.old.store self.new.store }
+        ensures last { (self.new.store.last ≡ self.old.store.last) × IsUntouched self.old.store.seat.me.0.upper self.new.store.seat.me.0.upper }
+        ensures pass { (self.new.store.kept ≡ self.old.store.kept) × (self.new.store.seat.me ≡ self.old.store.seat.me) }
+        ensures run { self.new.run ≡ self.old.run }
+        ensures table { result.half.seat.table_id ≡ self.old.store.table }
+        ensures seen { result.half.seat.me.0.upper.seen ≡ self.old.store.seat.me.0.upper.seen }
     {
         front(&self.tree.space, &mut self.pass)
     }
@@ -319,19 +369,102 @@ impl TreeStore<'_> {
     /// pass has a place before that. One load of the root link ends the call: it tells that what was taken in is a beginning of the
     /// tree's history, for which the log is lawful.
     pub fn learn(&mut self, front: Front)
-        requires table { front.half.seat.table_id ≡ self.old.table }
-        ensures frame { StaysStore self.old self.new }
-        ensures last { (self.new.last ≡ self.old.last) × IsUntouched self.old.seat.me.0.upper self.new.seat.me.0.upper }
-        ensures sparing { IsSparing self.old self.new }
-        ensures log { self.new.seat.me.0.upper.log ≡ self.old.seat.me.0.upper.log }
-        ensures counts { self.new.seat.me.0.upper.counts ≡ self.old.seat.me.0.upper.counts }
-        ensures seen { length front.half.seat.me.0.upper.seen ≤ length self.new.seat.me.0.upper.seen }
-        ensures seen_before { length self.old.seat.me.0.upper.seen ≤ length self.new.seat.me.0.upper.seen }
+        requires closed { (knows self.old).run ≡ None }
+        requires table { front.half.seat.table_id ≡ self.old.store.table }
+        ensures frame { StaysStore self.old.store self.new.store }
+        ensures last { (self.new.store.last ≡ self.old.store.last) × IsUntouched self.old.store.seat.me.0.upper self.new.store.seat.me.0.upper }
+        ensures sparing { IsSparing self.old.store self.new.store }
+        ensures closed { (knows self.new).run ≡ None }
+        ensures log { self.new.store.seat.me.0.upper.log ≡ self.old.store.seat.me.0.upper.log }
+        ensures counts { self.new.store.seat.me.0.upper.counts ≡ self.old.store.seat.me.0.upper.counts }
+        ensures seen { length front.half.seat.me.0.upper.seen ≤ length self.new.store.seat.me.0.upper.seen }
+        ensures seen_before { length self.old.store.seat.me.0.upper.seen ≤ length self.new.store.seat.me.0.upper.seen }
     {
         learn(&self.tree.space, &mut self.pass, front);
         self.tree.space.pin(&mut self.pass);
         load_link(&self.tree.space, &mut self.pass, Link::Root);
         self.tree.space.unpin(&mut self.pass);
         keep_few(self.tree, &mut self.pass);
+    }
+}
+
+impl TreeStore<'_> {
+    /// Whether an object is within the lower edge; then `into` is the first one, else it is empty.
+    pub fn above(&mut self, lo: Edge<'_>, into: &mut Code, budget: u32) -> Outcome<bool>
+        requires budget { 1 ≤ budget }
+        requires closed { (knows self.old).run ≡ None }
+        requires edge { IsProperBound (bound_of lo) }
+        ensures found { IfDone result (λ found. FoundAbove (knows self.old) (knows self.new) (bound_of lo.entry) found into.new.items) }
+        ensures refused { IfRefused result (λ rise. Declines (knows self.old) (knows self.new) (rise (knows self.old).counts)) }
+        ensures emptied { IfRefused result (λ _. into.new.items ≡ []) }
+        ensures never_deep { IsNeverDeep result }
+        ensures busy { IfBusy result (λ spent. budget ≤ spent) }
+        ensures closed { (knows self.new).run ≡ None }
+        ensures frame { StaysStore self.old.store self.new.store }
+        ensures caused { HasRangeCause budget self.old.store self.new.store result }
+        ensures sparing { IsSparing self.old.store self.new.store }
+        ensures last { self.new.store.last ≡ self.old.store.last }
+    {
+        above(self.tree, &mut self.pass, lo, into, budget)
+    }
+
+    /// Whether an object is within the upper edge; then `into` is the last one, else it is empty.
+    pub fn below(&mut self, hi: Edge<'_>, into: &mut Code, budget: u32) -> Outcome<bool>
+        requires budget { 1 ≤ budget }
+        requires closed { (knows self.old).run ≡ None }
+        requires edge { IsProperBound (bound_of hi) }
+        ensures found { IfDone result (λ found. FoundBelow (knows self.old) (knows self.new) (bound_of hi.entry) found into.new.items) }
+        ensures refused { IfRefused result (λ rise. Declines (knows self.old) (knows self.new) (rise (knows self.old).counts)) }
+        ensures emptied { IfRefused result (λ _. into.new.items ≡ []) }
+        ensures never_deep { IsNeverDeep result }
+        ensures busy { IfBusy result (λ spent. budget ≤ spent) }
+        ensures closed { (knows self.new).run ≡ None }
+        ensures frame { StaysStore self.old.store self.new.store }
+        ensures caused { HasRangeCause budget self.old.store self.new.store result }
+        ensures sparing { IsSparing self.old.store self.new.store }
+        ensures last { self.new.store.last ≡ self.old.store.last }
+    {
+        below(self.tree, &mut self.pass, hi, into, budget)
+    }
+
+    /// Opens a run of the objects within both edges, or from the lower edge up to a cut: true where it reaches the upper edge. It may be cut
+    /// where `want` isn't 0, and `counts` answered true on at least `want` objects of the run.
+    pub fn range<F: Fn(&[u8]) -> bool>(
+        &mut self,
+        lo: Edge<'_>,
+        hi: Edge<'_>,
+        want: u32,
+        counts: &F,
+        budget: u32,
+    ) -> Outcome<bool>
+        requires budget { 1 ≤ budget }
+        requires closed { (knows self.old).run ≡ None }
+        requires lower_edge { IsProperBound (bound_of lo) }
+        requires upper_edge { IsProperBound (bound_of hi) }
+        requires function { MayBeAskedForAll F.Fn counts.now (knows self.old).keypos }
+        ensures opens { IfDone result (λ whole. Opens F.Fn counts.now (knows self.old) (knows self.new) (bound_of lo.entry) (bound_of hi.entry) want whole) }
+        ensures refused { IfRefused result (λ rise. Declines (knows self.old) (knows self.new) (rise (knows self.old).counts)) }
+        ensures closed { IfRefused result (λ _. (knows self.new).run ≡ None) }
+        ensures never_deep { IsNeverDeep result }
+        ensures busy { IfBusy result (λ spent. budget ≤ spent) }
+        ensures frame { StaysStore self.old.store self.new.store }
+        ensures caused { HasRangeCause budget self.old.store self.new.store result }
+        ensures sparing { IfRefused result (λ _. IsSparing self.old.store self.new.store) }
+        ensures last { self.new.store.last ≡ self.old.store.last }
+    {
+        let sought = Sought {
+            lo,
+            hi,
+            want,
+            counts,
+        };
+        let what = &RangeCall { sought };
+        match range(self.tree, &mut self.pass, what, budget) {
+            Ok((whole, run)) => {
+                self.run = Some(run);
+                Outcome::Done(whole)
+            }
+            Err(why) => outcome_by(why),
+        }
     }
 }

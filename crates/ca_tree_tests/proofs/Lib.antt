@@ -1,4 +1,5 @@
 mod Alike
 mod Numbers
+mod Opened
 mod SampleObjects
 mod Taking

@@ -1,8 +1,9 @@
 //! Calls of a store on a key's object, by the numbers of both.
-ghost use Rattle.std.specs.Prelude.{◌≡◌, ◌≤◌, IsTrue};
+ghost use Rattle.std.specs.Prelude.{◌≡◌, ◌≤◌, IsTrue, None};
 ghost use Rattle.ca_model.specs.Function.{StandsAt};
 ghost use Rattle.ca_model.specs.StoreMap.{IsPair};
 ghost use Rattle.ca_tree_tests.specs.Objects.{number_code};
+ghost use Rattle.ca_replace.specs.Resting.{knows};
 
 use crate::objects::{key_code, object, write_next};
 use ca_model::{Changed, Code, Outcome};
@@ -10,23 +11,29 @@ use ca_replace::TreeStore;
 
 /// Puts the object.
 pub(crate) fn put(store: &mut TreeStore<'_>, key: u32, value: u32, budget: u32) -> Outcome<()>
-    requires { (store.old.z.keypos ≡ 1) × (1 ≤ budget) }
-    ensures { store.new.z ≡ store.old.z }
+    requires sizes { (store.old.store.z.keypos ≡ 1) × (1 ≤ budget) }
+    requires closed { (knows store.old).run ≡ None }
+    ensures sizes { store.new.store.z ≡ store.old.store.z }
+    ensures closed { (knows store.new).run ≡ None }
 {
     store.put(&object(key, value), 5, 10, budget)
 }
 
 /// Puts the object where the key has none.
 pub(crate) fn put_new(store: &mut TreeStore<'_>, key: u32, value: u32, budget: u32) -> Outcome<bool>
-    requires { (store.old.z.keypos ≡ 1) × (1 ≤ budget) }
-    ensures { store.new.z ≡ store.old.z }
+    requires sizes { (store.old.store.z.keypos ≡ 1) × (1 ≤ budget) }
+    requires closed { (knows store.old).run ≡ None }
+    ensures sizes { store.new.store.z ≡ store.old.store.z }
+    ensures closed { (knows store.new).run ≡ None }
 {
     store.put_new(&object(key, value), 5, 10, budget)
 }
 
 /// Whether the key has an object; then `into` is that object.
 pub(crate) fn get(store: &mut TreeStore<'_>, key: u32, into: &mut Code) -> bool
-    ensures { store.new.z ≡ store.old.z }
+    requires closed { (knows store.old).run ≡ None }
+    ensures sizes { store.new.store.z ≡ store.old.store.z }
+    ensures closed { (knows store.new).run ≡ None }
 {
     store.get(&key_code(key), into, 1) == Outcome::Done(true)
 }
@@ -38,8 +45,10 @@ pub(crate) fn remove(
     old: &mut Code,
     budget: u32,
 ) -> Outcome<bool>
-    requires { (store.old.z.keypos ≡ 1) × (1 ≤ budget) }
-    ensures { store.new.z ≡ store.old.z }
+    requires sizes { (store.old.store.z.keypos ≡ 1) × (1 ≤ budget) }
+    requires closed { (knows store.old).run ≡ None }
+    ensures sizes { store.new.store.z ≡ store.old.store.z }
+    ensures closed { (knows store.new).run ≡ None }
 {
     store.remove(&key_code(key), old, budget)
 }
@@ -51,8 +60,10 @@ pub(crate) fn remove_if(
     yes: bool,
     old: &mut Code,
 ) -> Outcome<Changed>
-    requires { store.old.z.keypos ≡ 1 }
-    ensures { store.new.z ≡ store.old.z }
+    requires sizes { store.old.store.z.keypos ≡ 1 }
+    requires closed { (knows store.old).run ≡ None }
+    ensures sizes { store.new.store.z ≡ store.old.store.z }
+    ensures closed { (knows store.new).run ≡ None }
 {
     store.remove_if(&key_code(key), &|_object: &[u8]| yes, old, 1)
 }
@@ -65,8 +76,10 @@ pub(crate) fn raise(
     old: &mut Code,
     budget: u32,
 ) -> Outcome<Changed>
-    requires { (store.old.z.keypos ≡ 1) × (1 ≤ budget) }
-    ensures { store.new.z ≡ store.old.z }
+    requires sizes { (store.old.store.z.keypos ≡ 1) × (1 ≤ budget) }
+    requires closed { (knows store.old).run ≡ None }
+    ensures sizes { store.new.store.z ≡ store.old.store.z }
+    ensures closed { (knows store.new).run ≡ None }
 {
     let write = |object: &[u8], into: &mut Code, at: &mut usize| -> bool
         ensures { IsTrue result → IsPair 1 (number_code key, into.new.items) × StandsAt (number_code key) into.new.items at.new }

@@ -1,7 +1,8 @@
 //! Tests of the tree. The tests are all that this crate has. By one client: rows, nodes, leaves, tunings, and calls on a store, as rows of data that
-//! small functions go over. Under contention: clients on threads put, remove and read the same keys; each client notes what its calls were answered,
-//! and behind the last call each key's replies are checked: whether some merge of the clients' calls explains all of them, and the object that the key
-//! has in the end.
+//! small functions go over, and ranges beside a plain definition of what is within two edges. Under contention: a client reads ranges while another
+//! one puts, and each must be a state between two puts; and clients on threads put, remove and read the same keys; each client notes what its calls
+//! were answered, and behind the last call each key's replies are checked: whether some merge of the clients' calls explains all of them, and the
+//! object that the key has in the end.
 #![tactic(auto)]
 
 #[cfg(test)]
@@ -26,6 +27,12 @@ mod passes;
 mod player;
 #[cfg(test)]
 mod prefixes;
+#[cfg(test)]
+mod range_clients;
+#[cfg(test)]
+mod range_tests;
+#[cfg(test)]
+mod ranges;
 #[cfg(test)]
 mod rows;
 #[cfg(test)]

@@ -1,5 +1,6 @@
 //! Trees at the bounds of their sizes and tunings, and as many passes as there may be.
-ghost use Rattle.std.specs.Prelude.{◌≡◌};
+ghost use Rattle.std.specs.Prelude.{◌≡◌, None};
+ghost use Rattle.ca_replace.specs.Resting.{knows};
 
 use crate::trees::{ZERO, tree_of, tuning_of};
 use ca_adapt::{Due, Tuning};
@@ -165,9 +166,11 @@ fn makes_as_many_passes_as_it_is_for(rt: HostRuntime) {
 
 // One store takes in what another one has seen.
 fn hand_on(giver: &mut TreeStore<'_>, taker: &mut TreeStore<'_>)
-    requires { giver.old.table ≡ taker.old.table }
-    ensures giver { (giver.new.table ≡ giver.old.table) × (giver.new.z ≡ giver.old.z) }
-    ensures taker { (taker.new.table ≡ taker.old.table) × (taker.new.z ≡ taker.old.z) }
+    requires table { giver.old.store.table ≡ taker.old.store.table }
+    requires closed { ((knows giver.old).run ≡ None) × ((knows taker.old).run ≡ None) }
+    ensures giver { (giver.new.store.table ≡ giver.old.store.table) × (giver.new.store.z ≡ giver.old.store.z) }
+    ensures taker { (taker.new.store.table ≡ taker.old.store.table) × (taker.new.store.z ≡ taker.old.store.z) }
+    ensures closed { ((knows giver.new).run ≡ None) × ((knows taker.new).run ≡ None) }
 {
     let seen = giver.front();
     taker.learn(seen);

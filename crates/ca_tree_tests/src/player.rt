@@ -1,5 +1,6 @@
 //! Clients, each with a pass of its own, which note what their calls were answered.
-ghost use Rattle.std.specs.Prelude.{◌≡◌};
+ghost use Rattle.std.specs.Prelude.{◌≡◌, None};
+ghost use Rattle.ca_replace.specs.Resting.{knows};
 
 use crate::calls::{get, put, put_new, raise, remove};
 use crate::events::{Entry, Event};
@@ -40,7 +41,8 @@ pub(crate) struct Player<'t> {
     drawn: u32,
     log: Vec<Entry>,
     refused: u32,
-    pub ghost first: { store.z.keypos ≡ 1 },
+    pub ghost first: { store.store.z.keypos ≡ 1 },
+    pub ghost closed: { (knows store).run ≡ None },
 }
 
 impl Drop for Player<'_> {
@@ -59,7 +61,8 @@ impl Drop for Player<'_> {
 impl<'t> Player<'t> {
     /// The client with this number, from 1 to 7, which each other client has another one of.
     pub(crate) fn new(alloc: Global, store: TreeStore<'t>, number: u32) -> Player<'t>
-        requires { store.z.keypos ≡ 1 }
+        requires first { store.store.z.keypos ≡ 1 }
+        requires closed { (knows store).run ≡ None }
     {
         Player {
             store,

@@ -1,6 +1,7 @@
 //! Keys that begin alike: a base stores 32 bytes of what its keys share, and compares five bytes behind that.
-ghost use Rattle.std.specs.Prelude.{◌≡◌, ◌≤◌, ◌<◌, IfSome, length, slice_range};
+ghost use Rattle.std.specs.Prelude.{◌≡◌, ◌≤◌, ◌<◌, IfSome, None, length, slice_range};
 ghost use Rattle.ca_model.specs.StoreMap.{IsPair};
+ghost use Rattle.ca_replace.specs.Resting.{knows};
 
 use crate::trees::{Few, ZERO, tree_of, tuning_of};
 use ca_model::{Code, Outcome};
@@ -39,8 +40,10 @@ fn object(share: usize, number: u32) -> Option<Code>
 
 // How many keys of a kind were put that weren't there.
 fn put_all(store: &mut TreeStore<'_>, share: usize) -> u32
-    requires { (store.old.z.keypos ≡ 1) × (1 ≤ share) × (share ≤ 48) }
-    ensures { store.new.z ≡ store.old.z }
+    requires sizes { (store.old.store.z.keypos ≡ 1) × (1 ≤ share) × (share ≤ 48) }
+    requires closed { (knows store.old).run ≡ None }
+    ensures sizes { store.new.store.z ≡ store.old.store.z }
+    ensures closed { (knows store.new).run ≡ None }
 {
     let mut done = 0_u32;
     for turn in 0..MANY {
@@ -55,8 +58,10 @@ fn put_all(store: &mut TreeStore<'_>, share: usize) -> u32
 
 // How many are there.
 fn found(store: &mut TreeStore<'_>, share: usize) -> u32
-    requires { (1 ≤ share) × (share ≤ 48) }
-    ensures { store.new.z ≡ store.old.z }
+    requires share { (1 ≤ share) × (share ≤ 48) }
+    requires closed { (knows store.old).run ≡ None }
+    ensures sizes { store.new.store.z ≡ store.old.store.z }
+    ensures closed { (knows store.new).run ≡ None }
 {
     let mut there = 0_u32;
     for number in 0..MANY {
@@ -74,8 +79,10 @@ fn found(store: &mut TreeStore<'_>, share: usize) -> u32
 
 // How many are removed, from this number on each second one.
 fn remove_some(store: &mut TreeStore<'_>, share: usize, first: u32) -> u32
-    requires { (store.old.z.keypos ≡ 1) × (1 ≤ share) × (share ≤ 48) }
-    ensures { store.new.z ≡ store.old.z }
+    requires sizes { (store.old.store.z.keypos ≡ 1) × (1 ≤ share) × (share ≤ 48) }
+    requires closed { (knows store.old).run ≡ None }
+    ensures sizes { store.new.store.z ≡ store.old.store.z }
+    ensures closed { (knows store.new).run ≡ None }
 {
     let mut done = 0_u32;
     for number in 0..MANY {

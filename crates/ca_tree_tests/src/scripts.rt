@@ -1,5 +1,6 @@
 //! Scripts of calls on a store: each call with what it comes to.
-ghost use Rattle.std.specs.Prelude.{◌≡◌, ◌≤◌};
+ghost use Rattle.std.specs.Prelude.{◌≡◌, ◌≤◌, None};
+ghost use Rattle.ca_replace.specs.Resting.{knows};
 
 use crate::calls::{get, put, put_new, raise, remove, remove_if};
 use crate::objects::value_of;
@@ -66,8 +67,10 @@ pub(crate) type Row = (Call, Answer);
 
 /// The place of the first row whose call comes to something else.
 pub(crate) fn wrong_row(store: &mut TreeStore<'_>, script: &[Row]) -> Option<usize>
-    requires { store.old.z.keypos ≡ 1 }
-    ensures { store.new.z ≡ store.old.z }
+    requires sizes { store.old.store.z.keypos ≡ 1 }
+    requires closed { (knows store.old).run ≡ None }
+    ensures sizes { store.new.store.z ≡ store.old.store.z }
+    ensures closed { (knows store.new).run ≡ None }
 {
     for place in 0..script.len() {
         let (call, wanted) = script[place];
@@ -79,8 +82,10 @@ pub(crate) fn wrong_row(store: &mut TreeStore<'_>, script: &[Row]) -> Option<usi
 }
 
 fn come_to(store: &mut TreeStore<'_>, call: Call) -> Answer
-    requires { store.old.z.keypos ≡ 1 }
-    ensures { store.new.z ≡ store.old.z }
+    requires sizes { store.old.store.z.keypos ≡ 1 }
+    requires closed { (knows store.old).run ≡ None }
+    ensures sizes { store.new.store.z ≡ store.old.store.z }
+    ensures closed { (knows store.new).run ≡ None }
 {
     match call {
         Call::Put(n) => Answer::Puts(with(put(store, n, 0, 1), Changed::Put)),
@@ -103,8 +108,10 @@ fn come_to(store: &mut TreeStore<'_>, call: Call) -> Answer
 
 // A call that finds an object. What stood in the Code before doesn't stay.
 fn find(store: &mut TreeStore<'_>, call: Call, n: u32) -> Answer
-    requires { store.old.z.keypos ≡ 1 }
-    ensures { store.new.z ≡ store.old.z }
+    requires sizes { store.old.store.z.keypos ≡ 1 }
+    requires closed { (knows store.old).run ≡ None }
+    ensures sizes { store.new.store.z ≡ store.old.store.z }
+    ensures closed { (knows store.new).run ≡ None }
 {
     let mut old = Code::new();
     let _pushed = old.try_push(7);
@@ -118,8 +125,10 @@ fn find(store: &mut TreeStore<'_>, call: Call, n: u32) -> Answer
 }
 
 fn found(store: &mut TreeStore<'_>, call: Call, n: u32, old: &mut Code) -> Outcome<Changed>
-    requires { store.old.z.keypos ≡ 1 }
-    ensures { store.new.z ≡ store.old.z }
+    requires sizes { store.old.store.z.keypos ≡ 1 }
+    requires closed { (knows store.old).run ≡ None }
+    ensures sizes { store.new.store.z ≡ store.old.store.z }
+    ensures closed { (knows store.new).run ≡ None }
 {
     match call {
         Call::Remove(_) => by_truth(remove(store, n, old, 1), Changed::Absent),
@@ -165,8 +174,10 @@ fn put_many(
     times: u32,
     budget: u32,
 ) -> (u32, Outcome<()>)
-    requires { (store.old.z.keypos ≡ 1) × (1 ≤ budget) }
-    ensures { store.new.z ≡ store.old.z }
+    requires sizes { (store.old.store.z.keypos ≡ 1) × (1 ≤ budget) }
+    requires closed { (knows store.old).run ≡ None }
+    ensures sizes { store.new.store.z ≡ store.old.store.z }
+    ensures closed { (knows store.new).run ≡ None }
 {
     for done in 0..times {
         let outcome = put(
@@ -183,16 +194,20 @@ fn put_many(
 }
 
 fn put_often(store: &mut TreeStore<'_>, n: u32) -> Answer
-    requires { store.old.z.keypos ≡ 1 }
-    ensures { store.new.z ≡ store.old.z }
+    requires sizes { store.old.store.z.keypos ≡ 1 }
+    requires closed { (knows store.old).run ≡ None }
+    ensures sizes { store.new.store.z ≡ store.old.store.z }
+    ensures closed { (knows store.new).run ≡ None }
 {
     let (done, last) = put_many(store, n, 0, 1_000, 1);
     Answer::Many(done, last)
 }
 
 fn put_rising(store: &mut TreeStore<'_>, first: u32, end: u32) -> Answer
-    requires { store.old.z.keypos ≡ 1 }
-    ensures { store.new.z ≡ store.old.z }
+    requires sizes { store.old.store.z.keypos ≡ 1 }
+    requires closed { (knows store.old).run ≡ None }
+    ensures sizes { store.new.store.z ≡ store.old.store.z }
+    ensures closed { (knows store.new).run ≡ None }
 {
     let (done, last) = put_many(store, first, 1, end.wrapping_sub(first), 100);
     if matches!(last, Outcome::Full(_)) {
@@ -204,8 +219,10 @@ fn put_rising(store: &mut TreeStore<'_>, first: u32, end: u32) -> Answer
 
 // How many of so many parts of a call are done.
 fn tally(store: &mut TreeStore<'_>, call: Call, end: u32) -> u32
-    requires { store.old.z.keypos ≡ 1 }
-    ensures { store.new.z ≡ store.old.z }
+    requires sizes { store.old.store.z.keypos ≡ 1 }
+    requires closed { (knows store.old).run ≡ None }
+    ensures sizes { store.new.store.z ≡ store.old.store.z }
+    ensures closed { (knows store.new).run ≡ None }
 {
     let mut count = 0_u32;
     for n in 0..end {
@@ -218,8 +235,10 @@ fn tally(store: &mut TreeStore<'_>, call: Call, end: u32) -> u32
 
 // Whether a part of a call is done.
 fn does(store: &mut TreeStore<'_>, call: Call, n: u32) -> bool
-    requires { store.old.z.keypos ≡ 1 }
-    ensures { store.new.z ≡ store.old.z }
+    requires sizes { store.old.store.z.keypos ≡ 1 }
+    requires closed { (knows store.old).run ≡ None }
+    ensures sizes { store.new.store.z ≡ store.old.store.z }
+    ensures closed { (knows store.new).run ≡ None }
 {
     let mut old = Code::new();
     match call {
@@ -232,8 +251,10 @@ fn does(store: &mut TreeStore<'_>, call: Call, n: u32) -> bool
 }
 
 fn adapt(store: &mut TreeStore<'_>, n: u32) -> Answer
-    requires { store.old.z.keypos ≡ 1 }
-    ensures { store.new.z ≡ store.old.z }
+    requires sizes { store.old.store.z.keypos ≡ 1 }
+    requires closed { (knows store.old).run ≡ None }
+    ensures sizes { store.new.store.z ≡ store.old.store.z }
+    ensures closed { (knows store.new).run ≡ None }
 {
     let outcome = put(store, n, 0, 1);
     if outcome == Outcome::Done(()) {

@@ -2,6 +2,7 @@ use Rattle.std.proofs.Common.{◌≡◌, length, sym, subst, arith}
 use Rattle.ca_node.specs.Told.{MyTree}
 use Rattle.ca_base.specs.Finding.{IsAtCursor}
 use Rattle.ca_base.specs.Putting.{IsShownLast, first_note}
+use Rattle.ca_base.proofs.Fronted.{first_noted}
 use Rattle.ca_adapt.proofs.Dividing.{one_try_as, put_back_as, split_as, pools_as}
 use Rattle.ca_adapt.proofs.splitting.try_split.Goals as goal
 
@@ -47,7 +48,12 @@ split_at-requires-clause-target c = let z = c.args.space.now.table.shared.key in
       leaf = let most = c.requires.tuned.allowed.most_leaf in let leaf = c.requires.tuned.leaf in
           omega arith;
       shown = subst (λ (m : MyTree). IsShownLast z m.0.upper c.args.cursor.base) same
-          record { noted = r.noted; here = r.here; is_base = r.is_base; settled = c.requires.settled };
+          record {
+            noted = first_noted z c.args.pass.now.seat.me.0.upper c.args.cursor.base r;
+            here = r.here;
+            is_base = r.is_base;
+            settled = c.requires.settled;
+          };
       at = subst
           (λ (m : MyTree). IsAtCursor z (first_note m.0.upper.notes) c.args.cursor) same
           c.requires.at;

@@ -1,6 +1,5 @@
 use Rattle.std.proofs.Common.{◌≡◌, ◌+◌, get_or, sym, refl, ap, subst, ◌∙◌, arith}
 use Rattle.std.proofs.lemmas.List.{get_or-map}
-use Rattle.ca_node.specs.Told.{IsShown}
 use Rattle.ca_node.specs.TreeView.{TreeView}
 use Rattle.ca_base.specs.Prefixes.{reheaded}
 use Rattle.ca_base.specs.Putting.{first_note, last_words}
@@ -11,6 +10,7 @@ use Rattle.ca_base.proofs.LastItems.{last_shown, last_inside, last_word}
 use Rattle.ca_rows.specs.declared.view.Pin.{Pin}
 use Rattle.ca_base.proofs.copying.copy_items.Goals as goal
 use Rattle.ca_node.specs.Layout.{items_word}
+use Rattle.ca_base.specs.Finding.{IsRowShown}
 
 pub load_word-word-requires-clause-reading : goal.load_word-word-requires-clause-reading
 load_word-word-requires-clause-reading c = record {
@@ -26,7 +26,7 @@ pub load_word-word-requires-clause-shown : goal.load_word-word-requires-clause-s
 load_word-word-requires-clause-shown c = word_shown c.loop-place.pass.seat.me.0.upper _ _ (
   (first_note c.args.pass.now.seat.me.0.upper.notes).its,
   subst (λ (u : TreeView).
-      IsShown u c.args.run.base (first_note c.args.pass.now.seat.me.0.upper.notes).its)
+      IsRowShown u c.args.run.base (first_note c.args.pass.now.seat.me.0.upper.notes).its)
       (sym c.loop-place.invariant.0.still.4)
       (last_shown _ _ _ c.requires.shown),
 )
@@ -46,7 +46,7 @@ pub loop-place-preserved : goal.loop-place-preserved
 loop-place-preserved c = let i = c.loop-place.invariant in
     let u = c.args.pass.now.seat.me.0.upper in let its = (first_note u.notes).its in
     let shown = subst
-    (λ (v : TreeView). IsShown v c.args.run.base its) (sym i.0.still.4)
+    (λ (v : TreeView). IsRowShown v c.args.run.base its) (sym i.0.still.4)
     (last_shown _ _ _ c.requires.shown) in
     let there : items_word + c.args.run.from + c.loop-place.place
     ≡ items_word + (c.args.run.from + c.loop-place.place) = omega arith in

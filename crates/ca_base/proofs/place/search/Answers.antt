@@ -5,10 +5,24 @@ use Rattle.ca_model.specs.StoreMap.{bytes_cmp}
 use Rattle.ca_node.specs.Row.{front_of, prefix, prefix_length}
 use Rattle.ca_node.specs.TreeView.{Note}
 use Rattle.ca_node.specs.Told.{MyTree}
-use Rattle.ca_base.specs.Finding.{IsReadable, IsBaseShown}
+use Rattle.ca_base.specs.Finding.{IsReadable, IsBaseSeen}
 use Rattle.ca_base.proofs.Fronted.{read_shown}
 use Rattle.ca_base.proofs.Searching.{place_is, before_all, behind_all, begins_so}
 use Rattle.ca_base.proofs.place.search.Goals as goal
+
+pub prefix_len-skip-requires-clause-shown : goal.prefix_len-skip-requires-clause-shown
+prefix_len-skip-requires-clause-shown c = let z = c.args.space.now.table.shared.key in let r = c.requires.readable in (
+  r.0,
+  subst (λ (m : MyTree). IsBaseSeen z m.0.upper c.args.base r.0) (sym c.count-many.ensures.frame.still)
+      (read_shown z c.args.pass.now.seat.me.0.upper c.args.base r.0 r.1),
+)
+
+pub compare_prefix-requires-clause-shown : goal.compare_prefix-requires-clause-shown
+compare_prefix-requires-clause-shown c = let z = c.args.space.now.table.shared.key in let r = c.requires.readable in (
+  r.0,
+  subst (λ (m : MyTree). IsBaseSeen z m.0.upper c.args.base r.0) (sym (c.prefix_len-skip.ensures.frame.still ∙ c.count-many.ensures.frame.still))
+      (read_shown z c.args.pass.now.seat.me.0.upper c.args.base r.0 r.1),
+)
 
 pub returns-clause-place : goal.returns-clause-place
 returns-clause-place c note r = let z = c.args.space.now.table.shared.key in
@@ -21,9 +35,9 @@ returns-clause-place c note r = let z = c.args.space.now.table.shared.key in
 
 pub returns-in-Less-clause-place : goal.returns-in-Less-clause-place
 returns-in-Less-clause-place c note r = let z = c.args.space.now.table.shared.key in
-    let one = subst (λ (m : MyTree). IsBaseShown z m.0.upper c.args.base note)
+    let one = subst (λ (m : MyTree). IsBaseSeen z m.0.upper c.args.base note)
     (sym c.count-many.ensures.frame.still) (read_shown z c.args.pass.now.seat.me.0.upper c.args.base note r) in
-    let two = subst (λ (m : MyTree). IsBaseShown z m.0.upper c.args.base note)
+    let two = subst (λ (m : MyTree). IsBaseSeen z m.0.upper c.args.base note)
     (sym c.prefix_len-skip.ensures.frame.still) one in
     let same = c.prefix_len-skip.ensures.len note one in
     behind_all z c.args.pass.now.seat.me.0.upper c.args.base c.args.key.now note r
@@ -32,9 +46,9 @@ returns-in-Less-clause-place c note r = let z = c.args.space.now.table.shared.ke
 
 pub returns-in-Greater-clause-place : goal.returns-in-Greater-clause-place
 returns-in-Greater-clause-place c note r = let z = c.args.space.now.table.shared.key in
-    let one = subst (λ (m : MyTree). IsBaseShown z m.0.upper c.args.base note)
+    let one = subst (λ (m : MyTree). IsBaseSeen z m.0.upper c.args.base note)
     (sym c.count-many.ensures.frame.still) (read_shown z c.args.pass.now.seat.me.0.upper c.args.base note r) in
-    let two = subst (λ (m : MyTree). IsBaseShown z m.0.upper c.args.base note)
+    let two = subst (λ (m : MyTree). IsBaseSeen z m.0.upper c.args.base note)
     (sym c.prefix_len-skip.ensures.frame.still) one in
     let same = c.prefix_len-skip.ensures.len note one in
     before_all z c.args.pass.now.seat.me.0.upper c.args.base c.args.key.now note r
@@ -45,9 +59,9 @@ returns-in-Greater-clause-place c note r = let z = c.args.space.now.table.shared
 inside : (c : goal.In-Equal) → c.prefix_len-skip.result ≤ length c.args.key.now
 inside c = let z = c.args.space.now.table.shared.key in let note = c.requires.readable.0 in
     let r = c.requires.readable.1 in
-    let one = subst (λ (m : MyTree). IsBaseShown z m.0.upper c.args.base note)
+    let one = subst (λ (m : MyTree). IsBaseSeen z m.0.upper c.args.base note)
     (sym c.count-many.ensures.frame.still) (read_shown z c.args.pass.now.seat.me.0.upper c.args.base note r) in
-    let two = subst (λ (m : MyTree). IsBaseShown z m.0.upper c.args.base note)
+    let two = subst (λ (m : MyTree). IsBaseSeen z m.0.upper c.args.base note)
     (sym c.prefix_len-skip.ensures.frame.still) one in
     let same = c.prefix_len-skip.ensures.len note one in
     (begins_so z c.args.pass.now.seat.me.0.upper c.args.base c.args.key.now note r
@@ -69,8 +83,8 @@ find_among-requires c = let z = c.args.space.now.table.shared.key in
     → IsReadable z c.args.pass.now.seat.me.0.upper c.args.base n =
     λ n q. subst (λ (m : MyTree). IsReadable z m.0.upper c.args.base n) still q in
     let one : (n : Note) → IsReadable z c.args.pass.now.seat.me.0.upper c.args.base n
-    → IsBaseShown z c.count-many.new.pass.seat.me.0.upper c.args.base n =
-    λ n q. subst (λ (m : MyTree). IsBaseShown z m.0.upper c.args.base n)
+    → IsBaseSeen z c.count-many.new.pass.seat.me.0.upper c.args.base n =
+    λ n q. subst (λ (m : MyTree). IsBaseSeen z m.0.upper c.args.base n)
     (sym c.count-many.ensures.frame.still) (read_shown z c.args.pass.now.seat.me.0.upper c.args.base n q) in
     let same : (n : Note) → IsReadable z c.args.pass.now.seat.me.0.upper c.args.base n
     → c.prefix_len-skip.result ≡ prefix_length n.its =
@@ -78,7 +92,7 @@ find_among-requires c = let z = c.args.space.now.table.shared.key in
     let order : (n : Note) → IsReadable z c.args.pass.now.seat.me.0.upper c.args.base n
     → Equal ≡ bytes_cmp (prefix n.its) (take c.prefix_len-skip.result c.args.key.now) =
     λ n q. sym c.in-Equal.is ∙ c.compare_prefix.ensures.order n
-    (subst (λ (m : MyTree). IsBaseShown z m.0.upper c.args.base n)
+    (subst (λ (m : MyTree). IsBaseSeen z m.0.upper c.args.base n)
     (sym c.prefix_len-skip.ensures.frame.still) (one n q)) (same n q) in record {
       known = λ place l. record {
         reading = record {

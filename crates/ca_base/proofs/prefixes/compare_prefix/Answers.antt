@@ -3,18 +3,19 @@ use Rattle.std.specs.Int.{to_be_bytes, w64}
 use Rattle.std.specs.Ordering.{nat_cmp}
 use Rattle.ca_model.specs.StoreMap.{bytes_cmp}
 use Rattle.ca_node.specs.Row.{bytes_in, prefix_words}
-use Rattle.ca_node.specs.Told.{MyTree, IsShown}
+use Rattle.ca_node.specs.Told.{MyTree}
 use Rattle.ca_node.proofs.WordOrder.{bytes_long}
 use Rattle.ca_base.proofs.Fronted.{shows, words_long, part_at, front_part_of}
 use Rattle.ca_base.proofs.Items.{word_shown, as_shown}
 use Rattle.ca_node.proofs.KeyOrder.{IsLeft, is_equal, is_other, front_part, decided, left_on, left_none}
+use Rattle.ca_base.specs.Finding.{IsRowShown}
 use Rattle.ca_base.proofs.prefixes.compare_prefix.Goals as goal
 
 pub load_word-word-requires-clause-shown : goal.load_word-word-requires-clause-shown
 load_word-word-requires-clause-shown c = let s = c.requires.shown in
     word_shown c.loop-place.pass.seat.me.0.upper _ _ (
       s.0.its,
-      subst (λ (m : MyTree). IsShown m.0.upper c.args.base s.0.its) (sym c.loop-place.invariant.still)
+      subst (λ (m : MyTree). IsRowShown m.0.upper c.args.base s.0.its) (sym c.loop-place.invariant.still)
           (shows _ _ _ s.0 s.1),
     )
 
@@ -29,7 +30,7 @@ returns-then-is_ne-clause-order c note r same = let place : ℕ = c.loop-place.p
     let there : min c.min-stop.result (8 * place) ≡ 8 * place = omega arith in
     let there' : 8 * place - 0 ≡ 8 * place = omega arith in
     let word = as_shown c.loop-place.pass.seat.me.0.upper _ _ _ c.load_word-word.ensures.word note.its
-    (subst (λ (m : MyTree). IsShown m.0.upper c.args.base note.its) (sym inv.still) (shows _ _ _ note r)) in
+    (subst (λ (m : MyTree). IsRowShown m.0.upper c.args.base note.its) (sym inv.still) (shows _ _ _ note r)) in
     let has = part_at note.its place n c.load_word-word.result r.is_base.long (omega arith) (omega arith) word in
     let has_too : take n (to_be_bytes w64 c.word_from.result) ≡ take n (drop (8 * place) front) =
     front_part key (8 * place) n c.word_from.result c.word_from.ensures (omega arith) (omega arith)
@@ -60,7 +61,7 @@ loop-place-preserved c = let place : ℕ = c.loop-place.place in
       still = search rules;
       left = λ note r same. let bytes : List ℕ = bytes_in (prefix_words note.its) in
           let word = as_shown c.loop-place.pass.seat.me.0.upper _ _ _ c.load_word-word.ensures.word note.its
-          (subst (λ (m : MyTree). IsShown m.0.upper c.args.base note.its) (sym inv.still) (shows _ _ _ note r)) in
+          (subst (λ (m : MyTree). IsRowShown m.0.upper c.args.base note.its) (sym inv.still) (shows _ _ _ note r)) in
           let has = part_at note.its place n c.load_word-word.result r.is_base.long (omega arith) (omega arith) word in
           let has_too : take n (to_be_bytes w64 c.word_from.result) ≡ take n (drop (8 * place) front) =
           front_part key (8 * place) n c.word_from.result c.word_from.ensures (omega arith) (omega arith)

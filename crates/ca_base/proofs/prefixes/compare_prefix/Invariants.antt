@@ -1,7 +1,7 @@
 use Rattle.std.proofs.Common.{◌≡◌, ◌*◌, min, take}
 use Rattle.ca_node.specs.Row.{bytes_in, prefix_length, prefix_words}
 use Rattle.ca_node.specs.TreeView.{Note}
-use Rattle.ca_base.specs.Finding.{IsBaseShown}
+use Rattle.ca_base.specs.Finding.{IsBaseSeen}
 use Rattle.ca_rows.specs.Calls.{IsOf, IsSame}
 use Rattle.ca_node.proofs.KeyOrder.{IsLeft}
 use Rattle.ca_base.proofs.prefixes.compare_prefix.Given as goal
@@ -14,7 +14,7 @@ invariant-loop-place l = record {
   tally : l.pass.tally ≡ l.fn.pass.tally;
   kept : l.pass.kept ≡ l.fn.pass.kept;
   still : l.pass.seat.me ≡ l.fn.pass.seat.me;
-  left : (note : Note) → IsBaseShown l.space.table.shared.key l.fn.pass.seat.me.0.upper l.base note
+  left : (note : Note) → IsBaseSeen l.space.table.shared.key l.fn.pass.seat.me.0.upper l.base note
       → l.len ≡ prefix_length note.its
       → IsLeft (bytes_in (prefix_words note.its)) (take l.len l.key) 0 l.len (min l.stop (8 * l.place));
 }

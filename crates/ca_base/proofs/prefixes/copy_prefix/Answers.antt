@@ -1,7 +1,8 @@
 use Rattle.std.proofs.Common.{rules, ℕ, List, ◌≡◌, ◌*◌, ◌++◌, length, get_or, take, min, ap, sym, subst, ◌∙◌, arith, length-take}
 use Rattle.std.specs.Int.{to_be_bytes, w64}
 use Rattle.ca_node.specs.Row.{bytes_in, prefix_words}
-use Rattle.ca_node.specs.Told.{MyTree, IsShown}
+use Rattle.ca_node.specs.Told.{MyTree}
+use Rattle.ca_base.specs.Finding.{IsRowShown}
 use Rattle.ca_base.proofs.Fronted.{shows, words_long, word_is}
 use Rattle.ca_base.proofs.Items.{word_shown, as_shown}
 use Rattle.ca_base.proofs.ObjectBytes.{one_more}
@@ -11,7 +12,7 @@ pub load_word-requires-clause-shown : goal.load_word-requires-clause-shown
 load_word-requires-clause-shown c = let s = c.requires.shown in
     word_shown c.loop-i.pass.seat.me.0.upper _ _ (
       s.0.its,
-      subst (λ (m : MyTree). IsShown m.0.upper c.args.base s.0.its) (sym c.loop-i.invariant.still)
+      subst (λ (m : MyTree). IsRowShown m.0.upper c.args.base s.0.its) (sym c.loop-i.invariant.still)
           (shows _ _ _ s.0 s.1),
     )
 
@@ -37,7 +38,7 @@ loop-i-preserved c = let i : ℕ = c.loop-i.i in let len : ℕ = c.prefix_len-le
       kept = search rules;
       still = search rules;
       copied = λ note r. let long = words_long note.its r.is_base.long in
-          let s = subst (λ (m : MyTree). IsShown m.0.upper c.args.base note.its) (sym inv.still)
+          let s = subst (λ (m : MyTree). IsRowShown m.0.upper c.args.base note.its) (sym inv.still)
           (shows _ _ _ note r) in
           let word : c.load_word.result ≡ get_or (prefix_words note.its) i 0 =
           as_shown c.loop-i.pass.seat.me.0.upper _ _ _ c.load_word.ensures.word note.its s

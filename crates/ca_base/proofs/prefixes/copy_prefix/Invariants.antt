@@ -1,7 +1,7 @@
 use Rattle.std.proofs.Common.{◌≡◌, ◌*◌, min, take}
 use Rattle.ca_node.specs.Row.{bytes_in, prefix_words}
 use Rattle.ca_node.specs.TreeView.{Note}
-use Rattle.ca_base.specs.Finding.{IsBaseShown}
+use Rattle.ca_base.specs.Finding.{IsBaseSeen}
 use Rattle.ca_rows.specs.Calls.{IsOf, IsSame}
 use Rattle.ca_base.proofs.prefixes.copy_prefix.Given as goal
 
@@ -13,6 +13,6 @@ invariant-loop-i l = record {
   tally : l.pass.tally ≡ l.fn.pass.tally;
   kept : l.pass.kept ≡ l.fn.pass.kept;
   still : l.pass.seat.me ≡ l.fn.pass.seat.me;
-  copied : (note : Note) → IsBaseShown l.space.table.shared.key l.fn.pass.seat.me.0.upper l.base note
+  copied : (note : Note) → IsBaseSeen l.space.table.shared.key l.fn.pass.seat.me.0.upper l.base note
       → l.into.items ≡ take (min l.len (8 * l.i)) (bytes_in (prefix_words note.its));
 }

@@ -2,8 +2,8 @@ use Rattle.std.proofs.Common.{rules, ◌≡◌, ◌+◌, ◌-◌, ◌*◌, ◌/�
 use Rattle.std.proofs.lemmas.List.{length-take-le}
 use Rattle.std.specs.Int.{to_be_bytes, w64}
 use Rattle.ca_node.specs.Row.{bytes_in, code_words}
-use Rattle.ca_node.specs.Told.{MyTree, IsShown}
-use Rattle.ca_base.specs.Finding.{IsObjectShown, all_bytes}
+use Rattle.ca_node.specs.Told.{MyTree}
+use Rattle.ca_base.specs.Finding.{IsRowShown, IsObjectShown, all_bytes}
 use Rattle.ca_base.proofs.Items.{word_shown, as_shown}
 use Rattle.ca_node.proofs.WordOrder.{bytes_long}
 use Rattle.ca_base.proofs.SplitKeys.{next_part, part_behind}
@@ -15,7 +15,7 @@ pub load_word-requires-clause-shown : goal.load_word-requires-clause-shown
 load_word-requires-clause-shown g c = let s = c.requires.object.shown in
     word_shown c.loop-at.pass.seat.me.0.upper c.args.row (code_word + c.loop-at.at / 8) (
       s.0,
-      subst (λ (m : MyTree). IsShown m.0.upper c.args.row s.0) (sym c.loop-at.invariant.still)
+      subst (λ (m : MyTree). IsRowShown m.0.upper c.args.row s.0) (sym c.loop-at.invariant.still)
           s.1.shown,
     )
 
@@ -33,7 +33,7 @@ loop-at-preserved g c = let start : ℕ = c.key_bytes-first.result.0 + c.min.res
     (shown : IsObjectShown c.args.pass.now.seat.me.0.upper c.args.row its).
     let long = shown.long in
     let all : 8 * length (code_words its) ≡ 1000 = omega (arith, code_long its long) in
-    let s = subst (λ (m : MyTree). IsShown m.0.upper c.args.row its) (sym i.still) shown.shown in
+    let s = subst (λ (m : MyTree). IsRowShown m.0.upper c.args.row its) (sym i.still) shown.shown in
     let word : c.load_word.result ≡ get_or (code_words its) (at / 8) 0 =
     as_shown c.loop-at.pass.seat.me.0.upper c.args.row (code_word + at / 8) c.load_word.result
     c.load_word.ensures.word its s ∙ sym (code_at its (at / 8) (omega arith)) in

@@ -1,9 +1,10 @@
 use Rattle.std.proofs.Common.{ℕ, List, ◌+◌, drop, take, get_or, sym, subst, ◌∙◌, arith}
-use Rattle.std.proofs.lemmas.List.{take_more}
+use Rattle.std.proofs.lemmas.List.{drop_all, take_more}
 use Rattle.ca_base.specs.Counting.{KeepsMore}
 use Rattle.ca_base.specs.Taking.{AreUnlinked}
 use Rattle.ca_base.proofs.Counts.{keeps_last, met_both}
 use Rattle.ca_base.proofs.Rest.{from_place}
+use Rattle.ca_base.proofs.Unlinking.{none_left}
 use Rattle.ca_base.proofs.swapping.retire_all.Goals as goal
 
 pub retire_unlinked-requires-clause-unlinked : goal.retire_unlinked-requires-clause-unlinked
@@ -36,3 +37,9 @@ loop-at-preserved c = let i = c.loop-at.invariant in let s = c.retire_unlinked.e
           c.args.pass.now.kept.rows.items c.loop-at.pass.kept.rows.items c.retire_unlinked.new.pass.kept.rows.items
           i.kept c.retire_unlinked.ensures.kept);
     }
+
+pub returns-clause-none : goal.returns-clause-none
+returns-clause-none c = let rows : List ℕ = c.args.rows.now in
+    none_left c.args.space.now.table.shared.key.rows c.loop-at.pass.kept.rows c.loop-at.pass.seat.me.0
+    (subst (AreUnlinked c.args.space.now.table.shared.key.rows c.loop-at.pass.kept.rows c.loop-at.pass.seat.me.0)
+    (drop_all c.loop-at.at rows (omega arith)) c.loop-at.invariant.unlinked)

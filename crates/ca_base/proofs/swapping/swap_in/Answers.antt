@@ -2,7 +2,7 @@ use Rattle.std.proofs.Common.{[], ◌≤◌, length, ℕ, List, ◌∷◌, sym, 
 use Rattle.ca_base.specs.Counting.{losses}
 use Rattle.ca_base.proofs.Alone.{not_missed}
 use Rattle.ca_base.proofs.Counts.{back_both, met_both, none_back, none_spent, one_spent, spent_both}
-use Rattle.ca_base.specs.Taking.{HasHeld}
+use Rattle.ca_base.specs.Taking.{HasHeld, lent_of}
 use Rattle.ca_base.proofs.Renewing.{met_still, renewed, placed}
 use Rattle.ca_base.specs.Putting.{IsRenewed}
 use Rattle.ca_rows.specs.declared.kept.KeptRows.{KeptRows}
@@ -83,9 +83,9 @@ returns-clause-renewed g c = let first = c.retire_unlinked.ensures in
     (renewed c.args.space.now.table.shared.key c.args.pass.now.kept.rows c.args.pass.now.seat.me
     c.args.rows.now.new g.K.Intent.update
     c.requires.update c.requires.old_base c.requires.last
-    (subst (λ (xs : List ℕ).
+    (lent_of c.args.pass.now.seat.me.0.upper.ranges.own) (subst (λ (xs : List ℕ).
     HasHeld c.args.space.now.table.shared.key.rows c.args.pass.now.kept.rows
-    c.args.pass.now.seat.me.0.claims (c.args.rows.now.new ∷ xs))
+    c.args.pass.now.seat.me.0.claims (lent_of c.args.pass.now.seat.me.0.upper.ranges.own) (c.args.rows.now.new ∷ xs))
     (sym c.requires.rows.0) c.requires.held.0)
     c.replace_base.new.pass.seat.me c.retire_all.new.pass.seat.me.0.upper
     (subst (λ (xs : List ℕ). length xs ≤ 1) (sym c.requires.rows.0) c.requires.few.0)
@@ -97,9 +97,9 @@ returns-clause-placed g c =
     placed c.args.space.now.table.shared.key c.args.pass.now.kept.rows c.args.pass.now.seat.me
     c.args.rows.now.new g.K.Intent.update
     c.requires.update c.requires.old_base c.requires.last
-    (subst (λ (xs : List ℕ).
+    (lent_of c.args.pass.now.seat.me.0.upper.ranges.own) (subst (λ (xs : List ℕ).
     HasHeld c.args.space.now.table.shared.key.rows c.args.pass.now.kept.rows
-    c.args.pass.now.seat.me.0.claims (c.args.rows.now.new ∷ xs))
+    c.args.pass.now.seat.me.0.claims (lent_of c.args.pass.now.seat.me.0.upper.ranges.own) (c.args.rows.now.new ∷ xs))
     (sym c.requires.rows.0) c.requires.held.0)
     c.replace_base.new.pass.seat.me c.retire_all.new.pass.seat.me.0.upper
     c.if-not-replace_base.ensures.done

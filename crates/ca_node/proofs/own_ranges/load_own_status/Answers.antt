@@ -11,4 +11,4 @@ load-requires-clause-rule c = let own = c.requires.owner in
     ∙ ap (λ (n : ℕ). status_word c.args.space.now.table.shared.key n) (c.number.ensures ∙ sym own.same_number))
 
 pub returns-clause-found : goal.returns-clause-found
-returns-clause-found c = (c.load.result, c.state_of.ensures, c.load.ensures.told.2)
+returns-clause-found c = (c.load.result, c.state_of.ensures, c.load.ensures.told.2, c.load.type_inv)

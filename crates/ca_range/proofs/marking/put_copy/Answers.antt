@@ -26,7 +26,7 @@ retire_unlinked-requires-clause-unlinked g c = (
   [],
   in_nothing c.args.next.base [] refl,
   copied_rows c.args.space.now.table.shared.key.rows c.args.pass.now.kept c.mark_next.new.pass.kept c.args.pass.now.seat.me c.mark_next.new.pass.seat.me
-      c.args.pass.now.seat.me.0.upper.ranges c.args.row g.K.Marking.copy c.args.next.base c.requires.at.base c.if-not-mark_next.ensures.done
+      c.args.pass.now.seat.me.0.upper.ranges c.args.row g.K.Marking.copy c.args.next.base c.requires.at.base refl c.if-not-mark_next.ensures.done
       c.mark_next.ensures.frame.kept c.requires.held,
 )
 
@@ -44,6 +44,6 @@ returns-clause-frame g c = record {
       none_left rows c.retire_unlinked.new.pass.kept.rows c.retire_unlinked.new.pass.seat.me.0
       (c.retire_unlinked.ensures.retired [] (in_nothing c.args.next.base [] refl)
       (copied_rows rows c.args.pass.now.kept c.mark_next.new.pass.kept c.args.pass.now.seat.me c.mark_next.new.pass.seat.me
-      c.args.pass.now.seat.me.0.upper.ranges c.args.row g.K.Marking.copy c.args.next.base c.requires.at.base c.if-not-mark_next.ensures.done
+      c.args.pass.now.seat.me.0.upper.ranges c.args.row g.K.Marking.copy c.args.next.base c.requires.at.base refl c.if-not-mark_next.ensures.done
       c.mark_next.ensures.frame.kept c.requires.held));
 }

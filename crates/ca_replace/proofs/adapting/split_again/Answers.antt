@@ -43,7 +43,7 @@ try_split-adapted-requires-clause-ready c = record {
   none = held_upper c.args.tree.now.space.table.shared.key.rows c.args.pass.now.kept
       c.walk-cursor.new.pass.kept
       c.args.pass.now.seat.me c.walk-cursor.new.pass.seat.me _ [] c.requires.ready.none
-      c.walk-cursor.ensures.walked.now c.walk-cursor.ensures.frame.kept;
+      c.walk-cursor.ensures.walked.now refl c.walk-cursor.ensures.frame.kept;
 }
 
 pub returns-then-cursor-placed-clause-frame : goal.returns-then-cursor-placed-clause-frame
@@ -61,7 +61,7 @@ returns-then-cursor-placed-clause-frame c = record {
   none = held_upper c.args.tree.now.space.table.shared.key.rows c.args.pass.now.kept
       c.walk-cursor.new.pass.kept
       c.args.pass.now.seat.me c.walk-cursor.new.pass.seat.me _ [] c.requires.ready.none
-      c.walk-cursor.ensures.walked.now c.walk-cursor.ensures.frame.kept;
+      c.walk-cursor.ensures.walked.now refl c.walk-cursor.ensures.frame.kept;
 }
 
 pub returns-then-cursor-placed-clause-further : goal.returns-then-cursor-placed-clause-further

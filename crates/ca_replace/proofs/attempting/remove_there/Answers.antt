@@ -1,4 +1,5 @@
 use Rattle.std.proofs.Common.{◌≡◌, None, Some, Ok, Err, true, false, sym, refl, subst}
+use Rattle.ca_base.proofs.Fronted.{first_noted}
 use Rattle.ca_base.specs.Putting.{first_note}
 use Rattle.ca_base.specs.Putting.{object_at}
 use Rattle.ca_model.specs.Event.{Event, Remove}
@@ -29,7 +30,7 @@ clear-requires-clause-tuned c = tuned_on c.args.tree.now
 
 pub clear-requires-clause-at : goal.clear-requires-clause-at
 clear-requires-clause-at c = let l = c.requires.looking in record {
-  shown = record { noted = l.readable.noted; here = l.readable.here; is_base = l.readable.is_base };
+  shown = record { noted = first_noted _ _ _ l.readable; here = l.readable.here; is_base = l.readable.is_base };
   at = l.at;
   high = l.begins.placed.high;
 }

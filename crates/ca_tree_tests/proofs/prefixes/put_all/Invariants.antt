@@ -1,5 +1,6 @@
-use Rattle.std.proofs.Common.{◌≡◌}
+use Rattle.std.proofs.Common.{◌≡◌, None}
+use Rattle.ca_replace.specs.Resting.{knows}
 use Rattle.ca_tree_tests.proofs.prefixes.put_all.Given as goal
 
 abbrev pub invariant-loop-turn : goal.invariant-loop-turn
-invariant-loop-turn l = l.store.z ≡ l.fn.store.z
+invariant-loop-turn l = (l.store.store.z ≡ l.fn.store.store.z) × ((knows l.store).run ≡ None)

@@ -1,5 +1,6 @@
-use Rattle.std.proofs.Common.{◌≡◌}
+use Rattle.std.proofs.Common.{◌≡◌, None}
+use Rattle.ca_replace.specs.Resting.{knows}
 use Rattle.ca_tree_tests.proofs.prefixes.remove_some.Given as goal
 
 abbrev pub invariant-loop-number : goal.invariant-loop-number
-invariant-loop-number l = l.store.z ≡ l.fn.store.z
+invariant-loop-number l = (l.store.store.z ≡ l.fn.store.store.z) × ((knows l.store).run ≡ None)

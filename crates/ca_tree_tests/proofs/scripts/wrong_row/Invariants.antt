@@ -1,5 +1,6 @@
-use Rattle.std.proofs.Common.{◌≡◌}
+use Rattle.std.proofs.Common.{◌≡◌, None}
+use Rattle.ca_replace.specs.Resting.{knows}
 use Rattle.ca_tree_tests.proofs.scripts.wrong_row.Given as goal
 
 abbrev pub invariant-loop-place : goal.invariant-loop-place
-invariant-loop-place l = l.store.z ≡ l.fn.store.z
+invariant-loop-place l = (l.store.store.z ≡ l.fn.store.store.z) × ((knows l.store).run ≡ None)

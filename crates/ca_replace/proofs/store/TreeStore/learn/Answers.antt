@@ -1,4 +1,4 @@
-use Rattle.std.proofs.Common.{true, false, refl, ap, inl, ◌∙◌}
+use Rattle.std.proofs.Common.{true, false, refl, ap, inl, ◌∙◌, ◌≡◌, None, sym, subst}
 use Rattle.ca_node.specs.Place.{all_keys}
 use Rattle.ca_node.specs.Told.{MyTree}
 use Rattle.ca_rows.specs.Told.{begun_of, met_of}
@@ -8,6 +8,9 @@ use Rattle.ca_rows.specs.declared.sizes.Sizes.{Sizes}
 use Rattle.ca_replace.proofs.Entries.{held_upper}
 use Rattle.ca_replace.proofs.Showing.{led_further}
 use Rattle.ca_replace.proofs.Turns.{none_pinned, rests_as, rests_again}
+use Rattle.ca_replace.specs.Resting.{StoreAndRun, knows}
+use Rattle.ca_replace.specs.Seen.{store_of}
+use Rattle.ca_replace.proofs.OpenStores.{between_rests, closed_still, rests_of}
 use Rattle.ca_replace.proofs.store.TreeStore.learn.Goals as goal
 use Rattle.ca_node.specs.Layout.{root_word}
 
@@ -15,7 +18,9 @@ pub load_link-requires-clause-known : goal.load_link-requires-clause-known
 load_link-requires-clause-known c = (0, all_keys, inl (refl, refl, refl))
 
 pub keep_few-requires : goal.keep_few-requires
-keep_few-requires c = let tree = c.self.inside.tree.now in
+keep_few-requires c = let rests = rests_of (store_of c.self.inside.tree.now c.self.inside.pass c.self.inside.last) c.self.inside.run c.self.invariant
+    (subst (λ (s : StoreAndRun). (knows s).run ≡ None) (sym c.self.view_is) c.requires.closed) in
+    let tree = c.self.inside.tree.now in
     let z : Sizes = tree.space.table.shared.key in let table = tree.space.table.shared.table_id in
     let pass = c.self.inside.pass in let pin = c.pin.ensures.pinned.3 in
     let learnt = c.learn.ensures.learnt in
@@ -36,7 +41,7 @@ keep_few-requires c = let tree = c.self.inside.tree.now in
     )) learnt in
     let led = led_further z root_word c.pin.new.pass.seat.me c.load_link.new.pass.seat.me
     c.load_link.result c.load_link.ensures.led
-    (ap (λ (m : MyTree). m.0.sizes) both ∙ c.self.invariant.of.1) tree.space.few.0 in
+    (ap (λ (m : MyTree). m.0.sizes) both ∙ rests.of.1) tree.space.few.0 in
     let counts =
     led_counts false root_word c.pin.new.pass.seat.me c.load_link.new.pass.seat.me c.load_link.result
     c.load_link.ensures.led in record {
@@ -49,7 +54,7 @@ keep_few-requires c = let tree = c.self.inside.tree.now in
           c.unpin.ensures.frame.kept
           (rests_again table z pass.number pass.kept.rows c.load_link.new.pass.kept.rows pass.seat
           c.pin.new.pass.seat c.load_link.new.pass.seat
-          c.unpin.new.pass.seat c.self.invariant (
+          c.unpin.new.pass.seat rests (
             ap (λ (m : MyTree). m.0.sizes) both,
             ap (λ (m : MyTree). m.0.pin.number) both,
             ap (λ (m : MyTree). m.0.upper.number) both,
@@ -60,9 +65,9 @@ keep_few-requires c = let tree = c.self.inside.tree.now in
           (held_upper z.rows c.pin.new.pass.kept c.load_link.new.pass.kept c.pin.new.pass.seat.me
           c.load_link.new.pass.seat.me led.0 _
           (none_pinned table z pass.number pass.kept c.pin.new.pass.kept pass.seat
-          c.pin.new.pass.seat _ _ c.self.invariant both
+          c.pin.new.pass.seat _ _ rests both (ap left_over rests.quiet)
           (c.pin.ensures.frame.kept ∙ c.learn.ensures.frame.kept)) led.1
-          c.load_link.ensures.frame.kept)
+          (sym (ap (λ (m : MyTree). m.0.upper.ranges.own) led.1) ∙ counts.2) c.load_link.ensures.frame.kept)
           (led.3, led.2.number) c.unpin.ensures.frame.same.0 c.unpin.ensures.unpinned
           (tallied_still pass.tally c.load_link.new.pass.tally pass.seat.me.0.upper
           c.load_link.new.pass.seat.me.0.upper
@@ -70,8 +75,21 @@ keep_few-requires c = let tree = c.self.inside.tree.now in
           ∙ (c.pin.ensures.frame.tally ∙ c.learn.ensures.frame.tally))
           (counts.0 ∙ ap (λ (m : MyTree). m.0.upper.splits) both) (counts.1
           ∙ ap (λ (m : MyTree). m.0.upper.joins) both))
-          (counts.2 ∙ (ap (λ (m : MyTree). m.0.upper.ranges.own) both ∙ ap left_over c.self.invariant.quiet)));
+          (counts.2 ∙ (ap (λ (m : MyTree). m.0.upper.ranges.own) both ∙ ap left_over rests.quiet)));
     }
 
+pub learn-requires-clause-own : goal.learn-requires-clause-own
+learn-requires-clause-own c = (rests_of (store_of c.self.inside.tree.now c.self.inside.pass c.self.inside.last) c.self.inside.run c.self.invariant
+    (subst (λ (s : StoreAndRun). (knows s).run ≡ None) (sym c.self.view_is) c.requires.closed)).of
+
+pub learn-requires-clause-unpinned : goal.learn-requires-clause-unpinned
+learn-requires-clause-unpinned c = (rests_of (store_of c.self.inside.tree.now c.self.inside.pass c.self.inside.last) c.self.inside.run c.self.invariant
+    (subst (λ (s : StoreAndRun). (knows s).run ≡ None) (sym c.self.view_is) c.requires.closed)).is_unpinned
+
 pub invariant_of-self : goal.invariant_of-self
-invariant_of-self c = c.keep_few.ensures.frame.resting
+invariant_of-self c = between_rests (store_of c.self.inside.tree.now c.keep_few.new.pass c.self.inside.last) c.self.inside.pass.seat.me.0.upper
+    c.self.inside.run (subst (λ (s : StoreAndRun). (knows s).run ≡ None) (sym c.self.view_is) c.requires.closed) c.keep_few.ensures.frame.resting
+
+pub returns-clause-closed : goal.returns-clause-closed
+returns-clause-closed c = closed_still c.self.inside.pass.seat.me.0.upper c.keep_few.new.pass.seat.me.0.upper c.self.inside.run
+    (subst (λ (s : StoreAndRun). (knows s).run ≡ None) (sym c.self.view_is) c.requires.closed)

@@ -1,0 +1,107 @@
+-- A range of a pass's own was decided by another one: its run is taken.
+use Rattle.std.proofs.Common.{◌≡◌, ◌≢◌, ℕ, ◌+◌, ◌*◌, ◌/◌, ◌%◌, ◌<◌, ◌≤◌, ◌++◌, Bool, true, false, cond, eqb, List, [], ◌∷◌, Option, Some, None, sym, refl, ap, ◌∙◌, subst, ⊎_elim, arith, eq-eqb, ne_eqb}
+use denote.Ref.{Bor}
+use denote.Param.Members.{Shared}
+use mathlib.Core.Option.{some}
+use Rattle.ca_base.specs.Counting.{losses}
+use Rattle.ca_base.specs.Readiness.{IsReady}
+use Rattle.ca_base.specs.Taking.{AreHeld}
+use Rattle.ca_model.specs.declared.outcome.Spent.{Spent}
+use Rattle.ca_model.specs.Edges.{Bound, bound_of, is_up_to}
+use Rattle.ca_node.specs.Endings.{active_word, decided_word, over_up_to}
+use Rattle.ca_node.specs.Layout.{sequence_unit}
+use Rattle.ca_node.specs.OwnRanges.{HasFoundRun, IsFoundSo, numbered_by}
+use Rattle.ca_node.specs.Told.{MyTree, IsKnown, status_of, with_upper}
+use Rattle.ca_node.specs.TreeView.{Begun, Border, Marking, TreeView}
+use Rattle.ca_node.specs.declared.range_state.RangeState.{RangeState}
+use Rattle.ca_node.specs.declared.range_state.RangeState.TheVariants.{Idle, Active, Decided}
+use Rattle.ca_node.proofs.Tallies.{tallied_still}
+use Rattle.ca_rows.specs.Layout.{row_limit}
+use Rattle.ca_rows.specs.Passes.{KeepsList}
+use Rattle.ca_rows.specs.declared.kept.KeptRows.{KeptRows}
+use Rattle.ca_rows.specs.declared.sizes.Sizes.{Sizes}
+use Rattle.ca_rows.specs.declared.space.Pass.{Pass}
+use Rattle.ca_rows.specs.declared.space.Space.{Space}
+use Rattle.ca_range.specs.Gathering.{HasLoadedRun, IsBetween, IsMarking}
+use Rattle.ca_range.specs.Snapping.{GoesOn}
+use Rattle.ca_range.specs.Snapshots.{HasRun, OnlyRanges}
+use Rattle.ca_range.specs.declared.own.Own.{Own}
+use Rattle.ca_range.specs.declared.sought.Sought.{Sought}
+use Rattle.ca_range.proofs.NextGathered.{marking_on}
+use Rattle.ca_range.proofs.OwnEnds.{HasEndedOwn, ended_own}
+use Rattle.ca_range.proofs.OwnRuns.{own_run}
+use Rattle.ca_range.proofs.OwnSteps.{goes_over}
+use Rattle.ca_range.proofs.Stepping.{known_same, none_more}
+
+-- What a word tells that is that of an active range, or of one that was decided.
+active_is : (k n : ℕ) → n ≡ active_word k → status_of n ≡ Active (n / sequence_unit)
+active_is k n e = let on : n % sequence_unit ≡ row_limit = omega arith in
+    ap (λ (b : Bool). cond b (Active (n / sequence_unit))
+    (cond (eqb (n / row_limit % 4) 2) (Decided (n / sequence_unit) (n % row_limit)) (Idle (n / sequence_unit)))) (eq-eqb (n % sequence_unit) row_limit on)
+
+decided_is : (k last n : ℕ) → last < row_limit → n ≡ decided_word k last → status_of n ≡ Decided (n / sequence_unit) (n % row_limit)
+decided_is k last n l e = let off : n % sequence_unit ≡ 2 * row_limit + last = omega arith in let two : n / row_limit % 4 ≡ 2 = omega arith in
+    let other : n % sequence_unit ≢ row_limit = λ on. omega arith in
+    ap (λ (b : Bool). cond b (Active (n / sequence_unit))
+    (cond (eqb (n / row_limit % 4) 2) (Decided (n / sequence_unit) (n % row_limit)) (Idle (n / sequence_unit)))) (ne_eqb (n % sequence_unit) row_limit other)
+    ∙ ap (λ (b : Bool). cond b (Decided (n / sequence_unit) (n % row_limit)) (Idle (n / sequence_unit))) (eq-eqb (n / row_limit % 4) 2 two)
+
+-- the last base of the run, where it was decided
+abbrev pub run_in : RangeState → Option ℕ
+run_in (Idle k) = None
+run_in (Active k) = None
+run_in (Decided k last) = Some last
+
+-- So another pass's decision was found, or none.
+pub loaded_by : (state : RangeState) (m m' : MyTree) (n : ℕ) (begun : Begun) (border : Border) → state ≡ status_of n → IsFoundSo m n m' (Marking begun border)
+    → HasLoadedRun begun border (run_in state) m m'
+loaded_by state m m' n begun border e found = ⊎_elim
+    (λ (a : (n ≡ active_word begun.number) × (m' ≡ with_upper m (numbered_by n m.0.upper))).
+    subst (λ (r : Option ℕ). HasLoadedRun begun border r m m') (sym (ap run_in (e ∙ active_is begun.number n a.0))) (n, a.1))
+    (λ (f : HasFoundRun m n m' begun border). let small = f.small in let word = f.word in
+    let same : f.last ≡ n % row_limit = omega arith in
+    subst (λ (r : Option ℕ). HasLoadedRun begun border r m m') (sym (ap run_in (e ∙ decided_is begun.number f.last n f.small f.word))) (n, f, same))
+    found
+
+-- The range is over then.
+pub found_so : (z : Sizes) (begun : Begun) (border : Border) (n : ℕ) (m m' : MyTree) → m.0.sizes ≡ z → 0 < z.rows → HasFoundRun m n m' begun border
+    → HasEndedOwn z m m'
+found_so z begun border n m m' sizes rows f = subst (HasEndedOwn z m) (sym f.now)
+    (ended_own z m (m.0.upper.seen ++ f.more) (over_up_to m.0.upper.number begun.number ∷ m.0.upper.ranges.over) f.run (some begun.number)
+    m.0.upper.inventory m.0.most (f.more, refl)
+    (λ k. known_same z (record m.0.upper { seen = m.0.upper.seen ++ f.more }) _ refl refl refl
+    (subst (λ (y : Sizes). IsKnown y (record m.0.upper { seen = m.0.upper.seen ++ f.more })) sizes
+    (f.known (subst (λ (y : Sizes). 0 < y.rows) (sym sizes) rows)))) (omega arith))
+
+module _ {F : Type 0} (g : Shared F (Bor (List ℕ) × Unit {0}) Bool) (sought : Sought F) where
+  -- It has all up to the upper edge.
+  pub found_run : (z : Sizes) (n : ℕ) (m m' : MyTree) (own : Own) (b : IsBetween g sought z m.0.upper own) → m.0.sizes ≡ z → 0 < z.rows → z.leaf ≤ 120
+      → IsKnown z m.0.upper → (f : HasFoundRun m n m' b.marking.begun b.marking.border) → 0 < f.last
+      → HasRun g sought z m'.0.upper (record { last = f.last; chained = true; whole = true })
+  found_run z n m m' own b sizes rows leaf known f l = own_run g sought z m m' b.marking.begun f.more f.last f.run f.seen l
+      (ap (λ (x : MyTree). x.0.upper.ranges.run) f.now) (ap (λ (x : MyTree). x.0.upper.seen) f.now) (ap (λ (x : MyTree). x.0.upper.since) f.now)
+      sizes rows leaf ((found_so z b.marking.begun b.marking.border n m m' sizes rows f).only.known known) true (bound_of sought.hi) b.edge
+      (subst (λ (top : Bound). (key : List ℕ) → is_up_to top key ≡ true → is_up_to f.seen.shown.high key ≡ true) b.top f.whole)
+      (λ e. let no : true ≡ false = e in absurd cc) refl
+
+-- The number of the range was learnt alone.
+module _ {R : Type 0} (space : Space R TreeView) (p q : Pass R TreeView) (n : ℕ) (ready : IsReady space p) (keeps : KeepsList p q)
+    (is : q.seat.me ≡ with_upper p.seat.me (numbered_by n p.seat.me.0.upper)) where
+  pub numbered_goes : (a : Spent) → GoesOn space a a p q
+  numbered_goes a = goes_over space a p q (record {
+    same = keeps.same;
+    number = keeps.number;
+    tally = tallied_still p.tally q.tally p.seat.me.0.upper q.seat.me.0.upper keeps.tally (ap (λ (x : MyTree). x.0.upper.splits) is)
+        (ap (λ (x : MyTree). x.0.upper.joins) is);
+    pin = (ap (λ (x : MyTree). x.0.sizes) is, ap (λ (x : MyTree). x.0.pin) is);
+    none = subst (λ (x : MyTree × KeptRows). AreHeld space.table.shared.key.rows x.1.rows x.0.0 []) (λ i. (sym is i, sym keeps.kept i))
+        (ready.none.0, record { now = ready.none.1.now; ever = ready.none.1.ever });
+  }) (subst (λ (x : MyTree). OnlyRanges space.table.shared.key p.seat.me.0.upper x.0.upper) (sym is) record {
+    only = refl;
+    seen = none_more p.seat.me.0.upper;
+    known = known_same space.table.shared.key p.seat.me.0.upper _ refl refl refl;
+  }) (ap losses is) (ap (λ (x : MyTree). x.0.upper.turns) is)
+
+  pub numbered_marking : (z : Sizes) (own : Own) → IsMarking z p.seat.me.0.upper own → IsMarking z q.seat.me.0.upper own
+  numbered_marking z own k = subst (λ (x : MyTree). IsMarking z x.0.upper own) (sym is)
+      (marking_on z p.seat.me.0.upper (numbered_by n p.seat.me.0.upper) own refl refl (λ border i. i) k)

@@ -1,0 +1,100 @@
+-- Steps of a snapshot, one after another, and what they come to.
+use Rattle.std.proofs.Common.{◌≡◌, ℕ, ◌≤◌, ◌++◌, sym, ap, ◌∙◌, subst, arith, append_assoc}
+use denote.Ref.{Bor}
+use denote.Param.Members.{Shared}
+use Rattle.std.specs.Prelude.{Bool, List}
+use Rattle.ca_model.specs.History.{History}
+use Rattle.ca_model.specs.declared.outcome.Counter.TheVariants as counter
+use Rattle.ca_model.specs.declared.outcome.Spent.{Spent}
+use Rattle.ca_base.specs.Counting.{HasMet, losses}
+use Rattle.ca_base.proofs.Counts.{met_both}
+use Rattle.ca_node.specs.Told.{MyTree, with_upper}
+use Rattle.ca_node.specs.TreeView.{KnownRanges, TreeView}
+use Rattle.ca_rows.specs.declared.sizes.Sizes.{Sizes}
+use Rattle.ca_range.specs.Clearing.{turns_at}
+use Rattle.ca_range.specs.Snapping.{IsRefused}
+use Rattle.ca_range.specs.Snapshots.{HasSnapped, OnlyRanges}
+use Rattle.ca_range.specs.Spending.{IsSpentOn}
+use Rattle.ca_range.specs.Staying.{OnlySteps, with_steps_of}
+use Rattle.ca_range.proofs.Filled.{raised_met}
+use Rattle.ca_range.proofs.Spends.{on_both, on_still}
+use Rattle.ca_range.proofs.Stepping.{steps_both, steps_none}
+use Rattle.ca_range.specs.declared.sought.Snapped.{Snapped}
+use Rattle.ca_range.specs.declared.sought.Snapped.TheVariants as snapped
+use Rattle.ca_range.specs.declared.sought.Sought.{Sought}
+
+-- what a seat knows, with the steps of another one, and what that one knows of ranges
+abbrev stepped : TreeView → TreeView → TreeView
+stepped u v = record (with_steps_of u v) { ranges = v.ranges }
+
+-- Steps that leave the own range are some.
+pub ranges_by_steps : {z : Sizes} {n : ℕ} (u v : TreeView) → OnlySteps z n u v → OnlyRanges z u v
+ranges_by_steps u v s = record {
+  only = s.only ∙ ap (λ (r : KnownRanges). record (with_steps_of u v) { ranges = r }) (sym (ap (λ (x : TreeView). x.ranges) s.only));
+  seen = s.seen;
+  known = s.known;
+}
+
+pub ranges_none : {z : Sizes} (u : TreeView) → OnlyRanges z u u
+ranges_none u = ranges_by_steps u u (steps_none u)
+
+pub ranges_both : {z : Sizes} (u v w : TreeView) → OnlyRanges z u v → OnlyRanges z v w → OnlyRanges z u w
+ranges_both u v w a b = record {
+  only = b.only ∙ ap (λ (x : TreeView). stepped x w) a.only;
+  seen = (a.seen.0 ++ b.seen.0, b.seen.1 ∙ (ap (λ (h : History). h ++ b.seen.0) a.seen.1 ∙ append_assoc u.seen a.seen.0 b.seen.0));
+  known = λ k. b.known (a.known k);
+}
+
+-- No fewer turns were spent.
+pub more_turns : (a b : Spent) (m n : MyTree) → IsSpentOn a b m n → turns_at m ≤ turns_at n
+more_turns a b m n s = let l = s.lost.more in let h = s.helped.more in let p = s.passed.more in omega arith
+
+-- What steps came to, behind others that met nothing of the pool.
+pub refused_after : (budget : ℕ) (spent : Spent) (s : Snapped) (k m n : MyTree) → HasMet 0 0 k m → turns_at k ≤ turns_at m → IsRefused budget spent s m n
+    → IsRefused budget spent s k n
+refused_after budget spent (snapped.Run run) k m n met less r = r
+refused_after budget spent snapped.Again k m n met less r = let more = r.1 in (met_both 0 0 0 0 k m n met r.0, omega arith)
+refused_after budget spent snapped.Busy k m n met less r = (met_both 0 0 0 0 k m n met r.0, r.1)
+refused_after budget spent snapped.NoRow k m n met less r = met_both 0 0 1 0 k m n met r
+refused_after budget spent (snapped.Worn counter.PoolTag) k m n met less r = met_both 0 0 0 1 k m n met r
+refused_after budget spent (snapped.Worn counter.Epoch) k m n met less r = r
+refused_after budget spent (snapped.Worn counter.Sequence) k m n met less r = r
+
+module _ {F : Type 0} (g : Shared F (Bor (List ℕ) × Unit {0}) Bool) (sought : Sought F) where
+  pub snapped_after : (z : Sizes) (budget : ℕ) (spent : Spent) (s : Snapped) (k m n : MyTree) → HasMet 0 0 k m → turns_at k ≤ turns_at m
+      → HasSnapped g sought z budget spent s m n → HasSnapped g sought z budget spent s k n
+  snapped_after z budget spent (snapped.Run run) k m n met less r = (met_both 0 0 0 0 k m n met r.0, r.1)
+  snapped_after z budget spent snapped.Again k m n met less r = let more = r.1 in (met_both 0 0 0 0 k m n met r.0, omega arith)
+  snapped_after z budget spent snapped.Busy k m n met less r = (met_both 0 0 0 0 k m n met r.0, r.1)
+  snapped_after z budget spent snapped.NoRow k m n met less r = met_both 0 0 1 0 k m n met r
+  snapped_after z budget spent (snapped.Worn counter.PoolTag) k m n met less r = met_both 0 0 0 1 k m n met r
+  snapped_after z budget spent (snapped.Worn counter.Epoch) k m n met less r = r
+  snapped_after z budget spent (snapped.Worn counter.Sequence) k m n met less r = (met_both 0 0 0 0 k m n met r.0, r.1)
+
+  -- A refusal is one of a snapshot.
+  pub refused_so : (z : Sizes) (budget : ℕ) (spent : Spent) (s : Snapped) (m n : MyTree) → IsRefused budget spent s m n
+      → HasSnapped g sought z budget spent s m n
+  refused_so z budget spent (snapped.Run run) m n r = absurd r
+  refused_so z budget spent snapped.Again m n r = r
+  refused_so z budget spent snapped.Busy m n r = r
+  refused_so z budget spent snapped.NoRow m n r = r
+  refused_so z budget spent (snapped.Worn counter.PoolTag) m n r = r
+  refused_so z budget spent (snapped.Worn counter.Epoch) m n r = absurd r
+  refused_so z budget spent (snapped.Worn counter.Sequence) m n r = absurd r
+
+-- Steps that were taken behind loads of words that were shown, which were behind others that counted nothing.
+module _ (z : Sizes) (m k l n : MyTree) (raised : k ≡ with_upper m k.0.upper) (steps : OnlySteps z 0 m.0.upper k.0.upper)
+    (turns : k.0.upper.turns ≡ m.0.upper.turns) (still : l ≡ k) where
+  pub walked_still : (a : Spent) → IsSpentOn a a m k
+  walked_still a = let lost = ap (λ (x : MyTree). x.0.lost) raised in let link = steps.lost_is in
+      on_still a m k (let same : losses k ≡ losses m = omega arith in same) turns
+
+  pub steps_on : OnlySteps z 0 l.0.upper n.0.upper → OnlySteps z 0 m.0.upper n.0.upper
+  steps_on more = steps_both m.0.upper k.0.upper n.0.upper steps (subst (λ (x : MyTree). OnlySteps z 0 x.0.upper n.0.upper) still more)
+
+  pub spent_on : (a b : Spent) → IsSpentOn a b l n → IsSpentOn a b m n
+  spent_on a b more = on_both a a b m k n (walked_still a) (subst (λ (x : MyTree). IsSpentOn a b x n) still more)
+
+  pub met_on : n ≡ with_upper l n.0.upper → HasMet 0 0 m n
+  met_on up = met_both 0 0 0 0 m k n (raised_met m k k.0.upper raised)
+      (subst (λ (x : MyTree). HasMet 0 0 x n) still (raised_met l n n.0.upper up))

@@ -1,0 +1,48 @@
+use Rattle.std.proofs.Common.{sym, subst, arith}
+use Rattle.ca_base.proofs.Counts.{met_both}
+use Rattle.ca_range.specs.Meeting.{AreMet}
+use Rattle.ca_range.proofs.OwnSteps.{ended_on, goes_both, goes_none, goes_over, number_on, ready_on}
+use Rattle.ca_range.proofs.Ranking.{far_inside}
+use Rattle.ca_range.proofs.gathering.gather.Goals as goal
+
+pub loop-pass-init : goal.loop-pass-init
+loop-pass-init g c = record {
+  ready = c.requires.ready;
+  goes = goes_none c.args.space.now c.args.account.now.spent c.args.pass.now c.requires.ready.none;
+  number = c.requires.number;
+  met = c.requires.met;
+  gathering = c.requires.gathering;
+  pool = (omega arith, omega arith);
+}
+
+pub loop-pass-preserved : goal.loop-pass-preserved
+loop-pass-preserved g c = let inv = c.loop-pass.invariant in let e = c.go_further.ensures in let on = c.in-On.ensures.further in
+    let p = c.loop-pass.pass in let q = c.go_further.new.pass in record {
+      ready = ready_on c.args.space.now p q inv.ready e.goes.frame e.goes.steps;
+      goes = goes_both c.args.space.now c.args.account.now.spent c.loop-pass.account.spent c.go_further.new.account.spent c.args.pass.now p q inv.goes e.goes;
+      number = number_on c.args.space.now p q inv.number e.goes.frame e.goes.steps;
+      met = e.met;
+      gathering = on.0;
+      pool = met_both 0 0 0 0 c.args.pass.now.seat.me p.seat.me q.seat.me inv.pool on.2;
+    }
+
+pub loop-pass-smaller : goal.loop-pass-smaller
+loop-pass-smaller g c = let on = c.in-On.ensures.further in let more = on.1 in
+    let inside = far_inside c.args.space.now.table.shared.key c.go_further.new.pass.seat.me.0.upper c.in-On.next.left on.0.gone.at in omega arith
+
+pub returns-in-Ended-clause-goes : goal.returns-in-Ended-clause-goes
+returns-in-Ended-clause-goes g c = goes_both c.args.space.now c.args.account.now.spent c.loop-pass.account.spent c.go_further.new.account.spent
+    c.args.pass.now c.loop-pass.pass c.go_further.new.pass c.loop-pass.invariant.goes c.go_further.ensures.goes
+
+pub returns-in-Ended-clause-ended : goal.returns-in-Ended-clause-ended
+returns-in-Ended-clause-ended g c = ended_on g.F.Fn c.args.search.now.sought.now c.args.space.now.table.shared.key c.args.search.now.budget
+    c.go_further.new.account.spent c.in-Ended.snapped c.args.pass.now.seat.me c.loop-pass.pass.seat.me c.go_further.new.pass.seat.me
+    c.loop-pass.invariant.pool c.in-Ended.ensures.further
+
+pub returns-clause-goes : goal.returns-clause-goes
+returns-clause-goes g c = let e = c.give_up.ensures in let p = c.loop-pass.pass in let q = c.give_up.new.pass in let a = c.loop-pass.account.spent in
+    goes_both c.args.space.now c.args.account.now.spent a a c.args.pass.now p q c.loop-pass.invariant.goes
+    (goes_over c.args.space.now a p q e.frame e.steps e.still.0 e.still.1)
+
+pub returns-clause-met : goal.returns-clause-met
+returns-clause-met g c = subst (AreMet c.loop-pass.account.met.numbers) (sym c.give_up.ensures.unfinished) c.loop-pass.invariant.met

@@ -1,0 +1,89 @@
+use Rattle.std.proofs.Common.{◌<◌, sym, ap, ◌∙◌, subst, arith}
+use Rattle.ca_base.specs.Counting.{losses}
+use Rattle.ca_base.proofs.Counts.{met_both}
+use Rattle.ca_base.specs.Putting.{first_note}
+use Rattle.ca_model.specs.Edges.{Excluded}
+use Rattle.ca_node.specs.Told.{MyTree}
+use Rattle.ca_range.specs.Farther.{reach}
+use Rattle.ca_range.specs.Gathering.{IsEnough, IsGathering}
+use Rattle.ca_range.specs.Looking.{HasAdded}
+use Rattle.ca_range.specs.Meeting.{AreMet}
+use Rattle.ca_range.proofs.Filled.{raised_met}
+use Rattle.ca_range.proofs.GoingOn.{further_on, goes_steps, walked_raised}
+use Rattle.ca_range.proofs.NextGathered.{gathered_next}
+use Rattle.ca_range.proofs.OwnSteps.{goes_both, goes_reads, goes_then, met_reads, settled_ends, settled_on}
+use Rattle.ca_range.proofs.Readied.{ready_reads, ready_still}
+use Rattle.ca_range.proofs.Spends.{on_still}
+use Rattle.ca_range.proofs.Stepping.{steps_by_walk}
+use Rattle.ca_range.proofs.gathering.go_further.Goals as goal
+
+pub decide_run-requires-clause-ready : goal.decide_run-requires-clause-ready
+decide_run-requires-clause-ready g c = ready_reads c.args.space.now c.args.pass.now c.look.new.pass c.requires.ready c.look.ensures.frame
+
+pub decide_run-requires-clause-number : goal.decide_run-requires-clause-number
+decide_run-requires-clause-number g c = c.look.ensures.frame.number ∙ (c.requires.number
+    ∙ sym (ap (λ (x : MyTree). x.0.upper.number) c.look.ensures.frame.still))
+
+pub decide_run-requires-clause-leaf : goal.decide_run-requires-clause-leaf
+decide_run-requires-clause-leaf g c = let few = c.requires.tuned.allowed.most_leaf in let leaf = c.requires.tuned.leaf in omega arith
+
+pub decide_run-requires-clause-enough : goal.decide_run-requires-clause-enough
+decide_run-requires-clause-enough g c = subst (λ (x : MyTree). IsEnough g.F.Fn c.args.search.now.sought.now c.args.space.now.table.shared.key x.0.upper
+    c.args.from c.in-Done.whole) (sym c.look.ensures.frame.still) (c.requires.gathering, (_, c.in-Done.ensures.looked))
+
+pub returns-in-Done : goal.returns-in-Done
+returns-in-Done g c = let p = c.args.pass.now in let q = c.look.new.pass in let r = c.decide_run.new.pass in let e = c.decide_run.ensures in
+    let z = c.args.space.now.table.shared.key in let sought = c.args.search.now.sought.now in record {
+      goes = goes_then c.args.space.now c.args.account.now.spent p q r c.requires.ready c.look.ensures.frame e.frame e.steps e.still;
+      met = subst (AreMet c.args.account.now.met.numbers)
+          (sym (e.unfinished ∙ ap (λ (x : MyTree). x.0.upper.ranges.unfinished) c.look.ensures.frame.still)) c.requires.met;
+      further = settled_ends g.F.Fn sought z c.args.search.now.budget c.args.account.now.spent c.decide_run.result p.seat.me r.seat.me
+          (settled_on g.F.Fn sought z c.decide_run.result p.seat.me q.seat.me r.seat.me (met_reads c.args.space.now p q c.look.ensures.frame) e.ended);
+      quiet = e.quiet;
+    }
+
+pub go_to-requires-clause-ready : goal.go_to-requires-clause-ready
+go_to-requires-clause-ready g c = let w = c.walk-next.ensures.walked in let q = c.look.new.pass in let r = c.walk-next.new.pass in
+    ready_still c.args.space.now q r (ready_reads c.args.space.now c.args.pass.now q c.requires.ready c.look.ensures.frame) c.walk-next.ensures.frame
+    (walked_raised _ _ q.seat.me r.seat.me c.walk-next.result w) (steps_by_walk _ q.seat.me r.seat.me c.walk-next.result w)
+
+pub go_to-requires-clause-number : goal.go_to-requires-clause-number
+go_to-requires-clause-number g c = c.walk-next.ensures.frame.number ∙ (c.look.ensures.frame.number ∙ (c.requires.number
+    ∙ sym (ap (λ (x : MyTree). x.0.upper.number) c.walk-next.ensures.walked.now ∙ ap (λ (x : MyTree). x.0.upper.number) c.look.ensures.frame.still)))
+
+pub go_to-requires-clause-met : goal.go_to-requires-clause-met
+go_to-requires-clause-met g c = subst (AreMet c.args.account.now.met.numbers) (sym (ap (λ (x : MyTree). x.0.upper.ranges.unfinished) c.walk-next.ensures.walked.now
+    ∙ ap (λ (x : MyTree). x.0.upper.ranges.unfinished) c.look.ensures.frame.still)) c.requires.met
+
+pub go_to-requires-clause-next : goal.go_to-requires-clause-next
+go_to-requires-clause-next g c = let few = c.requires.tuned.allowed.most_leaf in let leaf = c.requires.tuned.leaf in
+    let z = c.args.space.now.table.shared.key in let sought = c.args.search.now.sought.now in let l = c.in-On.ensures.looked in
+    let still = c.look.ensures.frame.still in
+    (gathered_next g.F.Fn sought z c.deref.result c.look.new.pass.seat.me c.walk-next.new.pass.seat.me c.args.from c.in-On.counted c.walk-next.result
+    c.walk-next.ensures.walked (omega arith) (subst (λ (x : MyTree). IsGathering g.F.Fn sought z x.0.upper c.args.from) (sym still) c.requires.gathering)
+    (ap (λ (x : MyTree). (first_note x.0.upper.notes).place.span.high) still ∙ (l.0 ∙ ap Excluded (sym c.deref.ensures.0)))
+    (subst (λ (x : MyTree). HasAdded g.F.Fn sought c.args.from.counted c.in-On.counted (first_note x.0.upper.notes)) (sym still) l.1)).0
+
+pub returns-in-On : goal.returns-in-On
+returns-in-On g c = let few = c.requires.tuned.allowed.most_leaf in let leaf = c.requires.tuned.leaf in
+    let z = c.args.space.now.table.shared.key in let sought = c.args.search.now.sought.now in let l = c.in-On.ensures.looked in
+    let still = c.look.ensures.frame.still in let p = c.args.pass.now in let q = c.look.new.pass in let r = c.walk-next.new.pass in let t = c.go_to.new.pass in
+    let a = c.args.account.now.spent in let d = c.go_to.new.account.spent in let w = c.walk-next.ensures.walked in
+    let raised = walked_raised _ _ q.seat.me r.seat.me c.walk-next.result w in
+    let far = (gathered_next g.F.Fn sought z c.deref.result q.seat.me r.seat.me c.args.from c.in-On.counted c.walk-next.result
+    w (omega arith) (subst (λ (x : MyTree). IsGathering g.F.Fn sought z x.0.upper c.args.from) (sym still) c.requires.gathering)
+    (ap (λ (x : MyTree). (first_note x.0.upper.notes).place.span.high) still ∙ (l.0 ∙ ap Excluded (sym c.deref.ensures.0)))
+    (subst (λ (x : MyTree). HasAdded g.F.Fn sought c.args.from.counted c.in-On.counted (first_note x.0.upper.notes)) (sym still) l.1)).1 in
+    let near = ap (λ (x : MyTree). reach x.0.upper) still in record {
+      goes = goes_both c.args.space.now a a d p r t (goes_both c.args.space.now a a a p q r
+          (goes_reads c.args.space.now a p q c.requires.ready c.look.ensures.frame)
+          (goes_steps c.args.space.now a a q r (ready_reads c.args.space.now p q c.requires.ready c.look.ensures.frame) c.walk-next.ensures.frame raised
+          (steps_by_walk _ q.seat.me r.seat.me c.walk-next.result w)
+          (on_still a q.seat.me r.seat.me (ap losses w.now) (ap (λ (x : MyTree). x.0.upper.turns) w.now)))) c.go_to.ensures.goes;
+      met = c.go_to.ensures.met;
+      further = further_on g.F.Fn sought z (reach p.seat.me.0.upper) c.args.search.now.budget d c.go_to.result p.seat.me r.seat.me t.seat.me
+          (met_both 0 0 0 0 p.seat.me q.seat.me r.seat.me (met_reads c.args.space.now p q c.look.ensures.frame)
+          (raised_met q.seat.me r.seat.me r.seat.me.0.upper raised))
+          (c.go_to.ensures.further (reach p.seat.me.0.upper) (let more : reach p.seat.me.0.upper < reach r.seat.me.0.upper = omega arith in more));
+      quiet = c.go_to.ensures.quiet;
+    }

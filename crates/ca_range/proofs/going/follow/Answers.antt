@@ -1,0 +1,51 @@
+use Rattle.std.proofs.Common.{◌<◌, sym, ap, ◌∙◌, subst, arith}
+use Rattle.ca_base.specs.Putting.{first_note}
+use Rattle.ca_base.proofs.Counts.{met_both}
+use Rattle.ca_node.specs.Told.{MyTree}
+use Rattle.ca_range.specs.Farther.{reach}
+use Rattle.ca_range.specs.Gathering.{IsGathering, IsMarking}
+use Rattle.ca_range.proofs.Filled.{last_shown}
+use Rattle.ca_range.proofs.NextGathered.{gathered_so}
+use Rattle.ca_range.proofs.OwnSteps.{goes_reads, goes_then, met_reads}
+use Rattle.ca_range.proofs.Readied.{ready_reads}
+use Rattle.ca_range.proofs.going.follow.Goals as goal
+
+pub is_behind-requires-clause-shown : goal.is_behind-requires-clause-shown
+is_behind-requires-clause-shown g c = let u = c.args.pass.now.seat.me.0.upper in
+    (first_note u.notes, last_shown c.args.space.now.table.shared.key u c.args.next c.requires.next.gone.at)
+
+pub returns-then-is_behind-clause-goes : goal.returns-then-is_behind-clause-goes
+returns-then-is_behind-clause-goes g c = λ spent. goes_reads c.args.space.now spent c.args.pass.now c.is_behind.new.pass c.requires.ready c.is_behind.ensures.frame
+
+pub returns-then-is_behind-clause-further : goal.returns-then-is_behind-clause-further
+returns-then-is_behind-clause-further g c = λ far budget spent less. let z = c.args.space.now.table.shared.key in let u = c.args.pass.now.seat.me.0.upper in
+    let b = c.is_behind.ensures.behind c.if-is_behind.true (first_note u.notes) (last_shown z u c.args.next c.requires.next.gone.at) in
+    let near = ap (λ (x : MyTree). reach x.0.upper) c.is_behind.ensures.frame.still in (
+      subst (λ (x : MyTree). IsGathering g.F.Fn c.args.sought.now z x.0.upper (record c.args.from { left = c.args.next })) (sym c.is_behind.ensures.frame.still)
+          (gathered_so g.F.Fn c.args.sought.now z u c.args.from c.args.next c.requires.next
+          (b.0.0, b.0.1 ∙ (c.number.ensures ∙ c.requires.number), b.0.2) b.1 b.2),
+      (let more : far < reach c.is_behind.new.pass.seat.me.0.upper = omega arith in more),
+      met_reads c.args.space.now c.args.pass.now c.is_behind.new.pass c.is_behind.ensures.frame,
+    )
+
+pub give_up-requires-clause-ready : goal.give_up-requires-clause-ready
+give_up-requires-clause-ready g c = ready_reads c.args.space.now c.args.pass.now c.is_behind.new.pass c.requires.ready c.is_behind.ensures.frame
+
+pub give_up-requires-clause-number : goal.give_up-requires-clause-number
+give_up-requires-clause-number g c = c.is_behind.ensures.frame.number ∙ (c.requires.number
+    ∙ sym (ap (λ (x : MyTree). x.0.upper.number) c.is_behind.ensures.frame.still))
+
+pub give_up-requires-clause-marking : goal.give_up-requires-clause-marking
+give_up-requires-clause-marking g c = subst (λ (x : MyTree). IsMarking c.args.space.now.table.shared.key x.0.upper c.args.from.own)
+    (sym c.is_behind.ensures.frame.still) c.requires.next.between.marking
+
+pub returns-clause-goes : goal.returns-clause-goes
+returns-clause-goes g c = λ spent. let e = c.give_up.ensures in
+    goes_then c.args.space.now spent c.args.pass.now c.is_behind.new.pass c.give_up.new.pass c.requires.ready c.is_behind.ensures.frame e.frame e.steps e.still
+
+pub returns-clause-unfinished : goal.returns-clause-unfinished
+returns-clause-unfinished g c = c.give_up.ensures.unfinished ∙ ap (λ (x : MyTree). x.0.upper.ranges.unfinished) c.is_behind.ensures.frame.still
+
+pub returns-clause-further : goal.returns-clause-further
+returns-clause-further g c = λ far budget spent less. let p = c.args.pass.now in let q = c.is_behind.new.pass in
+    met_both 0 0 0 0 p.seat.me q.seat.me c.give_up.new.pass.seat.me (met_reads c.args.space.now p q c.is_behind.ensures.frame) c.give_up.ensures.met

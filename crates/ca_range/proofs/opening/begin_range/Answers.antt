@@ -1,0 +1,65 @@
+use Rattle.std.proofs.Common.{sym, subst}
+use Rattle.ca_base.specs.Putting.{first_note}
+use Rattle.ca_model.specs.Edges.{bound_of}
+use Rattle.ca_node.specs.Told.{IsSettled}
+use Rattle.ca_node.specs.TreeView.{TreeView}
+use Rattle.ca_range.specs.Looking.{IsFirst}
+use Rattle.ca_range.proofs.NextNumbers.{numbered_first, taken_goes, taken_met, taken_spent, upper_taken}
+use Rattle.ca_range.proofs.OwnSteps.{ready_stays}
+use Rattle.ca_range.proofs.SnapshotSteps.{more_turns, snapped_after}
+use Rattle.ca_range.proofs.opening.begin_range.Goals as goal
+
+pub begin_with-requires-clause-first : goal.begin_with-requires-clause-first
+begin_with-requires-clause-first g c = let n = c.in-Some.ensures.numbered in let lo = bound_of c.args.search.now.sought.now.lo in
+    let z = c.args.space.now.table.shared.key in
+    subst (λ (u : TreeView). IsFirst z lo u c.args.first) (sym (upper_taken c.args.space.now c.args.pass.now c.next_number.new.pass c.take_two.new.pass n.0
+    c.next_number.ensures.frame n.1 c.take_two.ensures.frame)) (numbered_first z lo n.0 c.args.pass.now.seat.me.0.upper c.args.first c.requires.first)
+
+pub begin_with-requires-clause-settled : goal.begin_with-requires-clause-settled
+begin_with-requires-clause-settled g c = let n = c.in-Some.ensures.numbered in
+    subst (λ (u : TreeView). IsSettled u (first_note u.notes).its) (sym (upper_taken c.args.space.now c.args.pass.now c.next_number.new.pass
+    c.take_two.new.pass n.0 c.next_number.ensures.frame n.1 c.take_two.ensures.frame)) c.requires.settled
+
+pub returns-in-Ok-clause-frame : goal.returns-in-Ok-clause-frame
+returns-in-Ok-clause-frame g c = let n = c.in-Some.ensures.numbered in
+    ready_stays c.args.space.now c.args.pass.now c.begin_with.new.pass
+    (taken_goes c.args.space.now c.args.pass.now c.next_number.new.pass c.take_two.new.pass n.0 c.next_number.ensures.frame n.1 c.take_two.ensures.frame
+    c.begin_with.new.pass c.args.account.now.spent c.take_two.new.spent c.begin_with.new.account.spent c.take_two.ensures.counted
+    c.begin_with.ensures.goes).frame c.requires.quiet c.begin_with.ensures.quiet
+
+pub returns-in-Ok-clause-steps : goal.returns-in-Ok-clause-steps
+returns-in-Ok-clause-steps g c = let n = c.in-Some.ensures.numbered in
+    (taken_goes c.args.space.now c.args.pass.now c.next_number.new.pass c.take_two.new.pass n.0 c.next_number.ensures.frame n.1 c.take_two.ensures.frame
+    c.begin_with.new.pass c.args.account.now.spent c.take_two.new.spent c.begin_with.new.account.spent c.take_two.ensures.counted
+    c.begin_with.ensures.goes).steps
+
+pub returns-in-Ok-clause-counted : goal.returns-in-Ok-clause-counted
+returns-in-Ok-clause-counted g c = let n = c.in-Some.ensures.numbered in
+    (taken_goes c.args.space.now c.args.pass.now c.next_number.new.pass c.take_two.new.pass n.0 c.next_number.ensures.frame n.1 c.take_two.ensures.frame
+    c.begin_with.new.pass c.args.account.now.spent c.take_two.new.spent c.begin_with.new.account.spent c.take_two.ensures.counted
+    c.begin_with.ensures.goes).counted
+
+pub returns-in-Ok-clause-snapped : goal.returns-in-Ok-clause-snapped
+returns-in-Ok-clause-snapped g c = let n = c.in-Some.ensures.numbered in let m = c.args.pass.now.seat.me in let k = c.take_two.new.pass.seat.me in
+    snapped_after g.F.Fn c.args.search.now.sought.now c.args.space.now.table.shared.key c.args.search.now.budget c.begin_with.new.account.spent
+    c.begin_with.result m k c.begin_with.new.pass.seat.me
+    (taken_met c.args.space.now c.args.pass.now c.next_number.new.pass c.take_two.new.pass n.0 c.next_number.ensures.frame n.1 c.take_two.ensures.frame
+    c.in-Ok.ensures.found.0)
+    (more_turns c.args.account.now.spent c.take_two.new.spent m k
+    (taken_spent c.args.space.now c.args.pass.now c.next_number.new.pass c.take_two.new.pass n.0 c.next_number.ensures.frame n.1 c.take_two.ensures.frame
+    c.args.account.now.spent c.take_two.new.spent c.take_two.ensures.counted)) c.begin_with.ensures.snapped
+
+pub returns-in-Err-Lost-clause-counted : goal.returns-in-Err-Lost-clause-counted
+returns-in-Err-Lost-clause-counted g c = let n = c.in-Some.ensures.numbered in
+    taken_spent c.args.space.now c.args.pass.now c.next_number.new.pass c.take_two.new.pass n.0 c.next_number.ensures.frame n.1 c.take_two.ensures.frame
+    c.args.account.now.spent c.take_two.new.spent c.take_two.ensures.counted
+
+pub returns-in-Err-Empty-clause-counted : goal.returns-in-Err-Empty-clause-counted
+returns-in-Err-Empty-clause-counted g c = let n = c.in-Some.ensures.numbered in
+    taken_spent c.args.space.now c.args.pass.now c.next_number.new.pass c.take_two.new.pass n.0 c.next_number.ensures.frame n.1 c.take_two.ensures.frame
+    c.args.account.now.spent c.take_two.new.spent c.take_two.ensures.counted
+
+pub returns-in-Err-Worn-clause-counted : goal.returns-in-Err-Worn-clause-counted
+returns-in-Err-Worn-clause-counted g c = let n = c.in-Some.ensures.numbered in
+    taken_spent c.args.space.now c.args.pass.now c.next_number.new.pass c.take_two.new.pass n.0 c.next_number.ensures.frame n.1 c.take_two.ensures.frame
+    c.args.account.now.spent c.take_two.new.spent c.take_two.ensures.counted

@@ -1,0 +1,58 @@
+use Rattle.std.proofs.Common.{◌≡◌, ◌<◌, ℕ, true, false, sym, ap, ◌∙◌, subst, inr}
+use Rattle.ca_node.specs.Links.{IsIn}
+use Rattle.ca_node.specs.Told.{MyTree}
+use Rattle.ca_range.specs.Staying.{OnlySteps}
+use Rattle.ca_range.proofs.Stepping.{steps_by_word}
+use Rattle.ca_range.proofs.WordsWatched.{borders_by_word}
+use Rattle.ca_range.proofs.Watched.{met_by_word, over_now}
+use Rattle.ca_range.proofs.using.use_of.Goals as goal
+
+pub returns-then-not-is_active-clause-steps : goal.returns-then-not-is_active-clause-steps
+returns-then-not-is_active-clause-steps c = let w = c.watch-state.ensures.watched in
+    subst (λ (x : MyTree). OnlySteps c.args.space.now.table.shared.key 0 x.0.upper c.watch-state.new.pass.seat.me.0.upper) c.range_of.ensures.frame.still
+    (steps_by_word c.in-Some.range.owner w.0 c.range_of.new.pass.seat.me c.watch-state.new.pass.seat.me w.2)
+
+pub returns-then-not-is_active-clause-borders : goal.returns-then-not-is_active-clause-borders
+returns-then-not-is_active-clause-borders c = λ border i. let w = c.watch-state.ensures.watched in
+    borders_by_word c.in-Some.range.owner w.0 c.range_of.new.pass.seat.me c.watch-state.new.pass.seat.me w.2 border
+    (subst (λ (x : MyTree). IsIn border x.0.upper.ranges.borders) (sym c.range_of.ensures.frame.still) i)
+
+pub returns-then-not-is_active-clause-used : goal.returns-then-not-is_active-clause-used
+returns-then-not-is_active-clause-used c note s = let w = c.watch-state.ensures.watched in let r = c.in-Some.ensures.range note s in
+    let m = c.range_of.new.pass.seat.me in
+    let over = over_now c.in-Some.range m c.watch-state.new.pass.seat.me w.0 note w.2
+    (subst (λ (x : MyTree). IsIn note x.0.upper.notes) (sym c.range_of.ensures.frame.still) s.noted) r.0
+    (λ on. let no : false ≡ true = sym c.if-not-is_active.true ∙ (c.is_active.ensures w.0 w.1).1 on in cc) in
+    inr (over.0, over.1, r.0.1 ∙ sym over.2, subst (λ (n : ℕ). n < over.0.below) (sym r.0.2) over.3)
+
+pub returns-then-range-number-clause-steps : goal.returns-then-range-number-clause-steps
+returns-then-range-number-clause-steps c = let w = c.watch-state.ensures.watched in
+    subst (λ (x : MyTree). OnlySteps c.args.space.now.table.shared.key 0 x.0.upper c.watch-state.new.pass.seat.me.0.upper) c.range_of.ensures.frame.still
+    (steps_by_word c.in-Some.range.owner w.0 c.range_of.new.pass.seat.me c.watch-state.new.pass.seat.me w.2)
+
+pub returns-then-range-number-clause-borders : goal.returns-then-range-number-clause-borders
+returns-then-range-number-clause-borders c = λ border i. let w = c.watch-state.ensures.watched in
+    borders_by_word c.in-Some.range.owner w.0 c.range_of.new.pass.seat.me c.watch-state.new.pass.seat.me w.2 border
+    (subst (λ (x : MyTree). IsIn border x.0.upper.ranges.borders) (sym c.range_of.ensures.frame.still) i)
+
+pub returns-else-range-number-clause-steps : goal.returns-else-range-number-clause-steps
+returns-else-range-number-clause-steps c = let w = c.watch-state.ensures.watched in
+    subst (λ (x : MyTree). OnlySteps c.args.space.now.table.shared.key 0 x.0.upper c.watch-state.new.pass.seat.me.0.upper) c.range_of.ensures.frame.still
+    (steps_by_word c.in-Some.range.owner w.0 c.range_of.new.pass.seat.me c.watch-state.new.pass.seat.me w.2)
+
+pub returns-else-range-number-clause-borders : goal.returns-else-range-number-clause-borders
+returns-else-range-number-clause-borders c = λ border i. let w = c.watch-state.ensures.watched in
+    borders_by_word c.in-Some.range.owner w.0 c.range_of.new.pass.seat.me c.watch-state.new.pass.seat.me w.2 border
+    (subst (λ (x : MyTree). IsIn border x.0.upper.ranges.borders) (sym c.range_of.ensures.frame.still) i)
+
+pub returns-else-range-number-clause-used : goal.returns-else-range-number-clause-used
+returns-else-range-number-clause-used c note s = let w = c.watch-state.ensures.watched in let r = c.in-Some.ensures.range note s in
+    let on = (c.is_active.ensures w.0 w.1).0 c.if-not-is_active.false in let m = c.range_of.new.pass.seat.me in
+    let n = c.watch-state.new.pass.seat.me in
+    let is = sym c.requires.number ∙ sym (c.number.ensures ∙ (c.watch-state.ensures.frame.number ∙ c.range_of.ensures.frame.number)) in
+    let other = λ (own : c.in-Some.range.owner ≡ m.0.upper.number).
+    c.if-range-number.false (own ∙ (ap (λ (x : MyTree). x.0.upper.number) c.range_of.ensures.frame.still ∙ is)) in record {
+      marked = r.0;
+      unfinished = met_by_word c.in-Some.range m n w.0 w.2 on other;
+      other = (r.1, r.2, λ own. other (own ∙ ap (λ (x : MyTree). x.0.upper.number) w.2.now));
+    }

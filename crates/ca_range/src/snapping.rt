@@ -1,0 +1,107 @@
+//! Snapshots of what is within two edges.
+ghost use Rattle.std.specs.Prelude.{◌≡◌, ◌≢◌, ◌<◌, ◌≤◌};
+ghost use Rattle.ca_adapt.specs.Tuned.{IsTuned};
+ghost use Rattle.ca_base.specs.Putting.{first_note};
+ghost use Rattle.ca_base.specs.Readiness.{IsReady, StaysReady};
+ghost use Rattle.ca_model.specs.Edges.{bound_of, IsProperBound};
+ghost use Rattle.ca_model.specs.Function.{MayBeAskedForAll};
+ghost use Rattle.ca_node.specs.TreePasses.{tree_of};
+ghost use Rattle.ca_node.specs.TreeView.{Quiet};
+ghost use Rattle.ca_range.specs.Ahead.{IsAtLast};
+ghost use Rattle.ca_range.specs.Filling.{IsInUse, turns_of};
+ghost use Rattle.ca_range.specs.Meeting.{AreMet};
+ghost use Rattle.ca_range.specs.Snapping.{IsRefused};
+ghost use Rattle.ca_range.specs.Snapshots.{HasSnapped, OnlyRanges};
+ghost use Rattle.ca_range.specs.Spending.{IsSpentOn};
+ghost use Rattle.ca_rows.specs.Passes.{sizes, known};
+
+use crate::account::Account;
+use crate::filling::range_in_use;
+use crate::helped::Helped;
+use crate::helping::help_ranges;
+use crate::looking::{Looked, look, walk_to_first};
+use crate::marks::MarkedBase;
+use crate::opening::begin_range;
+use crate::sought::{Run, Search, Snapped, Sought};
+use ca_adapt::Tuning;
+use ca_model::{Code, Counter};
+use ca_node::{TreePass, TreeSpace};
+
+/// Finds bases that have together what one state of the history has within the edges, one since the pin. Where one base has it all, it only looks at that.
+pub fn snapshot<F: Fn(&[u8]) -> bool>(
+    space: &TreeSpace,
+    pass: &mut TreePass,
+    sought: &Sought<'_, F>,
+    tuning: &Tuning,
+    budget: u32,
+    account: &mut Account,
+) -> Snapped
+    requires ready { IsReady space.now pass.old }
+    requires number { pass.old.number ≡ (tree_of pass.old).number }
+    requires quiet { (tree_of pass.old).ranges.own ≡ Quiet }
+    requires tuned { IsTuned (sizes space.now) tuning.now }
+    requires edges { IsProperBound (bound_of sought.now.lo) × IsProperBound (bound_of sought.now.hi) }
+    requires function { MayBeAskedForAll F.Fn sought.now.counts.now (sizes space.now).keypos }
+    requires met { AreMet account.old.met.numbers (tree_of pass.old).ranges.unfinished }
+    requires unspent { turns_of account.old.spent < budget }
+    ensures frame { StaysReady space.now pass.old pass.new }
+    ensures steps { OnlyRanges (sizes space.now) (tree_of pass.old) (tree_of pass.new) }
+    ensures met { AreMet account.new.met.numbers (tree_of pass.new).ranges.unfinished }
+    ensures snapped { HasSnapped F.Fn sought.now (sizes space.now) budget account.new.spent result (known pass.old) (known pass.new) }
+    ensures counted { IsSpentOn account.old.spent account.new.spent (known pass.old) (known pass.new) }
+{
+    let first = walk_to_first(space, pass, sought.lo);
+    let mut key = Code::new();
+    if let Looked::Done(whole) = look(space, pass, &first, sought, 0, &mut key) {
+        let (last, chained) = (first.base, false);
+        return Snapped::Run(Run {
+            last,
+            chained,
+            whole,
+        });
+    }
+    if let Some(range) = range_in_use(space, pass, first.base, account) {
+        let from = MarkedBase {
+            cursor: first,
+            range,
+        };
+        return help_first(space, pass, from, tuning, budget, account);
+    }
+    let search = Search {
+        sought,
+        tuning,
+        budget,
+    };
+    begin_range(space, pass, first, &search, account)
+}
+
+/// Helps a range of another pass that is in the way of a snapshot.
+pub(crate) fn help_first(
+    space: &TreeSpace,
+    pass: &mut TreePass,
+    from: MarkedBase,
+    tuning: &Tuning,
+    budget: u32,
+    account: &mut Account,
+) -> Snapped
+    requires ready { IsReady space.now pass.old }
+    requires number { pass.old.number ≡ (tree_of pass.old).number }
+    requires quiet { (tree_of pass.old).ranges.own ≡ Quiet }
+    requires tuned { IsTuned (sizes space.now) tuning.now }
+    requires met { AreMet account.old.met.numbers (tree_of pass.old).ranges.unfinished }
+    requires at { IsAtLast (sizes space.now) (tree_of pass.old) from.cursor }
+    requires used { IsInUse (tree_of pass.old) (first_note (tree_of pass.old).notes) from.range }
+    ensures frame { StaysReady space.now pass.old pass.new }
+    ensures steps { OnlyRanges (sizes space.now) (tree_of pass.old) (tree_of pass.new) }
+    ensures met { AreMet account.new.met.numbers (tree_of pass.new).ranges.unfinished }
+    ensures refused { IsRefused budget account.new.spent result (known pass.old) (known pass.new) }
+    ensures counted { IsSpentOn account.old.spent account.new.spent (known pass.old) (known pass.new) }
+{
+    match help_ranges(space, pass, from, tuning, budget, account) {
+        Helped::Finished => Snapped::Again,
+        Helped::Lost(_) => Snapped::Again,
+        Helped::Busy(_) => Snapped::Busy,
+        Helped::NoRow => Snapped::NoRow,
+        Helped::Worn(_) => Snapped::Worn(Counter::PoolTag),
+    }
+}

@@ -1,0 +1,193 @@
+use Rattle.std.proofs.Common.{◌≡◌, ◌<◌, ◌∙◌, ℕ, Err, Ok, ap, arith, false, inl, inr, refl, subst, sym, true, vec_len}
+use Rattle.ca_base.specs.Progress.{IsFurther}
+use Rattle.ca_model.specs.declared.outcome.Cause.{Cause}
+use Rattle.ca_replace.specs.Attempting.{total}
+use Rattle.ca_replace.specs.Causes.{IsRefill}
+use Rattle.ca_replace.specs.Ranging.{HasMissed, IsRangeCaused}
+use Rattle.ca_replace.specs.declared.missing.Miss.{Miss}
+use Rattle.ca_replace.proofs.Causing.{few_from, nearer}
+use Rattle.ca_replace.proofs.Counted.{none_paid, paid_both, paid_given, spends_more}
+use Rattle.ca_replace.proofs.Meeting.{further_on}
+use Rattle.ca_replace.proofs.Misses.{range_caused, ranged_on, refill_range_caused}
+use Rattle.ca_replace.proofs.Pinning.{begun_with, empty_before}
+use Rattle.ca_replace.proofs.Turns.{no_further}
+use Rattle.ca_rows.specs.declared.view.Met.{Met}
+use Rattle.ca_replace.proofs.ranging.attempts.Goals as goal
+
+pub loop-answer-init : goal.loop-answer-init
+loop-answer-init g c = let m = c.args.pass.now.seat.me in record {
+  number = refl;
+  resting = c.requires.resting;
+  further = no_further m.0.upper;
+  counted = none_paid c.args.spent.now m m refl refl;
+  looks = omega arith;
+  worn = refl;
+  first = inl (refl, refl);
+  unspent = let none = c.requires.none in let some = c.requires.budget in omega (arith, none.0, none.1, none.2);
+  lags = refl;
+}
+
+pub tries-requires-clause-resting : goal.tries-requires-clause-resting
+tries-requires-clause-resting g c = c.loop-answer.invariant.resting
+
+pub tries-requires-clause-unspent : goal.tries-requires-clause-unspent
+tries-requires-clause-unspent g c = c.loop-answer.invariant.unspent
+
+pub returns-in-Ok-clause-works : goal.returns-in-Ok-clause-works
+returns-in-Ok-clause-works g c = record {
+  number = c.in-Ok.ensures.works.number ∙ c.loop-answer.invariant.number;
+  at_work = c.in-Ok.ensures.works.at_work;
+}
+
+pub returns-in-Ok-clause-come : goal.returns-in-Ok-clause-come
+returns-in-Ok-clause-come g c = let z = c.args.tree.now.space.table.shared.key in
+    (ranged_on (λ (x : _). g.L.Look.tells c.args.order.now.what.now z x c.tries.new.left) z (Ok c.in-Ok.answer)
+    c.args.pass.now.seat.me.0.upper c.loop-answer.pass.seat.me.0.upper c.tries.new.pass.seat.me.0.upper
+    c.loop-answer.invariant.further c.in-Ok.ensures.tried).0
+
+pub returns-in-Ok-clause-lags : goal.returns-in-Ok-clause-lags
+returns-in-Ok-clause-lags g c = (
+  (let before = c.loop-answer.invariant.lags in let same = c.tries.ensures.pinned.lags in omega arith),
+  c.tries.ensures.pinned.entered ∙ c.loop-answer.invariant.lags,
+)
+
+pub returns-in-Ok-clause-looks : goal.returns-in-Ok-clause-looks
+returns-in-Ok-clause-looks g c = let before = c.loop-answer.invariant.looks in let same = c.tries.ensures.pinned.looks in
+    omega arith
+
+pub returns-in-Ok-clause-all_seen : goal.returns-in-Ok-clause-all_seen
+returns-in-Ok-clause-all_seen g c = c.tries.ensures.pinned.lags ∙ c.loop-answer.invariant.lags
+
+pub returns-then-not-is_without_row-clause-rests :
+    goal.returns-then-not-is_without_row-clause-rests
+returns-then-not-is_without_row-clause-rests g c = record {
+  number = c.keep_few.ensures.frame.number ∙ (c.in-Err.ensures.rests.number ∙ c.loop-answer.invariant.number);
+  resting = c.keep_few.ensures.frame.resting;
+}
+
+pub returns-then-not-is_without_row-clause-come : goal.returns-then-not-is_without_row-clause-come
+returns-then-not-is_without_row-clause-come g c = let u = c.args.pass.now.seat.me.0.upper in
+    subst (IsFurther u) (sym c.keep_few.ensures.gave.upper)
+    (further_on u c.loop-answer.pass.seat.me.0.upper c.tries.new.pass.seat.me.0.upper c.loop-answer.invariant.further
+    c.in-Err.ensures.tried.0)
+
+pub returns-then-not-is_without_row-clause-caused :
+    goal.returns-then-not-is_without_row-clause-caused
+returns-then-not-is_without_row-clause-caused g c = let i = c.loop-answer.invariant in
+    let start = c.args.pass.now.seat.me in let before = c.loop-answer.pass.seat.me in
+    let behind = c.tries.new.pass.seat.me in let last = c.keep_few.new.pass.seat.me in
+    let z = c.args.tree.now.space.table.shared.key in let spent = c.tries.new.spent in
+    let why = c.in-Err.why in
+    let more = c.add-spent.ensures.more in
+    subst (λ (x : Cause). IsRangeCaused z c.args.pass.now.number c.args.order.now.budget x start c.args.pass.now.kept.rows last
+    c.keep_few.new.pass.kept.rows) (sym c.refusal.ensures)
+    (range_caused z c.args.pass.now.number c.args.order.now.budget spent (record spent { lost = c.add-spent.result }) start before
+    behind last c.args.pass.now.kept.rows c.keep_few.new.pass.kept.rows i.worn c.keep_few.ensures.gave (omega arith)
+    record {
+      spent = c.args.spent.now;
+      none = c.requires.none;
+      counted = paid_both c.args.spent.now spent (record spent { lost = c.add-spent.result }) start behind last
+          (paid_both c.args.spent.now c.loop-answer.spent spent start before behind i.counted c.tries.ensures.counted)
+          (paid_given spent c.keep_few.result c.add-spent.result behind last c.add-spent.ensures.sum c.keep_few.ensures.lost
+          c.keep_few.ensures.gave.upper);
+    } why (λ e. let wrong : false ≡ true = c.if-not-is_without_row.ensures.1 e in cc)
+    (λ e. c.in-Err.ensures.spent_all (ap Err e)) c.in-Err.ensures.missed)
+
+pub returns-then-not-is_without_row-clause-few : goal.returns-then-not-is_without_row-clause-few
+returns-then-not-is_without_row-clause-few g c = few_from c.args.pass.now.seat.me c.tries.new.pass.seat.me
+    c.keep_few.new.pass.seat.me c.keep_few.new.pass.kept.rows
+    (let before = c.loop-answer.invariant.looks in let same = c.tries.ensures.pinned.looks in omega arith)
+    c.keep_few.ensures.few
+
+pub returns-then-not-is_without_row-clause-lags : goal.returns-then-not-is_without_row-clause-lags
+returns-then-not-is_without_row-clause-lags g c = let i = c.loop-answer.invariant in
+    let same = c.tries.ensures.pinned.lags in let once = c.keep_few.ensures.gave.lags in (
+      (let before = i.lags in let one = once.0 in omega arith),
+      ap (λ (x : Met). x.lags) once.1 ∙ (c.tries.ensures.pinned.entered ∙ i.lags),
+    )
+
+pub returns-in-Err-refill-clause-rests : goal.returns-in-Err-refill-clause-rests
+returns-in-Err-refill-clause-rests g c = record {
+  number = c.refill.ensures.frame.number ∙ (c.in-Err.ensures.rests.number ∙ c.loop-answer.invariant.number);
+  resting = c.refill.ensures.frame.resting;
+}
+
+pub returns-in-Err-refill-clause-come : goal.returns-in-Err-refill-clause-come
+returns-in-Err-refill-clause-come g c = let u = c.args.pass.now.seat.me.0.upper in
+    subst (IsFurther u) (sym c.refill.ensures.gave.upper)
+    (further_on u c.loop-answer.pass.seat.me.0.upper c.tries.new.pass.seat.me.0.upper c.loop-answer.invariant.further
+    c.in-Err.ensures.tried.0)
+
+pub returns-in-Err-refill-clause-caused : goal.returns-in-Err-refill-clause-caused
+returns-in-Err-refill-clause-caused g c = let i = c.loop-answer.invariant in
+    let start = c.args.pass.now.seat.me in let before = c.loop-answer.pass.seat.me in
+    let behind = c.tries.new.pass.seat.me in let last = c.refill.new.pass.seat.me in
+    let z = c.args.tree.now.space.table.shared.key in
+    let met = subst (λ (x : Miss). HasMissed c.args.order.now.budget c.tries.new.spent x before behind)
+    (c.if-not-is_without_row.ensures.0 refl) c.in-Err.ensures.missed in
+    refill_range_caused z c.args.pass.now.number c.args.order.now.budget c.kept-kept.result c.in-Err-refill.cause
+    c.refill.new.spent start behind last c.args.pass.now.kept.rows c.refill.new.pass.kept.rows
+    record {
+      spent = c.args.spent.now;
+      none = c.requires.none;
+      counted = paid_both c.args.spent.now c.tries.new.spent c.refill.new.spent start behind last
+          (paid_both c.args.spent.now c.loop-answer.spent c.tries.new.spent start before behind i.counted
+          c.tries.ensures.counted) c.refill.ensures.counted;
+    }
+    (begun_with z.rows c.kept-kept.result start before behind last c.args.pass.now.kept.rows c.loop-answer.pass.kept.rows
+    c.kept-kept.ensures i.resting.are_kept i.first
+    (let two = c.tries.ensures.counted.more in let three = c.refill.ensures.counted.more in omega arith) met
+    c.refill.ensures.gave.met c.tries.ensures.pinned c.refill.ensures.gave.lags)
+    (let more = i.looks in let same = c.tries.ensures.pinned.looks in omega arith)
+    (subst (λ (k : ℕ). IsRefill z.passes k c.args.order.now.budget c.kept-kept.result c.refill.new.spent c.in-Err-refill.cause
+    behind last c.refill.new.pass.kept.rows) (c.in-Err.ensures.rests.number ∙ i.number) c.in-Err-refill.ensures.refused)
+
+pub returns-in-Err-refill-clause-few : goal.returns-in-Err-refill-clause-few
+returns-in-Err-refill-clause-few g c = few_from c.args.pass.now.seat.me c.tries.new.pass.seat.me c.refill.new.pass.seat.me
+    c.refill.new.pass.kept.rows
+    (let before = c.loop-answer.invariant.looks in let same = c.tries.ensures.pinned.looks in omega arith)
+    (c.in-Err-refill.ensures.few refl)
+
+pub returns-in-Err-refill-clause-lags : goal.returns-in-Err-refill-clause-lags
+returns-in-Err-refill-clause-lags g c = let i = c.loop-answer.invariant in
+    let same = c.tries.ensures.pinned.lags in let once = c.refill.ensures.gave.lags in (
+      (let before = i.lags in let one = once.0 in omega arith),
+      ap (λ (x : Met). x.lags) once.1 ∙ (c.tries.ensures.pinned.entered ∙ i.lags),
+    )
+
+pub loop-answer-smaller : goal.loop-answer-smaller
+loop-answer-smaller g c = let again = c.in_default.ensures.again refl in let i = c.loop-answer.invariant in
+    let start = c.args.pass.now.seat.me in let before = c.loop-answer.pass.seat.me in
+    let behind = c.tries.new.pass.seat.me in let last = c.refill.new.pass.seat.me in
+    let turns = c.tries.ensures.counted in
+    let so_far = paid_both c.args.spent.now c.loop-answer.spent c.tries.new.spent start before behind i.counted turns in
+    nearer c.args.order.now.budget (total c.loop-answer.spent) (total c.tries.new.spent) (total c.refill.new.spent)
+    (vec_len c.loop-answer.pass.kept.rows) (vec_len c.refill.new.pass.kept.rows)
+    (spends_more c.args.spent.now c.loop-answer.spent c.tries.new.spent start before behind c.requires.none i.counted turns)
+    (spends_more c.args.spent.now c.tries.new.spent c.refill.new.spent start behind last c.requires.none so_far
+    c.refill.ensures.counted)
+    (subst (λ n. 0 < n) c.kept-kept.ensures again.some, again.unspent, again.nearer)
+
+pub loop-answer-preserved : goal.loop-answer-preserved
+loop-answer-preserved g c = let i = c.loop-answer.invariant in let again = c.in_default.ensures.again refl in
+    let start = c.args.pass.now.seat.me in let before = c.loop-answer.pass.seat.me in
+    let behind = c.tries.new.pass.seat.me in let last = c.refill.new.pass.seat.me in
+    let met = subst (λ (x : Miss). HasMissed c.args.order.now.budget c.tries.new.spent x before behind)
+    (c.if-not-is_without_row.ensures.0 refl) c.in-Err.ensures.missed in
+    let given = c.refill.ensures.gave.met in record {
+      number = c.refill.ensures.frame.number ∙ (c.in-Err.ensures.rests.number ∙ i.number);
+      resting = c.refill.ensures.frame.resting;
+      further = subst (IsFurther start.0.upper) (sym c.refill.ensures.gave.upper)
+          (further_on start.0.upper before.0.upper behind.0.upper i.further c.in-Err.ensures.tried.0);
+      counted = paid_both c.args.spent.now c.tries.new.spent c.refill.new.spent start behind last
+          (paid_both c.args.spent.now c.loop-answer.spent c.tries.new.spent start before behind i.counted
+          c.tries.ensures.counted) c.refill.ensures.counted;
+      looks = let before = i.looks in let same = c.tries.ensures.pinned.looks in let more = c.refill.ensures.looked in omega arith;
+      worn = omega (arith, i.worn, met.1, given.1);
+      first = inr (empty_before (vec_len c.loop-answer.pass.kept.rows) c.kept-kept.result (vec_len c.refill.new.pass.kept.rows)
+          start before behind last c.args.pass.now.kept.rows c.kept-kept.ensures again.some
+          (let one = i.counted.more in let two = c.tries.ensures.counted.more in omega arith)
+          again.begins i.first met given c.tries.ensures.pinned c.refill.ensures.gave.lags c.refill.ensures.looked);
+      unspent = again.unspent;
+      lags = again.unlagged ∙ (c.tries.ensures.pinned.lags ∙ i.lags);
+    }

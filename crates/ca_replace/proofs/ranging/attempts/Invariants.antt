@@ -1,0 +1,23 @@
+use Rattle.std.proofs.Common.{◌≡◌, ◌+◌, ◌-◌, ◌*◌, ◌<◌, ◌≤◌, min, vec_len}
+use Rattle.ca_base.specs.Progress.{IsFurther}
+use Rattle.ca_replace.specs.Attempting.{IsPaid, total}
+use Rattle.ca_replace.specs.Resting.{IsResting}
+use Rattle.ca_replace.proofs.Pinning.{Before}
+use Rattle.ca_replace.proofs.ranging.attempts.Given as goal
+
+abbrev pub invariant-loop-answer : goal.invariant-loop-answer
+invariant-loop-answer g l = record {
+  number : l.pass.number ≡ l.fn.pass.number;
+  resting : IsResting l.tree.space.table.shared.table_id l.tree.space.table.shared.key l.pass.number
+      l.pass.tally l.pass.kept.rows l.pass.seat;
+  further : IsFurther l.fn.pass.seat.me.0.upper l.pass.seat.me.0.upper;
+  counted : IsPaid l.fn.spent l.spent l.fn.pass.seat.me l.pass.seat.me;
+  looks : l.fn.pass.seat.me.0.pin.looks ≤ l.pass.seat.me.0.pin.looks;
+  worn : l.pass.seat.me.0.worn ≡ l.fn.pass.seat.me.0.worn;
+  first : Before (vec_len l.pass.kept.rows) l.fn.pass.seat.me l.pass.seat.me l.fn.pass.kept.rows;
+  unspent : total l.spent < l.order.budget;
+  lags : l.pass.seat.me.0.pin.lags ≡ l.fn.pass.seat.me.0.pin.lags;
+}
+
+abbrev pub decreases-loop-answer : goal.decreases-loop-answer
+decreases-loop-answer g l = 2 * (l.order.budget - total l.spent) + min (vec_len l.pass.kept.rows) 1

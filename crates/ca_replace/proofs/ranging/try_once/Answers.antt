@@ -1,0 +1,71 @@
+use Rattle.std.proofs.Common.{◌∙◌, Err, Ok, ap, sym}
+use Rattle.ca_node.specs.Told.{MyTree}
+use Rattle.ca_replace.proofs.Misses.{further_pinned, missed_further, missed_left, missed_pinned, paid_left, paid_pinned, pinned_by, pinned_left, ranged_on}
+use Rattle.ca_replace.proofs.Working.{work_after, work_first, work_left}
+use Rattle.ca_replace.proofs.ranging.try_once.Goals as goal
+
+pub look-requires-clause-work : goal.look-requires-clause-work
+look-requires-clause-work g c = work_first c.pin.ensures.pinned.0 c.pin.ensures.pinned.1 c.requires.resting c.pin.ensures.frame
+    c.pin.ensures.pinned.3
+
+pub look-requires-clause-at_pin : goal.look-requires-clause-at_pin
+look-requires-clause-at_pin g c = let is = c.pin.ensures.pinned.3 in
+    ap (λ (m : MyTree). m.0.upper.since) is ∙ sym (ap (λ (m : MyTree). m.0.upper.seen) is)
+
+pub look-requires-clause-none_met : goal.look-requires-clause-none_met
+look-requires-clause-none_met g c = ap (λ (m : MyTree). m.0.upper.ranges.unfinished) c.pin.ensures.pinned.3
+
+pub returns-in-Ok-clause-works : goal.returns-in-Ok-clause-works
+returns-in-Ok-clause-works g c = let told = c.in-Ok.ensures.tried in record {
+  number = c.look.ensures.frame.number ∙ c.pin.ensures.frame.number;
+  at_work = work_after (work_first c.pin.ensures.pinned.0 c.pin.ensures.pinned.1 c.requires.resting c.pin.ensures.frame
+      c.pin.ensures.pinned.3) c.look.ensures.frame told.1 told.0.2.number;
+}
+
+pub returns-in-Ok-clause-tried : goal.returns-in-Ok-clause-tried
+returns-in-Ok-clause-tried g c = let z = c.args.tree.now.space.table.shared.key in
+    ranged_on (λ (x : _). g.L.Look.tells c.args.order.now.what.now z x c.look.new.left) z (Ok c.in-Ok.answer)
+    c.args.pass.now.seat.me.0.upper c.pin.new.pass.seat.me.0.upper c.look.new.pass.seat.me.0.upper
+    (further_pinned c.pin.ensures.pinned.0 c.pin.ensures.pinned.1 c.args.pass.now.seat.me c.pin.new.pass.seat.me
+    c.pin.ensures.pinned.3) c.in-Ok.ensures.tried
+
+pub returns-in-Ok-clause-counted : goal.returns-in-Ok-clause-counted
+returns-in-Ok-clause-counted g c = paid_pinned c.args.spent.now c.look.new.spent c.pin.ensures.pinned.0 c.pin.ensures.pinned.1
+    c.args.pass.now.seat.me c.pin.new.pass.seat.me c.look.new.pass.seat.me c.pin.ensures.pinned.3 c.look.ensures.counted
+
+pub returns-in-Ok-clause-pinned : goal.returns-in-Ok-clause-pinned
+returns-in-Ok-clause-pinned g c = pinned_by c.pin.ensures.pinned.0 c.pin.ensures.pinned.1 c.args.pass.now.seat.me
+    c.pin.new.pass.seat.me c.look.new.pass.seat.me c.pin.ensures.pinned.3 c.look.ensures.frame.pin.1
+
+pub returns-in-Err-clause-rests : goal.returns-in-Err-clause-rests
+returns-in-Err-clause-rests g c = let told = c.in-Err.ensures.tried in record {
+  number = c.unpin.ensures.frame.number ∙ (c.look.ensures.frame.number ∙ c.pin.ensures.frame.number);
+  resting = work_left (work_after (work_first c.pin.ensures.pinned.0 c.pin.ensures.pinned.1 c.requires.resting c.pin.ensures.frame
+      c.pin.ensures.pinned.3) c.look.ensures.frame told.1 told.0.number) c.unpin.ensures.frame c.unpin.ensures.unpinned;
+}
+
+pub returns-in-Err-clause-tried : goal.returns-in-Err-clause-tried
+returns-in-Err-clause-tried g c = let z = c.args.tree.now.space.table.shared.key in let u = c.args.pass.now.seat.me.0.upper in
+    let v = c.look.new.pass.seat.me.0.upper in
+    missed_further z u v c.unpin.new.pass.seat.me.0.upper (ap (λ (m : MyTree). m.0.upper) c.unpin.ensures.unpinned)
+    (ranged_on (λ (x : _). g.L.Look.tells c.args.order.now.what.now z x c.look.new.left) z (Err c.in-Err.why)
+    u c.pin.new.pass.seat.me.0.upper v
+    (further_pinned c.pin.ensures.pinned.0 c.pin.ensures.pinned.1 c.args.pass.now.seat.me c.pin.new.pass.seat.me
+    c.pin.ensures.pinned.3) c.in-Err.ensures.tried)
+
+pub returns-in-Err-clause-counted : goal.returns-in-Err-clause-counted
+returns-in-Err-clause-counted g c = paid_left c.args.spent.now c.look.new.spent c.args.pass.now.seat.me c.look.new.pass.seat.me
+    c.unpin.new.pass.seat.me c.unpin.ensures.unpinned
+    (paid_pinned c.args.spent.now c.look.new.spent c.pin.ensures.pinned.0 c.pin.ensures.pinned.1
+    c.args.pass.now.seat.me c.pin.new.pass.seat.me c.look.new.pass.seat.me c.pin.ensures.pinned.3 c.look.ensures.counted)
+
+pub returns-in-Err-clause-missed : goal.returns-in-Err-clause-missed
+returns-in-Err-clause-missed g c = missed_left c.args.order.now.budget c.look.new.spent c.in-Err.why c.args.pass.now.seat.me
+    c.look.new.pass.seat.me c.unpin.new.pass.seat.me c.unpin.ensures.unpinned
+    (missed_pinned {T = Unit {0}} c.args.order.now.budget c.look.new.spent (Err c.in-Err.why) c.pin.ensures.pinned.0 c.pin.ensures.pinned.1
+    c.args.pass.now.seat.me c.pin.new.pass.seat.me c.look.new.pass.seat.me c.pin.ensures.pinned.3 c.in-Err.ensures.missed)
+
+pub returns-in-Err-clause-pinned : goal.returns-in-Err-clause-pinned
+returns-in-Err-clause-pinned g c = pinned_left c.args.pass.now.seat.me c.look.new.pass.seat.me c.unpin.new.pass.seat.me
+    c.unpin.ensures.unpinned (pinned_by c.pin.ensures.pinned.0 c.pin.ensures.pinned.1 c.args.pass.now.seat.me
+    c.pin.new.pass.seat.me c.look.new.pass.seat.me c.pin.ensures.pinned.3 c.look.ensures.frame.pin.1)

@@ -1,0 +1,22 @@
+use Rattle.std.proofs.Common.{◌≡◌, ◌-◌, length}
+use Rattle.ca_model.specs.Edges.{bound_of}
+use Rattle.ca_range.specs.Snapshots.{bases_of}
+use Rattle.ca_replace.specs.Running.{IsGathered, row_in}
+use Rattle.ca_rows.specs.Calls.{IsOf, IsSame}
+use Rattle.ca_replace.proofs.running.open_run.Given as goal
+
+abbrev pub invariant-loop-row : goal.invariant-loop-row
+invariant-loop-row l = record {
+  own : IsOf l.space.table.shared.table_id l.space.table.shared.key l.pass.seat;
+  same : IsSame l.fn.pass.seat l.pass.seat;
+  number : l.pass.number ≡ l.fn.pass.number;
+  tally : l.pass.tally ≡ l.fn.pass.tally;
+  kept : l.pass.kept ≡ l.fn.pass.kept;
+  still : l.pass.seat.me ≡ l.fn.pass.seat.me;
+  bases : l.run.bases ≡ l.bases;
+  here : l.row ≡ row_in (bases_of l.bases l.fn.pass.seat.me.0.upper) l.run.window.walked;
+  gathered : IsGathered (bases_of l.bases l.fn.pass.seat.me.0.upper) (bound_of l.lo) (bound_of l.cut) l.run;
+}
+
+abbrev pub decreases-loop-row : goal.decreases-loop-row
+decreases-loop-row l = length (bases_of l.bases l.fn.pass.seat.me.0.upper) - l.run.window.walked

@@ -1,0 +1,22 @@
+use Rattle.std.proofs.Common.{refl}
+use Rattle.ca_model.specs.Edges.{bound_of}
+use Rattle.ca_replace.specs.Within.{above_event}
+use Rattle.ca_replace.proofs.Runs.{finds_above, first_read, learnt_done, learnt_unanswered, run_ordered}
+use Rattle.ca_replace.proofs.within.AboveCallLook.look.Goals as goal
+
+pub read_first-requires-clause-ordered : goal.read_first-requires-clause-ordered
+read_first-requires-clause-ordered c = run_ordered _ _ c.in-Ok.ensures.run
+
+pub read_first-requires-clause-answers : goal.read_first-requires-clause-answers
+read_first-requires-clause-answers c = first_read _ _ c.in-Ok.ensures.run refl refl
+    (learnt_unanswered c.args.tree.now.space.table.shared.key c.args.pass.now.seat.me.0.upper c.snap.new.pass.seat.me.0.upper
+    c.requires.at_pin c.requires.work.known c.in-Ok.ensures.learnt)
+
+pub returns-in-Ok-clause-tried : goal.returns-in-Ok-clause-tried
+returns-in-Ok-clause-tried c = let lo = bound_of c.args.self.now.lo in
+    let event = above_event lo c.read_first.result c.read_first.new.into.items in
+    let done = learnt_done c.args.tree.now.space.table.shared.key c.args.pass.now.seat.me.0.upper c.snap.new.pass.seat.me
+    c.read_first.new.pass.seat.me event c.requires.at_pin c.in-Ok.ensures.learnt c.read_first.ensures.entered in (
+      (event, finds_above lo c.read_first.result c.read_first.new.into.items c.read_first.ensures.emptied, done.0),
+      done.1,
+    )

@@ -1,0 +1,19 @@
+-- Passes at work that leave: they rest then.
+use Rattle.std.specs.Prelude.{◌≡◌, ◌+◌, ◌≤◌, Vec}
+use Rattle.std.specs.Global.{Global}
+use Rattle.ca_node.specs.Told.{MyTree}
+use Rattle.ca_node.specs.TreeView.{unpinned}
+use Rattle.ca_replace.specs.Causes.{KeepsFew}
+use Rattle.ca_rows.specs.declared.kept.Kept.{Kept}
+
+-- The pass unpinned, and keeps few rows, or there is a cause. A pass was found to lag once at most.
+pub record HasLeft (m m' : MyTree) (kept' : Vec Kept Global) : Type 0 where
+  pub upper : m'.0.upper ≡ unpinned m.0.upper
+  pub few : KeepsFew m m' kept'
+  pub lags : m'.0.pin.lags ≤ m.0.pin.lags + 1
+  pub entered : m'.0.pin.entered ≡ m.0.pin.entered
+
+-- Nothing changed.
+pub record IsLeftAlone (m m' : MyTree) (kept kept' : Vec Kept Global) : Type 0 where
+  pub known : m' ≡ m
+  pub list : kept' ≡ kept

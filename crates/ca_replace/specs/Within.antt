@@ -1,0 +1,67 @@
+-- Calls that read what is within edges, as events.
+use Rattle.std.specs.Prelude.{◌≡◌, ℕ, Bool, true, false, cond, List, [], None, Some}
+use denote.Ref.{Bor}
+use denote.Param.Members.{Shared}
+use Rattle.ca_base.specs.Progress.{IsFurther}
+use Rattle.ca_base.specs.Putting.{first_note}
+use Rattle.ca_model.specs.Edges.{Bound, bound_of, objects_of, within}
+use Rattle.ca_model.specs.Event.{Event, Above, Below, Range}
+use Rattle.ca_model.specs.Runs.{Reaches}
+use Rattle.ca_node.specs.Told.{IsKnown}
+use Rattle.ca_model.specs.declared.edge.Edge.{Edge}
+use Rattle.ca_model.specs.declared.edge.Edge.TheVariants as edge
+use Rattle.ca_node.specs.declared.cursor.Spot.{Spot}
+use Rattle.ca_node.specs.declared.cursor.Spot.TheVariants as spot
+use Rattle.ca_node.specs.TreeView.{TreeView}
+use Rattle.ca_range.specs.Snapshots.{bases_of}
+use Rattle.ca_range.specs.declared.sought.Run.{Run}
+use Rattle.ca_range.specs.declared.sought.Sought.{Sought}
+use Rattle.ca_replace.specs.Running.{IsOpenRun, all_of, left_of}
+use Rattle.ca_replace.specs.declared.opened.OpenRun.{OpenRun}
+use Rattle.ca_rows.specs.declared.sizes.Sizes.{Sizes}
+
+-- where a run is cut: at the upper edge, where it is whole, and else where its last base ends
+abbrev pub cut_of : Run → TreeView → Bound → Bound
+cut_of run u hi = cond run.whole hi (first_note (bases_of run u)).place.span.high
+
+-- the call that opens the run, given both edges
+abbrev pub range_event : Run → TreeView → Bound → Bound → Event
+range_event run u lo hi = Range lo hi (cut_of run u hi) (objects_of (within lo (cut_of run u hi) (all_of run u)))
+
+-- the read of the first object within a lower edge, and of the last one within an upper edge, given whether an object was found, and which
+abbrev pub above_event : Bound → Bool → List ℕ → Event
+above_event lo true object = Above lo (Some object)
+above_event lo false object = Above lo None
+
+abbrev pub below_event : Bound → Bool → List ℕ → Event
+below_event hi true object = Below hi (Some object)
+below_event hi false object = Below hi None
+
+-- So such a call found the object, or none, and there are no bytes.
+abbrev pub FindsAbove : Bound → Bool → List ℕ → Event → Type 0
+FindsAbove lo true object event = event ≡ Above lo (Some object)
+FindsAbove lo false object event = (event ≡ Above lo None) × (object ≡ [])
+
+abbrev pub FindsBelow : Bound → Bool → List ℕ → Event → Type 0
+FindsBelow hi true object event = event ≡ Below hi (Some object)
+FindsBelow hi false object event = (event ≡ Below hi None) × (object ≡ [])
+
+module _ {F : Type 0} (g : Shared F (Bor (List ℕ) × Unit {0}) Bool) (sought : Sought F) where
+  -- The call opened this run, which reaches the upper edge or doesn't.
+  pub record HasOpened (z : Sizes) (whole : Bool) (run : OpenRun) (u : TreeView) (event : Event) : Type 0 where
+    pub opened : IsOpenRun z u run
+    pub cut : Bound
+    pub event_is : event ≡ Range (bound_of sought.lo) (bound_of sought.hi) cut (left_of u run)
+    pub reaches : Reaches g sought.counts.now (bound_of sought.hi) cut sought.want (left_of u run) whole
+
+-- It has seen more of the history, at most, and answered no call and was refused none. Behind that its history is known, and it has been pinned no less long.
+pub record HasLearnt (z : Sizes) (u v : TreeView) : Type 0 where
+  pub further : IsFurther u v
+  pub known : IsKnown z v
+  pub since : v.since ≡ u.since
+
+-- which base has the keys right up to an upper edge
+abbrev pub spot_at : Edge → Spot
+spot_at edge.Open = spot.Last
+spot_at (edge.At key) = spot.At key
+spot_at (edge.Past key) = spot.Below key

@@ -1,0 +1,123 @@
+//! Attempts of the call that reads the last object within an upper edge.
+ghost use Rattle.std.specs.Prelude.{◌≡◌, ◌≤◌, [], None, Some, cond, false, map};
+ghost use Rattle.ca_model.specs.Edges.{bound_of, last_object, up_to, IsProperBound};
+ghost use Rattle.ca_base.specs.Putting.{first_note};
+ghost use Rattle.ca_node.specs.Row.{pair};
+ghost use Rattle.ca_node.specs.States.{IsReadSince};
+ghost use Rattle.ca_node.specs.Told.{IsEntered};
+ghost use Rattle.ca_node.specs.TreePasses.{tree_of};
+ghost use Rattle.ca_node.specs.Walking.{IsWalked};
+ghost use Rattle.ca_replace.specs.Within.{FindsBelow, below_event, spot_at};
+ghost use Rattle.ca_rows.specs.Passes.{KeepsList, IsReading, sizes, known};
+
+use crate::ending::{Read, enter};
+use crate::missing::Miss;
+use crate::ranging::Look;
+use crate::running::last_within;
+use crate::tree::Tree;
+use crate::within::snap;
+use ca_model::{Code, Edge, Spent};
+use ca_node::{Cursor, Spot, TreePass, TreeSpace, walk};
+use ca_range::{Run, Sought};
+
+/// The call that reads the last object within an upper edge, and answers whether there is one.
+#[derive(Clone, Copy)]
+pub(crate) struct BelowCall<'a> {
+    pub(crate) hi: Edge<'a>,
+}
+
+impl Look for BelowCall<'_> {
+    type Answer = bool;
+
+    type Left = Code;
+
+    ghost may = { λ call z. IsProperBound (bound_of call.hi) };
+
+    ghost tells = { λ call z found into u event. FindsBelow (bound_of call.hi) found into.items event };
+
+    fn look(
+        &self,
+        tree: &Tree,
+        pass: &mut TreePass,
+        into: &mut Code,
+        budget: u32,
+        spent: &mut Spent,
+    ) -> Result<bool, Miss> {
+        let (cursor, near) = look_near(&tree.space, pass, self.hi, into);
+        if near {
+            enter_last(&tree.space, pass, cursor.base, self.hi, true, into);
+            return Ok(true);
+        }
+        if cursor.low.is_none() {
+            enter_last(&tree.space, pass, cursor.base, self.hi, false, into);
+            return Ok(false);
+        }
+        let counts = |_object: &[u8]| true;
+        let sought = Sought {
+            lo: Edge::Open,
+            hi: self.hi,
+            want: 0,
+            counts: &counts,
+        };
+        match snap(tree, pass, &sought, budget, spent) {
+            Ok(run) => {
+                let space = &tree.space;
+                let found = last_within(space, pass, run, self.hi, into);
+                enter_last(space, pass, run.last, self.hi, found, into);
+                Ok(found)
+            }
+            Err(why) => Err(why),
+        }
+    }
+}
+
+// Enters the read of the last object within an upper edge in the log: whether there is one, and which.
+fn enter_last(
+    space: &TreeSpace,
+    pass: &mut TreePass,
+    row: u32,
+    hi: Edge<'_>,
+    found: bool,
+    object: &Code,
+)
+    requires reading { IsReading space.now pass.old }
+    requires inside { row ≤ (sizes space.now).rows }
+    requires answer { IsReadSince (below_event (bound_of hi) found object.now.items) (tree_of pass.old) }
+    ensures frame { KeepsList pass.old pass.new }
+    ensures entered { IsEntered (below_event (bound_of hi.entry) found object.now.items) (known pass.old) (known pass.new) }
+{
+    if found {
+        enter(space, pass, row, Read::Last(hi, object.as_slice()));
+    } else {
+        enter(space, pass, row, Read::NoneBelow(hi));
+    }
+}
+
+// The last object within an upper edge that the base has which has the keys right below it, if one is; else `into` is empty.
+fn look_near(
+    space: &TreeSpace,
+    pass: &mut TreePass,
+    hi: Edge<'_>,
+    into: &mut Code,
+) -> (Cursor, bool)
+    requires reading { IsReading space.now pass.old }
+    requires leaf { (sizes space.now).leaf ≤ 120 }
+    ensures frame { KeepsList pass.old pass.new }
+    ensures walked { IsWalked (sizes space.now) (spot_at hi.entry) (known pass.old) result.0 (known pass.new) }
+    ensures last { last_object (up_to (bound_of hi.entry) (map pair (first_note (tree_of pass.new).notes).objects)) ≡ cond result.1 (Some into.new.items) None }
+    ensures emptied { result.1 ≡ false → into.new.items ≡ [] }
+{
+    let spot = match hi {
+        Edge::Open => Spot::Last,
+        Edge::At(key) => Spot::At(key),
+        Edge::Past(key) => Spot::Below(key),
+    };
+    let cursor = walk(space, pass, spot);
+    let base = Run {
+        last: cursor.base,
+        chained: false,
+        whole: false,
+    };
+    let found = last_within(space, pass, base, hi, into);
+    (cursor, found)
+}
