@@ -21,6 +21,7 @@ use Rattle.ca_runs.specs.Scenes.{IsFirst, IsNext, Replaces}
 use Rattle.ca_runs.proofs.Marking.{marks}
 use Rattle.ca_node.specs.Copies.{Copy, update_of, copy_note, IsCopy, copied, IsCopied}
 use Rattle.ca_node.specs.Inventory.{AreOnce, row_itself}
+use Rattle.ca_node.specs.Joining.{IsJoining}
 use Rattle.ca_node.specs.Laws.{numbered, relisted}
 use Rattle.ca_node.specs.Layout.{sequence_unit}
 use Rattle.ca_node.specs.Links.{IsIn, IsActive, HasBegun, IsBoundOf, IsLinked, by_range, IsLent, IsOfOwnRun}
@@ -33,7 +34,7 @@ use Rattle.ca_node.specs.Shape.{Role, Base}
 use Rattle.ca_node.specs.Told.{MyTree, taken_out, given, lent_out}
 use Rattle.ca_node.specs.Tree.{IsTrue, IsLinkOfView, Knows, IsTree}
 use Rattle.ca_node.specs.TreeView.{Note, Border, KnownRanges, TreeView}
-use Rattle.ca_node.proofs.Exchanging.{IsExchange, settled_over, old_map, new_its, out_linked, out_unlent, note_keeps, shown_keeps, way_keeps, ranging_keeps, replaced, served_lent, new_true, own_notes, exchange_step}
+use Rattle.ca_node.proofs.Exchanging.{IsExchange, settled_over, old_map, new_its, out_linked, out_unlent, note_keeps, shown_keeps, way_keeps, ranging_keeps, replaced, served_lent, new_true, own_notes, exchange_step, joining_keep, joining_more}
 use Rattle.ca_node.proofs.Holding.{unclaimed_row}
 use Rattle.ca_node.proofs.Looking.{R, of_map, knows_upper, in_more}
 use Rattle.ca_node.proofs.Members.{in_notes}
@@ -200,7 +201,7 @@ module _ (z : Sizes) (s : State (Unit {0}) (View TreeView)) (r : R z s) (id : �
         (run : (row : ℕ) → IsOfOwnRun (set s.words x.old.place.link new)
         (copied served ranges new x me.0.upper) row
         → IsOfOwnRun (set s.words x.old.place.link new) me.0.upper row)
-        (shown : ranges.run ≡ me.0.upper.ranges.run) where
+        (shown : ranges.run ≡ me.0.upper.ranges.run) (joins : ranges.joins ≡ me.0.upper.ranges.joins) where
       abbrev u' : TreeView
       u' = copied served ranges new x me.0.upper
 
@@ -240,6 +241,9 @@ module _ (z : Sizes) (s : State (Unit {0}) (View TreeView)) (r : R z s) (id : �
                 (in_more (copy_note new x) note me.0.upper.notes i);
             ways = way_keeps z s r id me at new (update_of x) ex hit over r.above.history mark bounded
                 has_now others_have served serve served_once new_end id me.0 at;
+            joining = subst (λ js. IsJoining words' (copy_note new x ∷ me.0.upper.notes) me.0.upper.ways js) (sym joins)
+                (joining_more z s r id me at new (update_of x) ex hit over r.above.history mark bounded
+                has_now others_have served serve served_once new_end);
             ended = k.ended;
           }
 
@@ -265,6 +269,9 @@ module _ (z : Sizes) (s : State (Unit {0}) (View TreeView)) (r : R z s) (id : �
               ways = λ way i. way_keeps z s r id me at new (update_of x) ex hit over r.above.history mark
                   bounded has_now others_have served serve served_once new_end j y.0 y.1 way
                   (subst (λ (w : TreeView). IsIn way w.ways) (sym y.2) i);
+              joining = subst (λ (w : TreeView). IsJoining words' w.notes w.ways w.ranges.joins) y.2
+                  (joining_keep z s r id me at new (update_of x) ex hit over r.above.history mark bounded
+                  has_now others_have served serve served_once new_end j y.0 y.1);
               ended = k.ended;
             },
             subst (λ (w : TreeView). IsRanging z words' role' (r.above.ranged.ends w.number) w.since

@@ -12,13 +12,13 @@ use Rattle.ca_model.specs.Edges.{Included}
 use Rattle.ca_model.specs.StoreMap.{Pair, StoreMap, bytes_cmp, IsStoreMap}
 use Rattle.ca_rows.specs.declared.sizes.Sizes.{Sizes}
 use Rattle.ca_node.specs.Place.{Span, all_keys, left_of, right_of, HasKey, part, Place, left_place, right_place}
-use Rattle.ca_node.specs.Row.{row_at, IsRouteRow, count, level, items, IsIdle, key, object, route_key, pair, objects_in}
+use Rattle.ca_node.specs.Row.{row_at, IsRouteRow, count, level, items, key, object, route_key, pair, objects_in}
 use Rattle.ca_node.specs.Shape.{Role, Out, Base, Route, place_of, IsLink, LeadsTo, IsBaseAt, IsRouteAt, IsSo, IsShape}
 use Rattle.ca_node.specs.Stays.{word_at}
 use Rattle.ca_node.proofs.Parts.{part_cut, part_rises, two_sides, left_is_in, right_is_in}
 use Rattle.ca_node.proofs.Named.{key_in}
 use Rattle.ca_node.specs.Reached.{same_place, base_at}
-use Rattle.ca_node.proofs.Rebased.{out_no_route, IsNewBase, relinked_wide, relinked_here, relinked_keeps, relinked_row, relinked_idle, link_still, lead_still, row_still, base_comes}
+use Rattle.ca_node.proofs.Rebased.{out_no_route, IsNewBase, relinked_wide, relinked_here, relinked_keeps, relinked_row, link_still, lead_still, row_still, base_comes}
 use Rattle.ca_rows.specs.Layout.{row_words}
 use Rattle.ca_node.specs.Layout.{root_word}
 
@@ -38,7 +38,6 @@ pub record IsNewRoute (z : Sizes) (words : List ℕ) (role : ℕ → Role) (deep
   pub level_is : level (row_at words row) ≡ deep
   pub short : count (row_at words row) ≤ 1000
   pub key_is : route_key (row_at words row) ≡ k
-  pub idle : IsIdle (row_at words row)
   pub left_is : get_or (row_at words row) 1 0 ≡ left
   pub right_is : get_or (row_at words row) 2 0 ≡ right
 
@@ -238,7 +237,6 @@ module _ (z : Sizes) (words : List ℕ) (role : ℕ → Role) (m : StoreMap)
     key_is = ap route_key route_words ∙ r.key_is;
     inside = divided_inside;
     rises = divided_rises;
-    joins = inl (subst IsIdle (sym route_words) r.idle);
     left = record {
       level = place.level + 1;
       greater = omega arith;
@@ -344,7 +342,7 @@ module _ (z : Sizes) (words : List ℕ) (role : ℕ → Role) (m : StoreMap)
       s
 
   -- A route is the new one, or one of the old tree.
-  route_was : (c : ℕ) (q : Place) (key : List ℕ) → roles c ≡ Route q key → (c ≡ route)
+  pub route_was : (c : ℕ) (q : Place) (key : List ℕ) → roles c ≡ Route q key → (c ≡ route)
       ⊎ (role c ≡ Route q key)
   route_was c q key e = dite (ℕ_discrete c route)
       (λ (g : c ≡ route). inl g)
@@ -382,10 +380,4 @@ module _ (z : Sizes) (words : List ℕ) (role : ℕ → Role) (m : StoreMap)
     top = lead_now root_word 0 all_keys shape.top;
     each_row = so;
     apart = alone;
-    idle = λ c q key e. ⊎_elim
-        (λ (same : c ≡ route). subst
-        (λ y. IsIdle (row_at words' y)) (sym same) (subst IsIdle (sym route_words) r.idle))
-        (λ (was_route : role c ≡ Route q key).
-        relinked_idle z words role m shape old place is route c (shape.idle c q key was_route))
-        (route_was c q key e);
   }

@@ -1,5 +1,5 @@
 -- A split: a route over two bases takes the place of a base under its link.
-use Rattle.std.proofs.Common.{◌≡◌, ◌≢◌, ◌⊎◌, ℕ, zero, suc, ◌+◌, ◌*◌, ◌<◌, ◌≤◌, Bool, true, false, eqb, List, [], ◌∷◌, ◌++◌, length, map, take, drop, get_or, set, sym, refl, ap, ◌∙◌, subst, inl, inr, ⊎_elim, arith, eq-eqb, ne_eqb}
+use Rattle.std.proofs.Common.{◌≡◌, ◌≢◌, ◌⊎◌, ℕ, zero, suc, ◌+◌, ◌*◌, ◌%◌, ◌<◌, ◌≤◌, Bool, true, false, eqb, List, [], ◌∷◌, ◌++◌, length, map, take, drop, get_or, set, sym, refl, ap, ◌∙◌, subst, inl, inr, ⊎_elim, arith, eq-eqb, ne_eqb}
 use Rattle.std.proofs.lemmas.List.{map-set, length-map, take-map, drop-map}
 use mathlib.Core.Logic.{dite}
 use mathlib.Core.Option.{some, none, some-injective, some-ne-none}
@@ -24,27 +24,31 @@ use Rattle.ca_runs.proofs.Keeping.{runs_still}
 use Rattle.ca_rows.proofs.Relinking.{Change, Stays, Comes, Goes, IsChange, relinks}
 use Rattle.ca_rows.proofs.Rules.{all_seats}
 use Rattle.ca_node.specs.Inventory.{IsInventory}
+use Rattle.ca_node.specs.Attempts.{join_of, IsJoinWord, IsSecured, IsUnderWay}
+use Rattle.ca_node.specs.JoinsStay.{joining_unnoted}
 use Rattle.ca_node.specs.Laws.{noted_alike, tree_lends, in_nothing, numbered, relisted}
 use Rattle.ca_node.specs.Links.{IsIn, IsActive, IsBoundOf, IsLinked, by_range, IsLent, IsNoted, by_note}
 use Rattle.ca_node.specs.Place.{Place, left_place, right_place}
 use Rattle.ca_node.specs.Ranging.{IsRanging}
 use Rattle.ca_node.specs.RangesStay.{active_back, active_on, begun_on}
 use Rattle.ca_node.specs.Reached.{same_place, base_at, link_range, reached, placed_linked, item_linked, item_out, lent_end, end_lent, unlent}
-use Rattle.ca_node.specs.Row.{row_at, form, IsBaseRow, IsRouteRow, items, count, level, mark, mark_owner, mark_number, mark_bound, IsMarkedBy, IsUnmarked, IsIdle, key, route_key, IsHeaded}
+use Rattle.ca_node.specs.Row.{row_at, form, IsBaseRow, IsRouteRow, items, count, level, mark, mark_owner, mark_number, mark_bound, IsMarkedBy, IsMarkedFor, IsUnmarked, join_word, key, route_key, IsHeaded}
 use Rattle.ca_node.specs.Scenes.{span_of, mark_of, scene_of}
 use Rattle.ca_node.specs.Shape.{Role, Out, Base, Route, place_of, IsBaseAt, IsShape}
+use Rattle.ca_node.specs.Stays.{word_at}
 use Rattle.ca_rows.specs.Told.{relinked}
 use Rattle.ca_node.specs.May.{MaySwap}
 use Rattle.ca_node.specs.Told.{MyTree, IsHalf, IsDivision, given, taken_out, divided_inventory, divided, one_more_lost, IsDivided, IsMissed, Divides, HasDivided}
 use Rattle.ca_node.specs.Tree.{IsTrue, IsTrueWay, Knows, IsTree}
 use Rattle.ca_node.specs.TreeView.{Note, Way, TreeView, Division}
-use Rattle.ca_node.proofs.Divided.{IsNewRoute, AreDivided, with_route, with_route_route, with_route_left, with_route_right, with_route_old, with_route_else, shape_divided}
+use Rattle.ca_node.proofs.Divided.{IsNewRoute, AreDivided, with_route, with_route_route, with_route_left, with_route_right, with_route_old, with_route_else, route_was, shape_divided}
 use Rattle.ca_node.proofs.Exchanging.{settled_over}
 use Rattle.ca_node.proofs.Holding.{held_row, unclaimed_row}
+use Rattle.ca_node.proofs.Joined.{idle_over, joined_keeps, states_keep, idle_keeps, joining_keeps}
 use Rattle.ca_node.proofs.Listing.{in_either, in_front, in_back, Relists, listed_again, known_by_one}
 use Rattle.ca_node.proofs.Looking.{R, loses, hangs_still, of_map, knows_upper, in_more}
 use Rattle.ca_node.proofs.Members.{in_notes, has, given_here, given_else, taken_here, taken_else}
-use Rattle.ca_node.proofs.Rebased.{IsNewBase, relinked_wide, relinked_else, relinked_ranges, relinked_told, relinked_keeps, relinked_row, base_no_route, out_no_route}
+use Rattle.ca_node.proofs.Rebased.{IsNewBase, relinked_wide, relinked_else, relinked_ranges, relinked_told, relinked_joins, relinked_keeps, relinked_row, base_no_route, out_no_route}
 use Rattle.ca_node.proofs.Remembering.{remembered_leads, unlinked_out, note_stays, way_stays, ranges_stay, notes_stay}
 use Rattle.ca_rows.specs.Layout.{row_words}
 use Rattle.ca_node.specs.Layout.{root_word}
@@ -193,7 +197,6 @@ module _ (z : Sizes) (s : State (Unit {0}) (View TreeView)) (r : R z s) (id : �
     level_is = ap level w.2 ∙ u.route_level;
     short = subst (λ y. count y ≤ 1000) (sym w.2) u.short;
     key_is = ap route_key w.2;
-    idle = subst IsIdle (sym w.2) u.idle;
     left_is = ap (λ y. get_or y 1 0) w.2 ∙ u.left_link;
     right_is = ap (λ y. get_or y 2 0) w.2 ∙ u.right_link;
   }
@@ -258,6 +261,13 @@ module _ (z : Sizes) (s : State (Unit {0}) (View TreeView)) (r : R z s) (id : �
 
   shape' : IsShape z words' role' last
   shape' = shape_divided z s.words role last shape z.keypos is_last x.old.row place is_old u.above
+      (route_key x.route_its) x.route x.left x.right
+      (λ e. u.apart.0 (sym e)) (λ e. u.apart.1 (sym e))
+      (λ e. u.apart.2 (sym e)) new_route left_base right_base are_divided
+
+  -- A route is the new one, or one of the old tree.
+  routes_back : (c : ℕ) (p : Place) (key : List ℕ) → role' c ≡ Route p key → (c ≡ x.route) ⊎ (r.above.role c ≡ Route p key)
+  routes_back = route_was z s.words role last shape z.keypos is_last x.old.row place is_old u.above
       (route_key x.route_its) x.route x.left x.right
       (λ e. u.apart.0 (sym e)) (λ e. u.apart.1 (sym e))
       (λ e. u.apart.2 (sym e)) new_route left_base right_base are_divided
@@ -664,6 +674,19 @@ module _ (z : Sizes) (s : State (Unit {0}) (View TreeView)) (r : R z s) (id : �
         ((base.0, b.0), subst (λ its. IsMarkedBy its pass number) (base_stays row base.0 b.0) m);
   }
 
+  -- No join under way has the old base, and none the new route.
+  old_free : (route attempt : ℕ) → IsMarkedFor (row_at s.words x.old.row) route attempt → ¬ IsUnderWay s.words route attempt
+  old_free = idle_over z s.words role last shape f.idle x.old.row x.old.place is_old
+
+  route_word : join_of words' x.route % 4 ≡ 0
+  route_word = let w = held x.route x.route_its u.held_route in
+      let e = relinked_joins z s.words role last shape x.old.row place is_old x.route x.route in
+      let word : join_word x.route_its ≡ join_of s.words x.route = ap (λ its. get_or its 3 0) (sym w.2) ∙ word_at s.words x.route 3 (omega arith) in
+      let zero = u.idle in omega arith
+
+  route_idle : (attempt : ℕ) → ¬ IsUnderWay words' x.route attempt
+  route_idle attempt now = let zero = route_word in ⊎_elim (λ q. omega arith) (λ q. omega arith) now
+
   mine : get_elem? (map upper_of s.views) id ≡ some d.upper
   mine = at_map upper_of s.views id d at
 
@@ -684,6 +707,9 @@ module _ (z : Sizes) (s : State (Unit {0}) (View TreeView)) (r : R z s) (id : �
         notes = note_keeps j y here;
         links = k.links;
         ways = way_keeps j y here;
+        joining = let w = knows_upper z s r j y here in
+            joining_keeps z s.words role last shape x.old.row place is_old x.route old_free y.upper w.links
+            (λ note i. (w.notes note i).spells) w.joining;
         ended = k.ended;
       }
 
@@ -699,6 +725,7 @@ module _ (z : Sizes) (s : State (Unit {0}) (View TreeView)) (r : R z s) (id : �
     notes = λ note i. absurd (in_nothing note [] refl i);
     links = λ note i. absurd (in_nothing note [] refl i);
     ways = k.ways;
+    joining = joining_unnoted words' d.upper.notes d.upper.ways d.upper.ranges.joins k.joining;
     ended = k.ended;
   }
 
@@ -834,6 +861,22 @@ module _ (z : Sizes) (s : State (Unit {0}) (View TreeView)) (r : R z s) (id : �
           subst (λ (w : TreeView). IsRanging z words' role' (f.ranged.ends w.number) w.since
           f.history w.number w.ranges) y.2 (ranging_still j y.0 y.1));
     };
+    joined = record {
+      secured = λ c p key attempt e now. ⊎_elim
+          (λ (new : c ≡ x.route). absurd (route_idle attempt (inr (subst (λ t. IsSecured words' t attempt) new now))))
+          (λ (was : role c ≡ Route p key).
+          joined_keeps z s.words role last shape x.old.row place is_old x.route old_free f.joined c p key attempt was now)
+          (routes_back c p key e);
+      states = λ c p key e. ⊎_elim
+          (λ (new : c ≡ x.route). subst (IsJoinWord words') (sym new) (let zero = route_word in omega arith))
+          (λ (was : role c ≡ Route p key). states_keep z s.words role last shape x.old.row place is_old x.route old_free f.joined c p key was)
+          (routes_back c p key e);
+    };
+    idle = λ c p key attempt e now. ⊎_elim
+        (λ (new : c ≡ x.route). route_idle attempt (subst (λ t. IsUnderWay words' t attempt) new now))
+        (λ (was : role c ≡ Route p key).
+        idle_keeps z s.words role last shape x.old.row place is_old x.route old_free f.idle c p key attempt was now)
+        (routes_back c p key e);
     each_seat =
         all_seats (Knows z.rows r.made words' role' (set (map upper_of s.views) id u') f.history)
         (map upper_of s.views) id u' own_knows

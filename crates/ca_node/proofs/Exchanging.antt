@@ -24,6 +24,9 @@ use Rattle.ca_runs.specs.Scenes.{Replaces}
 use Rattle.ca_rows.proofs.Relinking.{Change, Stays, Comes, Serves, Goes, IsChange, relinks}
 use Rattle.ca_rows.proofs.Rules.{all_seats}
 use Rattle.ca_node.specs.Inventory.{AreOnce, row_itself, IsInventory}
+use Rattle.ca_node.specs.Attempts.{HasAttempt, IsUnderWay}
+use Rattle.ca_node.specs.Joining.{IsJoining}
+use Rattle.ca_node.specs.JoinsStay.{joining_noted}
 use Rattle.ca_node.specs.Laws.{tree_lends, in_nothing}
 use Rattle.ca_node.specs.Links.{IsIn, IsActive, HasBegun, IsBoundOf, IsLinked, by_range, IsLent, IsOfOwnRun, IsNoted, by_note, by_item, by_way, by_link, by_link_item, by_border, by_run, by_run_item, by_shown, by_shown_item}
 use Rattle.ca_node.specs.Marks.{IsOfRange, IsOfJoin, IsMarkIn, IsBorder}
@@ -31,7 +34,7 @@ use Rattle.ca_node.specs.Place.{part, Place}
 use Rattle.ca_node.specs.Ranging.{IsRanging}
 use Rattle.ca_node.specs.RangesStay.{active_back, active_on, begun_on}
 use Rattle.ca_node.specs.Reached.{same_place, base_at, link_range, reached, placed_linked, item_linked, item_out, linked_range, lent_end, end_lent, unlent}
-use Rattle.ca_node.specs.Row.{row_at, form, IsObjectRow, IsBaseRow, items, count, level, mark as mark_kind, mark_owner, mark_number, mark_bound, IsMarkedBy, IsUnmarked, pair, objects_in, IsHeaded}
+use Rattle.ca_node.specs.Row.{row_at, form, IsObjectRow, IsBaseRow, items, count, level, mark as mark_kind, mark_owner, mark_number, mark_bound, IsMarkedBy, IsMarkedFor, IsUnmarked, pair, objects_in, IsHeaded}
 use Rattle.ca_node.specs.Scenes.{IsBase, span_of, mark_of, scene_of}
 use Rattle.ca_node.specs.Shape.{Role, Out, Base, Route, place_of, IsBaseAt, IsShape}
 use Rattle.ca_node.specs.Stays.{map_same}
@@ -40,6 +43,7 @@ use Rattle.ca_node.specs.Told.{MyTree, IsSettled, Update, IsObjectOf, IsNotFrom,
 use Rattle.ca_node.specs.Tree.{IsTrue, IsTrueWay, Knows, IsTree}
 use Rattle.ca_node.specs.TreeView.{Note, Way, Over, Border, TreeView}
 use Rattle.ca_node.proofs.Holding.{held_row}
+use Rattle.ca_node.proofs.Joined.{idle_over, joined_keeps, states_keep, idle_keeps, joining_keeps, new_hangs}
 use Rattle.ca_node.proofs.Listing.{in_either, in_front, in_back, Relists, listed_again, known_by_one}
 use Rattle.ca_node.proofs.Looking.{R, knows_upper, in_turn, in_more}
 use Rattle.ca_node.proofs.Members.{in_notes, in_rest, has, given_here, given_else, lent_here, lent_else, taken_here, taken_else, other_has, map_is_list}
@@ -207,6 +211,10 @@ module _ (z : Sizes) (s : State (Unit {0}) (View TreeView)) (r : R z s) (id : �
       → ¬ IsActive s.words pass number
   old_over pass number m =
       over pass number (subst (λ its. IsMarkedBy its pass number) old_true.spells m)
+
+  -- No join under way has the old base.
+  old_free : (route attempt : ℕ) → IsMarkedFor (row_at s.words x.old.row) route attempt → ¬ IsUnderWay s.words route attempt
+  old_free = idle_over z s.words role last shape r.above.idle x.old.row x.old.place is_old
 
   -- The objects that come are none of the bases.
   comes_object : (row : ℕ) → IsIn row x.comes → form (row_at s.words row) ≡ 1
@@ -530,6 +538,12 @@ module _ (z : Sizes) (s : State (Unit {0}) (View TreeView)) (r : R z s) (id : �
           (λ n. (let y : Route p key ≡ Out = sym e ∙ (ap role n ∙ new_out) in cc))
           (λ o. (let y : Route p key ≡ Base place = sym e ∙ (ap role o ∙ is_old) in cc)) ∙ e
 
+      routes_back : (c : ℕ) (p : Place) (key : List ℕ) → role' c ≡ Route p key
+          → r.above.role c ≡ Route p key
+      routes_back c p key e = sym (role_else c
+          (λ n. (let y : Base place ≡ Route p key = sym is_new ∙ (ap role' (sym n) ∙ e) in cc))
+          (λ o. (let y : Out ≡ Route p key = sym old_gone ∙ (ap role' (sym o) ∙ e) in cc))) ∙ e
+
       bases_stay : (c : ℕ) (p : Place) → r.above.role c ≡ Base p → (role' c ≡ Base p)
           ⊎ (role' c ≡ Out)
       bases_stay c p e = dite (ℕ_discrete c x.old.row)
@@ -576,6 +590,18 @@ module _ (z : Sizes) (s : State (Unit {0}) (View TreeView)) (r : R z s) (id : �
           way_stays z s.words role last shape x.old.row place is_old new role' last' shape' Coming
           routes_stay bases_stay outs_stay marked_stay
           y.upper (unnoted j y here) way i ((knows_upper z s r j y here).ways way i)
+
+      -- What a seat knows of joins is so still, for one note more, too.
+      pub joining_keep : (j : ℕ) (y : View TreeView) → get_elem? s.views j ≡ some y
+          → IsJoining words' y.upper.notes y.upper.ways y.upper.ranges.joins
+      joining_keep j y here = let k = knows_upper z s r j y here in
+          joining_keeps z s.words role last shape x.old.row place is_old new old_free y.upper k.links
+          (λ note i. (k.notes note i).spells) k.joining
+
+      pub joining_more : IsJoining words' (new_note ∷ d.upper.notes) d.upper.ways d.upper.ranges.joins
+      joining_more = joining_noted words' new_note d.upper.notes d.upper.ways d.upper.ranges.joins
+          (new_hangs z s.words role last shape x.old.row place is_old new old_free new_note mark refl refl)
+          (joining_keep id d at)
 
       notes_keep : (j : ℕ) (y : View TreeView) → get_elem? s.views j ≡ some y → (c : ℕ)
           → IsNoted words' y.upper c
@@ -649,8 +675,7 @@ module _ (z : Sizes) (s : State (Unit {0}) (View TreeView)) (r : R z s) (id : �
           (λ (k : IsOfRange x.its × (mark_number x.its
           ≤ result_of s.words (mark_owner x.its) / sequence_unit)).
           subst (λ (y : ℕ × ℕ). HasBegun s.words y.0 y.1) (λ i. (m.1 i, m.2 i)) (k.0.1, k.0.2, k.1))
-          (λ (k : IsOfJoin place x.its × (4 * mark_number x.its
-          ≤ get_or s.words (row_words * mark_owner x.its + 3) 0)).
+          (λ (k : IsOfJoin place x.its × HasAttempt s.words (mark_owner x.its) (mark_number x.its)).
           let one = m.0 in let two = k.0.0 in absurd (omega arith))
           some_mark)
           mark
@@ -892,6 +917,14 @@ module _ (z : Sizes) (s : State (Unit {0}) (View TreeView)) (r : R z s) (id : �
                 v.number v.ranges) (map upper_of s.views) id u' own_ranging
                 (λ j v ne here. (others_know j v ne here).1);
           };
+          joined = record {
+            secured = λ route p key attempt e. joined_keeps z s.words role last shape x.old.row place is_old new old_free
+                f.joined route p key attempt (routes_back route p key e);
+            states = λ route p key e. states_keep z s.words role last shape x.old.row place is_old new old_free
+                f.joined route p key (routes_back route p key e);
+          };
+          idle = λ route p key attempt e. idle_keeps z s.words role last shape x.old.row place is_old new old_free
+              f.idle route p key attempt (routes_back route p key e);
           each_seat =
               all_seats (Knows z.rows r.made words' role' (set (map upper_of s.views) id u') next)
               (map upper_of s.views) id u' own_knows (λ j v ne here. (others_know j v ne here).0);

@@ -14,6 +14,7 @@ use Rattle.ca_rows.specs.Rule.{fresh, no_sizes, upper_of}
 use Rattle.ca_rows.proofs.Closing.{joins}
 use Rattle.ca_rows.proofs.Forking.{forks}
 use Rattle.ca_rows.proofs.Making.{at_place}
+use Rattle.ca_node.specs.JoinsStay.{nothing_joining}
 use Rattle.ca_node.specs.Laws.{noted_alike, no_blank_notes, no_ranging, numbered, relisted, seat_changed, knows_nothing, none_made, in_nothing}
 use Rattle.ca_node.specs.Links.{IsLinked, IsLent, IsNoted}
 use Rattle.ca_node.specs.Ranging.{IsRanging}
@@ -79,6 +80,7 @@ tree_learning = record {
         notes = k.notes;
         links = k.links;
         ways = k.ways;
+        joining = k.joining;
         ended = k.ended;
       }
       (f.ranged.each i v at) in
@@ -121,6 +123,8 @@ front_more z made words uppers id u f at = let next : List TreeView = uppers ++ 
             (no_ranging z words f.role (f.ranged.ends 0) f.history))
             (at_place uppers (front_of u) v j here);
       };
+      joined = f.joined;
+      idle = f.idle;
       each_seat = λ j v here. ⊎_elim
           (λ (was : get_elem? uppers j ≡ some v). let k = f.each_seat j v was in record {
             made_before = k.made_before;
@@ -136,6 +140,7 @@ front_more z made words uppers id u f at = let next : List TreeView = uppers ++ 
             notes = k.notes;
             links = k.links;
             ways = k.ways;
+            joining = k.joining;
             ended = λ x i. let e = k.ended x i in let lo = e.some_number in record {
               some_number = lo;
               made_before = e.made_before;
@@ -175,6 +180,7 @@ front_more z made words uppers id u f at = let next : List TreeView = uppers ++ 
       notes = λ note i. absurd (in_nothing note [] refl i);
       links = λ note i. absurd (in_nothing note [] refl i);
       ways = λ way i. absurd (in_nothing way [] refl i);
+      joining = nothing_joining words;
       ended = λ x i. absurd (in_nothing x [] refl i);
     }
 

@@ -236,6 +236,7 @@ module _ (z : Sizes) (s : State (Unit {0}) (View TreeView)) (r : R z s) (id : �
       notes = w.notes;
       links = w.links;
       ways = w.ways;
+      joining = w.joining;
       ended = w.ended;
     }
 
@@ -271,6 +272,7 @@ module _ (z : Sizes) (s : State (Unit {0}) (View TreeView)) (r : R z s) (id : �
 
     pub late_step : R z record { words = set s.words i (get_or s.words i 0); homes = s.homes; views = set s.views id (record me.0 { upper = late }) }
     late_step = let known = f.ranged.each id me.0.upper first in knows_ranges z s r i id me.0 at late.ranges late.turns
+        (knows_upper z s r id me.0 at).joining
         (λ row n. inl (noted_alike s.words me.0.upper late (λ x m. m) (λ x m. m) (λ x m. m) (λ x m. m) (λ x m. m) row n)) record {
           over = λ x m. ⊎_elim (λ (e : over_up_to pass number ≡ x). subst (IsOver s.words) e
               (over_behind s.words pass number begun (λ now. miss now.2)))

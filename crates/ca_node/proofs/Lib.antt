@@ -10,6 +10,13 @@ pub mod Fronts
 pub mod HeldRows
 pub mod Helping
 pub mod Holding
+pub mod JoinBegins
+pub mod JoinEnds
+pub mod JoinLoads
+pub mod JoinMarks
+pub mod JoinTurns
+pub mod JoinWord
+pub mod Joined
 pub mod KeyOrder
 pub mod LastTrees
 pub mod Listing

@@ -17,7 +17,10 @@ use Rattle.ca_rows.specs.Words.{result_of}
 use Rattle.ca_rows.specs.Rule.{upper_of, Ruled}
 use Rattle.ca_rows.proofs.Relinking.{Stays, relinks}
 use Rattle.ca_runs.specs.Runs.{Ends}
+use Rattle.ca_node.specs.Attempts.{HasAttempt}
 use Rattle.ca_node.specs.Inventory.{IsListed}
+use Rattle.ca_node.specs.Joining.{IsJoining}
+use Rattle.ca_node.specs.JoinsStay.{mark_hangs, joining_noted, joining_unnoted, joining_further}
 use Rattle.ca_node.specs.Laws.{noted_alike, alive, tree_lends, numbered, relisted, seat_changed, starts_whole}
 use Rattle.ca_node.specs.Links.{IsIn, IsUnder, IsLinked, by_route, by_base, IsLent, HasBegun, IsNoted, by_note, by_item, by_way, by_link, by_link_item, by_border, by_run, by_run_item, by_shown, by_shown_item}
 use Rattle.ca_node.specs.Marks.{IsOfRange, IsOfJoin}
@@ -97,7 +100,8 @@ module _ (z : Sizes) (s : State (Unit {0}) (View TreeView)) (r : R z s) (i id : 
   abbrev with_ranges : TreeView
   with_ranges = record d.upper { ranges = ranges; turns = turns }
 
-  pub knows_ranges : ((row : ℕ) → IsNoted s.words (record d.upper { ranges = ranges; turns = turns }) row
+  pub knows_ranges : IsJoining s.words d.upper.notes d.upper.ways ranges.joins
+      → ((row : ℕ) → IsNoted s.words (record d.upper { ranges = ranges; turns = turns }) row
       → IsNoted s.words d.upper row ⊎ (IsLinked s.words row × (d.pin.pinned ≡ true)))
       → IsRanging z s.words r.above.role (r.above.ranged.ends d.upper.number) d.upper.since
       r.above.history d.upper.number ranges
@@ -106,7 +110,7 @@ module _ (z : Sizes) (s : State (Unit {0}) (View TreeView)) (r : R z s) (i id : 
         homes = s.homes;
         views = set s.views id (record d { upper = record d.upper { ranges = ranges; turns = turns } });
       }
-  knows_ranges notes ranging = let us : List TreeView = map upper_of s.views in
+  knows_ranges joining notes ranging = let us : List TreeView = map upper_of s.views in
       let first = at_map upper_of s.views id d at in
       let k = relisted z.rows r.made s.words r.above.role us (set us id with_ranges) r.above.history
       id d.upper (numbered us id d.upper with_ranges first (λ _. refl)) (knows_upper z s r id d at) in
@@ -122,6 +126,7 @@ module _ (z : Sizes) (s : State (Unit {0}) (View TreeView)) (r : R z s) (i id : 
         notes = k.notes;
         links = k.links;
         ways = k.ways;
+        joining = joining;
         ended = k.ended;
       }
       ranging)
@@ -251,8 +256,7 @@ module _ (z : Sizes) (made : ℕ) (words : List ℕ) (uppers : List TreeView)
         (λ (k : IsOfRange (row_at words row) × (mark_number (row_at words row)
         ≤ result_of words (mark_owner (row_at words row)) / sequence_unit)).
         subst (λ (x : ℕ × ℕ). HasBegun words x.0 x.1) (λ i. (m.1 i, m.2 i)) (k.0.1, k.0.2, k.1))
-        (λ (k : IsOfJoin place (row_at words row) × (4 * mark_number (row_at words row)
-        ≤ get_or words (row_words * mark_owner (row_at words row) + 3) 0)).
+        (λ (k : IsOfJoin place (row_at words row) × HasAttempt words (mark_owner (row_at words row)) (mark_number (row_at words row))).
         let one = m.0 in let two = k.0.0 in absurd (omega arith))
         some_mark)
         at.marked
@@ -554,6 +558,9 @@ module _ (z : Sizes) where
                 any.2)))
                 (λ (o : IsIn m u.notes). k.links m o) (in_more note m u.notes i);
             ways = k.ways;
+            joining = joining_noted s.words note u.notes u.ways u.ranges.joins
+                (mark_hangs s.words note (base_at z s.words f.role (after f.history []) f.shape (get_or s.words link 0) place is).marked
+                (ap (λ i. get_or s.words i 0) here)) k.joining;
             ended = k'.ended;
           }
           (f.ranged.each id u first))
@@ -647,6 +654,7 @@ module _ (z : Sizes) where
                 (way_true z r.made s.words (map upper_of s.views) f (get_or s.words link 0) place
                 key is))
                 (λ (o : IsIn w u.ways). k.ways w o) (in_more way w u.ways i);
+            joining = joining_further s.words u.notes way u.ways u.ranges.joins k.joining;
             ended = k'.ended;
           }
           (f.ranged.each id u first))
@@ -762,6 +770,7 @@ module _ (z : Sizes) where
               notes = k'.notes;
               links = k'.links;
               ways = k'.ways;
+              joining = k'.joining;
               ended = k'.ended;
             }
             (f.ranged.each id d.upper first)),
@@ -797,6 +806,7 @@ module _ (z : Sizes) where
         notes = k.notes;
         links = k.links;
         ways = k.ways;
+        joining = k.joining;
         ended = k.ended;
       }
       (f.ranged.each id d.upper first))
@@ -826,6 +836,7 @@ module _ (z : Sizes) where
         notes = λ m i. absurd (some-ne-none m (sym i.1));
         links = λ m i. absurd (some-ne-none m (sym i.1));
         ways = k.ways;
+        joining = joining_unnoted s.words d.upper.notes d.upper.ways d.upper.ranges.joins k.joining;
         ended = k.ended;
       }
       (f.ranged.each id d.upper first))
@@ -865,5 +876,5 @@ module _ (z : Sizes) where
     keeps,
     tt,
     recounted s r i id d d.upper.counts (one_passed d.upper.turns) at,
-    (refl, inr (inr (inr (inr (inr (inr refl))))), refl),
+    (refl, inr (inr (inr (inr (inr (inr (inl refl)))))), refl),
   )

@@ -31,7 +31,7 @@ use Rattle.ca_node.specs.Reached.{base_at, end_lent}
 use Rattle.ca_node.specs.Row.{row_at, form, mark as mark_kind, mark_owner, mark_number, mark_bound, mark_back, IsBorderRow, IsMarkedBy}
 use Rattle.ca_node.specs.Scenes.{IsBase, span_of, scene_of}
 use Rattle.ca_node.specs.Shape.{Role, Base}
-use Rattle.ca_node.specs.Told.{MyTree, one_more_lost, IsMissed, taken_out, given, lent_out}
+use Rattle.ca_node.specs.Told.{MyTree, IsLastThere, one_more_lost, IsMissed, taken_out, given, lent_out}
 use Rattle.ca_node.specs.Tree.{IsTrue}
 use Rattle.ca_node.specs.TreeView.{Note, Border, Begun, KnownRanges, TreeView}
 use Rattle.ca_node.proofs.Copying.{ex, over, knows, new_words, serve_linked, ranging_still, run_keeps, copy_step, copied_now}
@@ -235,9 +235,9 @@ module _ (z : Sizes) (s : State (Unit {0}) (View TreeView)) (r : R z s) (id : �
         × IsCopied served (marking_now me.0.upper.ranges begun its) new x me (first_view, me.1)
     first_copied = (
       copy_step z s r id me at new x c hit has_begun bounded served serve served_once new_end
-          (marking_now me.0.upper.ranges begun its) fits own_now unmarked borders run refl,
+          (marking_now me.0.upper.ranges begun its) fits own_now unmarked borders run refl refl,
       copied_now z s r id me at new x c hit has_begun bounded served serve served_once new_end
-          (marking_now me.0.upper.ranges begun its) fits own_now unmarked borders run refl,
+          (marking_now me.0.upper.ranges begun its) fits own_now unmarked borders run refl refl,
     )
 
   -- The next base behind one that the range marked.
@@ -325,14 +325,14 @@ module _ (z : Sizes) (s : State (Unit {0}) (View TreeView)) (r : R z s) (id : �
         × IsCopied [] me.0.upper.ranges new x me (next_view, me.1)
     next_copied = (
       copy_step z s r id me at new x c hit was_begun bounded_too [] serves_none once new_end_too
-          me.0.upper.ranges fits_next own_still (λ j y _ here. none_before j y here) (λ b i. inl i) (λ row o. o) refl,
+          me.0.upper.ranges fits_next own_still (λ j y _ here. none_before j y here) (λ b i. inl i) (λ row o. o) refl refl,
       copied_now z s r id me at new x c hit was_begun bounded_too [] serves_none once new_end_too
-          me.0.upper.ranges fits_next own_still (λ j y _ here. none_before j y here) (λ b i. inl i) (λ row o. o) refl,
+          me.0.upper.ranges fits_next own_still (λ j y _ here. none_before j y here) (λ b i. inl i) (λ row o. o) refl refl,
     )
 
 module _ (z : Sizes) where
   -- The exchange of a link that puts a copy in place, where it does so each time that it is won.
-  copies : (slots id : ℕ) (me : MyTree) (new : ℕ) (x : Copy) (served : List ℕ) (ranges : KnownRanges) → IsCopy z me new x
+  pub copies : (slots id : ℕ) (me : MyTree) (new : ℕ) (x : Copy) (served : List ℕ) (ranges : KnownRanges) → IsLastThere x.old me.0.upper.notes
       → ((s : State (Unit {0}) (View TreeView)) → R z s → get_elem? s.views id ≡ some me.0
       → get_or s.words x.old.place.link 0 ≡ x.old.row
       → R z record {
@@ -348,7 +348,7 @@ module _ (z : Sizes) where
       → Allows (R z) slots id me x.old.place.link
       (λ n. either (eqb n x.old.row) new n)
       (Relinks MaySwap (Copies served ranges x) (step slots x.old.place.link x.old.row new none) me)
-  copies slots id me new x served ranges c wins s r _ at _ = let n : ℕ = get_or s.words x.old.place.link 0 in
+  copies slots id me new x served ranges shown wins s r _ at _ = let n : ℕ = get_or s.words x.old.place.link 0 in
       let d = me.0 in dite (ℕ_discrete n x.old.row)
       (λ (hit : n ≡ x.old.row). let d' : View TreeView =
       (relinked me (lent_out served (taken_out (x.old.row ∷ []) (given (new ∷ []) me.0.claims)))
@@ -361,7 +361,7 @@ module _ (z : Sizes) where
         subst (λ (y : ℕ). R z (stepped s x.old.place.link y id me.1 d' keeps))
             (sym (ap (λ b. either b new n) (eq-eqb n x.old.row hit)))
             w.0,
-        ((λ _. refl), (λ miss. absurd (miss hit)), inr (inr (inl (x, served, ranges, (c.shown, refl, refl), won))), won),
+        ((λ _. refl), (λ miss. absurd (miss hit)), inr (inr (inl (x, served, ranges, (shown, refl, refl), won))), won),
       ))
       (λ miss. let lost : View TreeView = record d { upper = one_more_lost d.upper } in
       let missed : Copies served ranges x (step slots x.old.place.link x.old.row new none) me n (lost, me.1) =
@@ -372,11 +372,11 @@ module _ (z : Sizes) where
         subst (λ (y : ℕ). R z (stepped s x.old.place.link y id me.1 lost keeps))
             (sym (ap (λ b. either b new n) (ne_eqb n x.old.row miss)))
             (loses z s r x.old.place.link id d at),
-        ((λ hit. absurd (miss hit)), (λ _. refl), inr (inr (inl (x, served, ranges, (c.shown, refl, refl), missed))), missed),
+        ((λ hit. absurd (miss hit)), (λ _. refl), inr (inr (inl (x, served, ranges, (shown, refl, refl), missed))), missed),
       ))
 
   -- The same, where the old row and the link have other names.
-  copies_from : (slots id : ℕ) (me : MyTree) (link old new : ℕ) (x : Copy) (served : List ℕ) (ranges : KnownRanges)
+  pub copies_from : (slots id : ℕ) (me : MyTree) (link old new : ℕ) (x : Copy) (served : List ℕ) (ranges : KnownRanges)
       → x.old.row ≡ old → x.old.place.link ≡ link
       → Allows (R z) slots id me x.old.place.link (λ n. either (eqb n x.old.row) new n)
       (Relinks MaySwap (Copies served ranges x) (step slots x.old.place.link x.old.row new none) me)
@@ -395,7 +395,7 @@ module _ (z : Sizes) where
       (Relinks MaySwap (Copies (begun.top ∷ []) (marking_now me.0.upper.ranges begun its) x) (step slots link old new none) me)
   marks_first slots id me link old new x begun its c k same here =
       copies_from slots id me link old new x (begun.top ∷ []) (marking_now me.0.upper.ranges begun its) same here
-      (copies slots id me new x (begun.top ∷ []) (marking_now me.0.upper.ranges begun its) c
+      (copies slots id me new x (begun.top ∷ []) (marking_now me.0.upper.ranges begun its) c.shown
       (λ s r at hit. first_copied z s r id me at new x c hit begun its k))
 
   -- and one that marks the next base of any range.
@@ -405,7 +405,7 @@ module _ (z : Sizes) where
       (Relinks MaySwap (Copies [] me.0.upper.ranges x) (step slots link old new none) me)
   marks_next slots id me link old new x left c k same here =
       copies_from slots id me link old new x [] me.0.upper.ranges same here
-      (copies slots id me new x [] me.0.upper.ranges c
+      (copies slots id me new x [] me.0.upper.ranges c.shown
       (λ s r at hit. next_copied z s r id me at new x c hit left k))
 
 -- The two ways that the exchange goes.

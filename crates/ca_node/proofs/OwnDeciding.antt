@@ -201,6 +201,7 @@ module _ (z : Sizes) (s : State (Unit {0}) (View TreeView)) (r : R z s) (id : �
       }
   lost_step k miss i = let known = f.ranged.each id me.0.upper first in let u' : TreeView = own_over begun.number me.0.upper in
       knows_ranges z s r i id me.0 at u'.ranges me.0.upper.turns
+      (knows_upper z s r id me.0 at).joining
       (λ row n. inl (noted_alike s.words me.0.upper u' (λ x m. m) (λ x m. m) (λ x m. m) (λ x m. m) (λ x m. m) row n)) record {
         over = λ x m. ⊎_elim (λ (e : over_up_to pass begun.number ≡ x). subst (IsOver s.words) e
             (over_else z s r id me at k.1.is_pinned k.1.is_pass begun border k.1.own miss))
@@ -255,6 +256,7 @@ module _ (z : Sizes) (s : State (Unit {0}) (View TreeView)) (r : R z s) (id : �
         }
     given_step miss i = let known = f.ranged.each id me.0.upper first in let u' : TreeView = given_up begun.number me.0.upper in
         knows_ranges z s r i id me.0 at u'.ranges me.0.upper.turns
+        (knows_upper z s r id me.0 at).joining
         (λ row n. inl (noted_alike s.words me.0.upper u' (λ x m. m) (λ x m. m) (λ x m. m)
         (λ c o. (let e : Quiet ≡ Marking o.2.0 o.2.1 = o.2.2 in absurd cc)) (λ x m. m) row n)) record {
           over = λ x m. ⊎_elim (λ (e : over_up_to pass begun.number ≡ x). subst (IsOver s.words) e
@@ -296,7 +298,7 @@ module _ (z : Sizes) where
             (sym (ap (λ b. either b (decided_word begun.number last.row) n) (eq-eqb n (active_word begun.number) hit)))
             (subst (λ (i : ℕ). R z record { words = set s.words i (decided_word begun.number last.row); homes = s.homes; views = set s.views id d' }) there
             (decide_step z s r id me at begun border last k (same ∙ hit))),
-        ((λ _. refl), (λ miss. absurd (miss hit)), inr (inr (inr (inr (inl (begun, border, last, told))))), told),
+        ((λ _. refl), (λ miss. absurd (miss hit)), inr (inr (inr (inr (inl (inl (begun, border, last, told)))))), told),
       ))
       (λ miss. let late : View TreeView = record me.0 { upper = own_over begun.number me.0.upper } in
       let told : DecidesOwn begun border last (step slots word_at (active_word begun.number) (decided_word begun.number last.row) none) me n (late, me.1) =
@@ -307,7 +309,7 @@ module _ (z : Sizes) where
         subst (λ (y : ℕ). R z (stepped s word_at y id me.1 late keeps))
             (sym (ap (λ b. either b (decided_word begun.number last.row) n) (ne_eqb n (active_word begun.number) miss)))
             (lost_step z s r id me at begun border (last, k) (λ e. miss (sym same ∙ e)) word_at),
-        ((λ hit. absurd (miss hit)), (λ _. refl), inr (inr (inr (inr (inl (begun, border, last, told))))), told),
+        ((λ hit. absurd (miss hit)), (λ _. refl), inr (inr (inr (inr (inl (inl (begun, border, last, told)))))), told),
       ))
 
   -- or gives it up.
@@ -330,7 +332,7 @@ module _ (z : Sizes) where
             (sym (ap (λ b. either b (sequence_unit * begun.number) n) (eq-eqb n (active_word begun.number) hit)))
             (subst (λ (i : ℕ). R z record { words = set s.words i (sequence_unit * begun.number); homes = s.homes; views = set s.views id d' }) there
             (abort_step z s r id me at begun border k (same ∙ hit))),
-        ((λ _. refl), (λ miss. absurd (miss hit)), inr (inr (inr (inr (inr (inl (begun, border, told)))))), told),
+        ((λ _. refl), (λ miss. absurd (miss hit)), inr (inr (inr (inr (inl (inr (inl (begun, border, told))))))), told),
       ))
       (λ miss. let late : View TreeView = record me.0 { upper = given_up begun.number me.0.upper } in
       let told : Aborts begun border (step slots word_at (active_word begun.number) (sequence_unit * begun.number) none) me n (late, me.1) =
@@ -341,7 +343,7 @@ module _ (z : Sizes) where
         subst (λ (y : ℕ). R z (stepped s word_at y id me.1 late keeps))
             (sym (ap (λ b. either b (sequence_unit * begun.number) n) (ne_eqb n (active_word begun.number) miss)))
             (given_step z s r id me at begun border k (λ e. miss (sym same ∙ e)) word_at),
-        ((λ hit. absurd (miss hit)), (λ _. refl), inr (inr (inr (inr (inr (inl (begun, border, told)))))), told),
+        ((λ hit. absurd (miss hit)), (λ _. refl), inr (inr (inr (inr (inl (inr (inl (begun, border, told))))))), told),
       ))
 
 -- The two ways that each goes.

@@ -1,5 +1,5 @@
 -- A pass begins a range, and gives one up for which it marked nothing.
-use Rattle.std.proofs.Common.{◌≡◌, ℕ, ◌+◌, ◌*◌, ◌/◌, ◌≤◌, eqb, List, map, get_or, set, sym, refl, ap, ◌∙◌, subst, inr, ⊎_elim, arith, eq-eqb, max}
+use Rattle.std.proofs.Common.{◌≡◌, ℕ, ◌+◌, ◌*◌, ◌/◌, ◌≤◌, eqb, List, map, get_or, set, sym, refl, ap, ◌∙◌, subst, inl, inr, ⊎_elim, arith, eq-eqb, max}
 use mathlib.Core.Option.{some, none, some-injective}
 use lib.ListN.{get_elem?}
 use prog.Atomic.{either}
@@ -97,6 +97,7 @@ module _ (z : Sizes) (s : State (Unit {0}) (View TreeView)) (r : R z s) (id : �
           notes = w.notes;
           links = w.links;
           ways = w.ways;
+          joining = w.joining;
           ended = w.ended;
         }
 
@@ -187,6 +188,7 @@ module _ (z : Sizes) (s : State (Unit {0}) (View TreeView)) (r : R z s) (id : �
           notes = w.notes;
           links = w.links;
           ways = w.ways;
+          joining = w.joining;
           ended = w.ended;
         }
 
@@ -255,5 +257,5 @@ module _ (z : Sizes) where
             (sym (ap (λ b. either b (sequence_unit * begun.number) n) (eq-eqb n (active_word begun.number) won)))
             (subst (λ (i : ℕ). R z record { words = set s.words i (sequence_unit * begun.number); homes = s.homes; views = set s.views id d' }) there
             (leave_step z s r id me at begun k)),
-        ((λ _. refl), (λ miss. absurd (miss won)), inr (inr (inr (inr (inr (inr (begun, told)))))), told),
+        ((λ _. refl), (λ miss. absurd (miss won)), inr (inr (inr (inr (inl (inr (inr (begun, told))))))), told),
       )

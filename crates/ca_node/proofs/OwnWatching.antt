@@ -61,6 +61,7 @@ module _ (z : Sizes) (s : State (Unit {0}) (View TreeView)) (r : R z s) (id : �
   -- The seat learns the number of its range.
   number_learnt : After (numbered_by n u)
   number_learnt = let u' : TreeView = numbered_by n u in knows_ranges z s r word_at id me.0 at u'.ranges u.turns
+      (knows_upper z s r id me.0 at).joining
       (λ row m. inl (noted_alike s.words u u' (λ x i. i) (λ x i. i) (λ x i. i) (λ x i. i) (λ x i. i) row m)) record {
         over = known.over;
         borders = known.borders;
@@ -114,6 +115,7 @@ module _ (z : Sizes) (s : State (Unit {0}) (View TreeView)) (r : R z s) (id : �
           notes = k.notes;
           links = k.links;
           ways = k.ways;
+          joining = k.joining;
           ended = k.ended;
         } record {
           over = λ x i. ⊎_elim (λ (e : over_up_to pass begun.number ≡ x). subst (IsOver s.words) e

@@ -17,16 +17,18 @@ use Rattle.ca_rows.proofs.OwnWords.{own_is, own_same, announced_else, result_els
 use Rattle.ca_rows.proofs.Rules.{all_seats}
 use Rattle.ca_runs.specs.Runs.{Ends, AreRuns}
 use Rattle.ca_node.specs.Inventory.{IsInventory}
+use Rattle.ca_node.specs.Attempts.{join_of}
+use Rattle.ca_node.specs.JoinsStay.{joining_same, joined_same, under_way_same}
 use Rattle.ca_node.specs.Laws.{alive, numbered, relisted, placed_range, under_placed}
-use Rattle.ca_node.specs.Layout.{sequence_unit}
+use Rattle.ca_node.specs.Layout.{root_word, sequence_unit}
 use Rattle.ca_node.specs.Links.{IsIn, IsUnder, IsActive, HasBegun, IsLinked, by_base, IsOfOwnRun, IsNoted, by_note, by_item, by_way, by_link, by_link_item, by_border, by_run, by_run_item, by_shown, by_shown_item}
-use Rattle.ca_node.specs.Place.{Place}
+use Rattle.ca_node.specs.Place.{Place, IsLinkOf}
 use Rattle.ca_node.specs.Ranging.{IsOver, IsTrueBorder, WasDecided, IsSoFar, IsRanging}
 use Rattle.ca_node.specs.RangesStay.{own_note, own_run_back}
-use Rattle.ca_node.specs.Reached.{base_at, placed_linked}
+use Rattle.ca_node.specs.Reached.{base_at, route_at, link_range, placed_linked}
 use Rattle.ca_node.specs.Row.{row_at, IsBaseRow, items, IsMarkedBy, route_key}
 use Rattle.ca_node.specs.Scenes.{IsBase, scene_of}
-use Rattle.ca_node.specs.Shape.{Role, Base, place_of, IsShape}
+use Rattle.ca_node.specs.Shape.{Role, Base, Route, place_of, IsLink, IsShape}
 use Rattle.ca_node.specs.Stays.{row_same}
 use Rattle.ca_node.specs.Tree.{IsTrue, Knows, IsTree}
 use Rattle.ca_node.specs.TreeView.{Note, Way, Over, Border, Ranging, Quiet, Unmarked, Marking, Left, Inventory, TreeView}
@@ -226,8 +228,26 @@ module _ (z : Sizes) (s : State (Unit {0}) (View TreeView)) (r : R z s) (pass wo
               else_word (row_words * way.row + index) (omega arith)
               ∙ t.spells index fixed;
         };
+        joining = joining_same s.words words' y.upper k.links
+            (λ way i index l. let w = way_range j y here way i in let a = w.1 in else_word (row_words * way.row + index) (omega arith)) k.joining;
         ended = k.ended;
       }
+
+  -- A join has under its route what it had.
+  child_then : (route : ℕ) (p : Place) (key : List ℕ) → role route ≡ Route p key → (link : ℕ) → IsLinkOf route link
+      → IsBaseRow (row_at s.words (get_or s.words link 0)) → row_at words' (get_or words' link 0) ≡ row_at s.words (get_or s.words link 0)
+  child_then route p key is link of _ = let in_tree : IsLink role link = inr (route, p, key, is, of) in
+      let inside : link < row_words * z.rows + row_words = ⊎_elim (λ (e : link ≡ root_word). omega arith) (λ t. t.1)
+      (link_range z s.words role last f.shape link in_tree) in
+      let c = get_or s.words link 0 in
+      let at = ⊎_elim (λ (e : link ≡ row_words * route + 1). subst (λ i. (q : Place) × (place_of (role (get_or s.words i 0)) ≡ some q)) (sym e)
+      (_, (route_at z s.words role last f.shape route p key is).left.hangs))
+      (λ (e : link ≡ row_words * route + 2). subst (λ i. (q : Place) × (place_of (role (get_or s.words i 0)) ≡ some q)) (sym e)
+      (_, (route_at z s.words role last f.shape route p key is).right.hangs)) of in
+      ap (row_at words') (else_word link inside) ∙ row_stays c (placed_range z s.words role last f.shape c at.0 at.1).1
+
+  join_then : (route : ℕ) (p : Place) (key : List ℕ) → role route ≡ Route p key → join_of words' route ≡ join_of s.words route
+  join_then route p key is = let hi' = (route_at z s.words role last f.shape route p key is).in_range in else_word (row_words * route + 3) (omega arith)
 
   control : (i : ℕ) → i < row_words → get_or words' i 0 ≡ get_or s.words i 0
   control i l = else_word i (omega arith)
@@ -261,6 +281,8 @@ module _ (z : Sizes) (s : State (Unit {0}) (View TreeView)) (r : R z s) (pass wo
           (map upper_of s.views) id u' own_ranging (λ j v ne here. let y = of_map upper_of s.views j v here in
           subst (λ (w : TreeView). IsRanging z words' role (ends' w.number) w.since f.history w.number w.ranges) y.2 (others j y.0 ne y.1).1);
     };
+    joined = joined_same z s.words words' role join_then child_then f.joined;
+    idle = λ route p key attempt is now. f.idle route p key attempt is (under_way_same s.words words' route attempt (join_then route p key is) now);
     each_seat = all_seats (Knows z.rows r.made words' role (set (map upper_of s.views) id u') f.history)
         (map upper_of s.views) id u' own_knows (λ j v ne here. let y = of_map upper_of s.views j v here in
         subst (Knows z.rows r.made words' role (set (map upper_of s.views) id u') f.history j) y.2 (others j y.0 ne y.1).0);

@@ -1,7 +1,7 @@
 -- One exchange of a link of the tree: what it changes in the words, and what stands of the tree's
 -- shape. By one such exchange a base takes
 -- the place of a base.
-use Rattle.std.proofs.Common.{◌≡◌, ◌≢◌, ◌⊎◌, ℕ, ◌+◌, ◌*◌, ◌%◌, ◌<◌, ◌≤◌, eqb, cond, List, get_or, set, sym, refl, ap, ◌∙◌, subst, inl, inr, ⊎_elim, arith, length-set, get_or-set_other, get_or-set_same}
+use Rattle.std.proofs.Common.{◌≡◌, ◌≢◌, ◌⊎◌, ℕ, ◌+◌, ◌*◌, ◌<◌, ◌≤◌, eqb, cond, List, get_or, set, sym, refl, ap, ◌∙◌, subst, inl, inr, ⊎_elim, arith, length-set, get_or-set_other, get_or-set_same}
 use Rattle.std.proofs.lemmas.Bool.Decides.{nat_tests}
 use mathlib.Core.Logic.{dite}
 use mathlib.Core.Option.{some, some-injective, some-ne-none}
@@ -12,9 +12,9 @@ use Rattle.ca_rows.specs.Words.{IsWide, result_of, announced}
 use Rattle.ca_node.specs.Links.{IsIn, IsActive, IsBoundOf}
 use Rattle.ca_node.specs.Marks.{IsMarkIn, IsBorder}
 use Rattle.ca_node.specs.Place.{Span, all_keys, left_of, right_of, HasKey, part, Place, IsLinkOf}
-use Rattle.ca_node.specs.Row.{row_at, form, IsObjectRow, IsBaseRow, count, level, items, mark_owner, IsIdle, objects_in, AreHeaded}
+use Rattle.ca_node.specs.Row.{row_at, form, IsObjectRow, IsBaseRow, count, level, items, mark_owner, objects_in, AreHeaded}
 use Rattle.ca_node.specs.Shape.{Role, Out, Base, Route, place_of, IsLink, LeadsTo, IsBaseAt, IsSo, IsShape}
-use Rattle.ca_node.specs.Stays.{IsSameRow, word_at, row_same}
+use Rattle.ca_node.specs.Stays.{IsSameRow, row_same}
 use Rattle.ca_node.specs.Reached.{led_to, base_at, route_at, hung, link_range, object_out}
 use Rattle.ca_node.specs.Standing.{IsSameButLinks, objects_same, mark_stays, bounded_stays, base_stands, route_stands, heads_same}
 use Rattle.ca_rows.specs.Layout.{row_words}
@@ -112,19 +112,12 @@ module _ (z : Sizes) (words : List ℕ) (role : ℕ → Role) (m : StoreMap)
       → IsMarkIn (set words place.link row) p its
   relinked_marks p its = mark_stays words words' p its
       (λ pass lo hi. let e = relinked_ranges pass lo hi in omega arith)
-      (λ route _. let e = relinked_joins route in omega arith)
+      (λ route attempt _ before. let e = relinked_joins route in omega (arith, before))
 
-  -- no range becomes active,
+  -- and no range becomes active.
   pub relinked_active : (pass number : ℕ) → IsActive (set words place.link row) pass number
       → IsActive words pass number
   relinked_active pass number x = (x.0, x.1, sym (relinked_ranges pass x.0 x.1) ∙ x.2)
-
-  -- and no join gets under way.
-  pub relinked_idle : (route : ℕ) → IsIdle (row_at words route)
-      → IsIdle (row_at (set words place.link row) route)
-  relinked_idle route idle = ap
-      (λ n. n % 4) (word_at words' route 3 (omega arith)
-      ∙ (relinked_joins route ∙ sym (word_at words route 3 (omega arith)))) ∙ idle
 
   -- Each row that is no route keeps its words.
   pub relinked_keeps : (c : ℕ) → 0 < c → ¬ IsRoute role c
@@ -140,7 +133,7 @@ module _ (z : Sizes) (words : List ℕ) (role : ℕ → Role) (m : StoreMap)
 
   -- Each row keeps all its words but those of a route's links.
   pub relinked_routes : (c : ℕ) → 0 < c → IsSameButLinks words (set words place.link row) c
-  relinked_routes c lo k l n n' = relinked_else (row_words * c + k) (λ e. ⊎_elim
+  relinked_routes c lo k l n n' _ = relinked_else (row_words * c + k) (λ e. ⊎_elim
       (λ (top : place.link ≡ root_word). omega arith)
       (λ (t : (route : ℕ) × (p : Place) × (key : List ℕ) × (role route ≡ Route p key)
       × IsLinkOf route place.link). ⊎_elim
@@ -226,7 +219,7 @@ module _ (z : Sizes) (words : List ℕ) (role : ℕ → Role) (m : StoreMap)
         route_stands z words words' role role' p key c s shape.wide relinked_wide
         (relinked_routes c s.some_row)
         (relinked_else p.link (other_link c p (ap place_of e) d)
-        ∙ s.under) (link_still p.link s.is_link) (shape.idle c p key e)
+        ∙ s.under) (link_still p.link s.is_link)
         (lead_still (row_words * c + 1) (p.level + 1) (left_of key p.span) s.left)
         (lead_still (row_words * c + 2) (p.level + 1) (right_of key p.span) s.right)
 
@@ -372,7 +365,4 @@ module _ (z : Sizes) (words : List ℕ) (role : ℕ → Role) (m : StoreMap)
         shape.top;
     each_row = so;
     apart = alone;
-    idle = λ c p key e.
-        relinked_idle z words role m shape old place is new c
-        (shape.idle c p key (route_was c p key e));
   }

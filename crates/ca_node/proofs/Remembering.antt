@@ -130,7 +130,7 @@ module _ (z : Sizes) (words : List ℕ) (role : ℕ → Role) (m : StoreMap)
       spells = λ index fixed. relinked_routes z words role m shape old place is row way.row
           (route_at z words role m shape way.row way.place (route_key way.its)
           (alive role way t.stands)).some_row
-          index fixed.0 fixed.1 fixed.2 ∙ t.spells index fixed;
+          index fixed.0 fixed.1 fixed.2 fixed.3 ∙ t.spells index fixed;
     }
 
     -- What a link of such a route names is linked.

@@ -20,6 +20,7 @@ use Rattle.ca_rows.specs.declared.view.Claim.TheVariants.{Holds}
 use Rattle.ca_rows.specs.declared.view.View.{View}
 use Rattle.ca_rows.specs.Claims.{claim_of}
 use Rattle.ca_rows.specs.Rule.{upper_of}
+use Rattle.ca_node.specs.Joining.{IsJoining}
 use Rattle.ca_node.specs.Laws.{numbered, relisted, starts_whole}
 use Rattle.ca_node.specs.Links.{IsIn, IsActive, IsBoundOf, IsLent}
 use Rattle.ca_node.specs.Inventory.{AreOnce, row_itself}
@@ -34,7 +35,7 @@ use Rattle.ca_node.specs.May.{MaySwap}
 use Rattle.ca_node.specs.Told.{MyTree, IsKnown, Update, IsUpdate, given, taken_out, updated, one_more_lost, IsUpdated, IsMissed, Updates, HasUpdated}
 use Rattle.ca_node.specs.Tree.{StartsWith, IsLinkOfView, IsTrue, Knows, IsTree}
 use Rattle.ca_node.specs.TreeView.{Note, TreeView}
-use Rattle.ca_node.proofs.Exchanging.{IsExchange, settled_over, is_old, new_row, old_map, is_last, ins_once, new_its, out_linked, out_unlent, replaced, ranging_keeps, own_notes, old_apart, note_keeps, way_keeps, new_true, exchange_step}
+use Rattle.ca_node.proofs.Exchanging.{IsExchange, settled_over, is_old, new_row, old_map, is_last, ins_once, new_its, out_linked, out_unlent, replaced, ranging_keeps, own_notes, old_apart, note_keeps, way_keeps, new_true, exchange_step, joining_keep, joining_more}
 use Rattle.ca_node.proofs.Holding.{unclaimed_row}
 use Rattle.ca_node.proofs.Logs.{after_more, state_stays, others_lawful, own_lawful, past_more, ended_more}
 use Rattle.ca_node.proofs.Looking.{R, loses, hangs_still, of_map, knows_upper, fewer_passes, further, longer_past, starts_shorter, in_more}
@@ -249,6 +250,8 @@ module _ (z : Sizes) (s : State (Unit {0}) (View TreeView)) (r : R z s) (id : �
             (in_more new_note note d.upper.notes i);
         ways = way_keeps z s r id me at new x ex hit over (r.above.history ++ own ∷ []) mark bounded has_now
             others_have [] serve once new_end id d at;
+        joining = joining_more z s r id me at new x ex hit over (r.above.history ++ own ∷ []) mark bounded has_now
+            others_have [] serve once new_end;
         ended = λ y i.
             ended_more r.made (set (map upper_of s.views) id u') d.upper.number x.edit f.history y
             ((knows.ended y i).gone id d.upper first) (k'.ended y i);
@@ -276,6 +279,9 @@ module _ (z : Sizes) (s : State (Unit {0}) (View TreeView)) (r : R z s) (id : �
         ways = λ way i.
             way_keeps z s r id me at new x ex hit over (r.above.history ++ own ∷ []) mark bounded has_now
             others_have [] serve once new_end j y.0 y.1 way (subst (λ (w : TreeView). IsIn way w.ways) (sym y.2) i);
+        joining = subst (λ (w : TreeView). IsJoining words' w.notes w.ways w.ranges.joins) y.2
+            (joining_keep z s r id me at new x ex hit over (r.above.history ++ own ∷ []) mark bounded has_now
+            others_have [] serve once new_end j y.0 y.1);
         ended = λ e i.
             ended_more r.made (set (map upper_of s.views) id u') d.upper.number x.edit f.history e
             (((f.each_seat j v here).ended e i).gone id d.upper first) (k.ended e i);

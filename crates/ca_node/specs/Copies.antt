@@ -14,7 +14,7 @@ use Rattle.ca_node.specs.Row.{IsBaseRow, IsBorderRow, count, level, items, mark_
 use Rattle.ca_node.specs.Told.{MyTree, with_upper, IsSettled, IsLastThere, Update, no_update, given, lent_out, taken_out, exchanged_inventory, one_more_lost, IsMissed}
 use Rattle.ca_node.specs.TreeView.{Note, Begun, Unmarked, Marking, KnownRanges, TreeView, no_note, one_passed}
 
--- A copy: the base that it takes the place of, its words, whose range it is marked for, and that range's number.
+-- A copy: the base that it takes the place of, its words, and what it is marked for: this range of this pass, or this attempt to join what is under this route.
 pub record Copy : Type 0 where
   pub old : Note
   pub its : List ℕ

@@ -1,38 +1,34 @@
 -- The rule of the tree meets the laws of the rows.
-use Rattle.std.proofs.Common.{◌≡◌, ◌≢◌, ◌⊎◌, ℕ, zero, suc, ◌+◌, ◌*◌, ◌/◌, ◌%◌, ◌<◌, ◌≤◌, cond, eqb, List, [], ◌∷◌, ◌++◌, length, map, take, drop, get_or, set, sym, refl, ap, ◌∙◌, subst, inl, inr, ⊎_elim, arith, append-nil, ne_eqb, if◌then◌else◌}
-use mathlib.Core.Logic.{dite}
+use Rattle.std.proofs.Common.{◌≡◌, ◌≢◌, ◌⊎◌, ℕ, zero, suc, ◌+◌, ◌*◌, ◌<◌, ◌≤◌, List, [], ◌∷◌, ◌++◌, length, map, get_or, set, sym, refl, ap, ◌∙◌, subst, inl, inr, ⊎_elim, arith, append-nil, ne_eqb, if◌then◌else◌}
 use mathlib.Core.Option.{some, some-injective, some-ne-none}
-use native.Mathlib.Decide.{ℕ_discrete}
 use lib.ListN.{get_elem?}
 use Rattle.atomic_table.proofs.Lists.{at_set, set_else}
-use Rattle.ca_model.specs.Edges.{Unbounded}
 use Rattle.ca_model.specs.History.{History, after, edits_of_pass, AreByPasses}
 use Rattle.ca_model.specs.StoreMap.{StoreMap}
 use Rattle.ca_rows.specs.declared.sizes.Sizes.{Sizes}
-use Rattle.ca_rows.specs.Laws.{Agrees, Framed, Frames, Lends, Pinning, Making, Closing, Opened, Opening}
-use Rattle.ca_rows.specs.Opening.{AreInBounds, AreUsable}
-use Rattle.ca_rows.specs.Words.{IsWide, result_of}
+use Rattle.ca_rows.specs.Laws.{Agrees, Framed, Frames, Lends, Pinning, Making, Closing}
+use Rattle.ca_rows.specs.Words.{IsWide}
 use Rattle.ca_runs.specs.Runs.{Ends}
 use Rattle.ca_runs.proofs.Keeping.{runs_still}
 use Rattle.ca_rows.proofs.Making.{at_place}
 use Rattle.ca_rows.proofs.Rules.{all_seats}
-use Rattle.ca_node.specs.Bare.{bare_headed}
 use Rattle.ca_node.specs.Inventory.{IsInventory}
-use Rattle.ca_node.specs.Links.{root, IsIn, IsUnder, IsActive, IsBoundOf, IsLinked, by_root, by_range, IsLent, IsOfOwnRun, IsNoted, by_note, by_item, by_way, by_link, by_link_item, by_border, by_run, by_run_item, by_shown, by_shown_item}
-use Rattle.ca_node.specs.Opened.{opens_at, result_at}
-use Rattle.ca_node.specs.Place.{Place, root_place}
+use Rattle.ca_node.specs.Joining.{IsJoining}
+use Rattle.ca_node.specs.JoinsStay.{joining_same, nothing_joining, joined_same, under_way_same}
+use Rattle.ca_node.specs.Links.{root, IsIn, IsUnder, IsActive, IsLinked, by_route, by_range, IsLent, IsOfOwnRun, IsNoted, by_note, by_item, by_way, by_link, by_link_item, by_border, by_run, by_run_item, by_shown, by_shown_item}
+use Rattle.ca_node.specs.Place.{Place, IsLinkOf}
 use Rattle.ca_node.specs.Ranging.{IsSoFar, IsRanging, AreRanged}
 use Rattle.ca_node.specs.RangesStay.{own_note, own_run_back, begun_on, decided_back, ranging_stays}
-use Rattle.ca_node.specs.Reached.{same_place, placed_linked, reached, linked_range}
-use Rattle.ca_node.specs.Row.{row_at, IsObjectRow, IsBaseRow, items, mark, mark_owner, mark_number, IsMarkedBy, route_key, pair, item_words, row_in, IsHeaded}
+use Rattle.ca_node.specs.Reached.{route_at, placed_linked, linked_range}
+use Rattle.ca_node.specs.Row.{row_at, IsObjectRow, IsBaseRow, items, IsMarkedBy, route_key}
 use Rattle.ca_node.specs.Scenes.{IsBase, mark_of, scene_of}
-use Rattle.ca_node.specs.Shape.{Role, Out, Base, Route, place_of, IsBaseAt, IsSo, IsShape}
+use Rattle.ca_node.specs.Shape.{Role, Out, Base, Route, place_of, IsSo, IsShape}
 use Rattle.ca_node.specs.Standing.{shape_stands}
-use Rattle.ca_node.specs.Stays.{IsSameRow, word_at, row_same, map_same, linked_on, linked_back, lent_on, lent_back}
+use Rattle.ca_node.specs.Stays.{IsSameRow, row_same, map_same, linked_on, linked_back, lent_on, lent_back}
 use Rattle.ca_node.specs.Tree.{StartsWith, IsAlive, IsDead, IsTrue, IsTrueWay, IsEnded, Knows, IsTree}
-use Rattle.ca_node.specs.TreeView.{Note, Way, Border, Begun, Ranging, Quiet, Unmarked, Marking, Left, Ended, TreeView, no_ranges, first_inventory, blank, ended_of, and_ended, ended_with, left_over, pinned, unpinned}
+use Rattle.ca_node.specs.TreeView.{Note, Way, Border, Begun, Ranging, Quiet, Unmarked, Marking, Left, Ended, TreeView, no_ranges, blank, ended_of, and_ended, ended_with, left_over, pinned, unpinned}
 use Rattle.ca_rows.specs.Layout.{row_words, passes_words}
-use Rattle.ca_node.specs.Layout.{items_word, form_unit, root_word, sequence_unit}
+use Rattle.ca_node.specs.Layout.{root_word}
 
 -- A route that a seat remembers is alive, since none is dead as yet.
 pub alive : (role : ℕ → Role) (way : Way) → IsAlive role way ⊎ ((at : ℕ) × IsDead way at) → IsAlive role way
@@ -204,6 +200,10 @@ module _ (z : Sizes) (made : ℕ) (uppers : List TreeView) (words others : List 
       spells = λ index fixed. noted_same way.row (way_range way i).0 (way_range way i).1 (by_way way way.row i refl) index fixed.0 ∙ t.spells index fixed;
     }
 
+    joining_now : IsJoining others u.notes u.ways u.ranges.joins
+    joining_now = joining_same words others u knows.links
+        (λ way i. noted_same way.row (way_range way i).0 (way_range way i).1 (by_way way way.row i refl)) knows.joining
+
     under_back : (way : Way) → IsIn way u.ways → (row : ℕ) → IsUnder others way.row row → IsUnder words way.row row
     under_back way i row under = let s = noted_same way.row (way_range way i).0 (way_range way i).1 (by_way way way.row i refl) in
         ⊎_elim (λ e. inl (sym (s 1 (omega arith)) ∙ e)) (λ e. inr (sym (s 2 (omega arith)) ∙ e)) under
@@ -262,6 +262,21 @@ module _ (z : Sizes) (made : ℕ) (uppers : List TreeView) (words others : List 
     each = λ j u at. ranges_now j u at;
   }
 
+  -- A row under a route of the tree is there still, with the words that it had, and so is the route's join word.
+  join_now : (route : ℕ) (place : Place) (key : List ℕ) → f.role route ≡ Route place key → IsSameRow words others route
+  join_now route place key is = same route (placed_linked z words f.role (after f.history []) f.shape route place (ap place_of is))
+
+  child_now : (route : ℕ) (place : Place) (key : List ℕ) → f.role route ≡ Route place key → (link : ℕ) → IsLinkOf route link
+      → IsBaseRow (row_at words (get_or words link 0)) → row_at others (get_or others link 0) ≡ row_at words (get_or words link 0)
+  child_now route place key is link of _ = let c = get_or words link 0 in
+      let above = placed_linked z words f.role (after f.history []) f.shape route place (ap place_of is) in
+      let l = by_route route c above (route_at z words f.role (after f.history []) f.shape route place key is).is_route
+      (⊎_elim (λ e. inl (ap (λ i. get_or words i 0) (sym e))) (λ e. inr (ap (λ i. get_or words i 0) (sym e))) of) in
+      let here : get_or others link 0 ≡ c = ⊎_elim
+      (λ (e : link ≡ row_words * route + 1). subst (λ i. get_or others i 0 ≡ get_or words i 0) (sym e) (join_now route place key is 1 (omega arith)))
+      (λ (e : link ≡ row_words * route + 2). subst (λ i. get_or others i 0 ≡ get_or words i 0) (sym e) (join_now route place key is 2 (omega arith))) of in
+      ap (row_at others) here ∙ row_same words others z.rows c f.shape.wide wide' (in_range c l) (same c l)
+
   tree_now : IsTree z made others uppers
   tree_now = record {
     usable = f.usable;
@@ -274,6 +289,9 @@ module _ (z : Sizes) (made : ℕ) (uppers : List TreeView) (words others : List 
     role = f.role;
     shape = shape_now;
     ranged = ranged_now;
+    joined = joined_same z words others f.role (λ route place key is. join_now route place key is 3 (omega arith)) child_now f.joined;
+    idle = λ route place key attempt is now. f.idle route place key attempt is
+        (under_way_same words others route attempt (join_now route place key is 3 (omega arith)) now);
     each_seat = λ j u at. let k = f.each_seat j u at in record {
       made_before = k.made_before;
       alone = k.alone;
@@ -284,6 +302,7 @@ module _ (z : Sizes) (made : ℕ) (uppers : List TreeView) (words others : List 
       notes = note_now j u at;
       links = k.links;
       ways = way_now j u at;
+      joining = joining_now j u at;
       ended = k.ended;
     };
     inventory = f.inventory;
@@ -332,6 +351,7 @@ relisted rows made words role uppers uppers' history j u n k = record {
   notes = k.notes;
   links = k.links;
   ways = k.ways;
+  joining = k.joining;
   ended = λ x i. let e = k.ended x i in let lo = e.some_number in record {
     some_number = lo;
     made_before = e.made_before;
@@ -362,6 +382,8 @@ seat_changed z made words uppers id u u' f at same has k ranging = record {
     each = all_seats (λ j v. IsRanging z words f.role (f.ranged.ends v.number) v.since f.history v.number v.ranges) uppers id u' ranging
         (λ j v n here. f.ranged.each j v here);
   };
+  joined = f.joined;
+  idle = f.idle;
   each_seat = all_seats (Knows z.rows made words f.role (set uppers id u') f.history) uppers id u' k
       (λ j v n here. relisted z.rows made words f.role uppers (set uppers id u') f.history j v (numbered uppers id u u' at same) (f.each_seat j v here));
   inventory = f.inventory;
@@ -415,6 +437,7 @@ tree_pinning = record {
         notes = k.notes;
         links = k.links;
         ways = k.ways;
+        joining = k.joining;
         ended = k.ended;
       }
       (let known = f.ranged.each i u at in record {
@@ -440,6 +463,7 @@ tree_pinning = record {
         notes = λ note i. absurd (in_nothing note [] refl i);
         links = λ note i. absurd (in_nothing note [] refl i);
         ways = λ way i. absurd (in_nothing way [] refl i);
+        joining = nothing_joining words;
         ended = k.ended;
       }
       (let known = f.ranged.each i u at in record {
@@ -478,6 +502,7 @@ knows_nothing rows made words role uppers history j number before alone unmade =
   notes = λ note i. absurd (in_nothing note [] refl i);
   links = λ note i. absurd (in_nothing note [] refl i);
   ways = λ way i. absurd (in_nothing way [] refl i);
+  joining = nothing_joining words;
   ended = λ x i. absurd (in_nothing x [] refl i);
 }
 
@@ -525,6 +550,8 @@ tree_making = record {
           (λ number now. let before = f.ranged.made_before (made + 1) number now in omega arith)))
           (at_place uppers (blank (made + 1)) u j here);
     };
+    joined = f.joined;
+    idle = f.idle;
     each_seat = λ j u here. ⊎_elim
         (λ (was : get_elem? uppers j ≡ some u). let k = f.each_seat j u was in let low = k.made_before in record {
           made_before = omega arith;
@@ -538,6 +565,7 @@ tree_making = record {
           notes = k.notes;
           links = k.links;
           ways = k.ways;
+          joining = k.joining;
           ended = λ x i. let e = k.ended x i in let before = e.made_before in record {
             some_number = e.some_number;
             made_before = omega arith;
@@ -626,6 +654,7 @@ module _ (z : Sizes) (made : ℕ) (words : List ℕ) (uppers : List TreeView) (i
         notes = k.notes;
         links = k.links;
         ways = k.ways;
+        joining = k.joining;
         ended = one_more_ended w.number refl v.ended k.ended;
       }
 
@@ -640,166 +669,3 @@ tree_closing = record {
   closing_notes = λ words v w r n. inl (noted_alike words v (ended_with v w) (λ n i. i) (λ y i. i) (λ b i. i) (λ row o. o) (λ n i. i) r n);
   spent_notes = λ words r. no_blank_notes words 0 r;
 }
-
--- The words at the start.
-module _ (z : Sizes) (words : List ℕ) (bounds : AreInBounds z) (usable : AreUsable z) (wide : IsWide z.rows words)
-    (above : (i : ℕ) → 2 ≤ i → i < 272 → get_or words i 0 ≡ opens_at z i)
-    (results : (pass : ℕ) → 0 < pass → pass ≤ 64 → result_of words pass ≡ result_at z) where
-  root_is : root words ≡ 1
-  root_is = above root_word (omega arith) (omega arith)
-
-  first_word : get_or (row_at words 1) 0 0 ≡ 144115188075855872
-  first_word = word_at words 1 0 (omega arith) ∙ above row_words (omega arith) (omega arith)
-
-  no_words : item_words (row_at words 1) ≡ []
-  no_words = ap (λ n. take (n % 65536) (drop items_word (row_at words 1))) first_word
-
-  no_items : items (row_at words 1) ≡ []
-  no_items = ap (map row_in) no_words
-
-  unmarked : mark (row_at words 1) ≡ 0
-  unmarked = word_at words 1 2 (omega arith) ∙ above 138 (omega arith) (omega arith)
-
-  -- row 1 is the one base
-  role_of : ℕ → Role
-  role_of row = cond (eqb row 1) (Base root_place) Out
-
-  role_one : role_of 1 ≡ Base root_place
-  unfolding role_of
-  role_one = refl
-
-  role_other : (row : ℕ) → row ≢ 1 → role_of row ≡ Out
-  unfolding role_of
-  role_other row n = ap (λ b. cond b (Base root_place) Out) (ne_eqb row 1 n)
-
-  first_base : IsBaseAt z words role_of [] root_place 1
-  first_base = let least = bounds.least_rows in record {
-    some_row = omega arith;
-    in_range = omega arith;
-    under = root_is;
-    is_link = inl refl;
-    deep = omega arith;
-    is_base = ap (λ n. n / form_unit) first_word;
-    level_is = ap (λ n. n / 65536 % 65536) first_word;
-    few = let e = ap (λ n. n % 65536) first_word in omega arith;
-    marked = inl unmarked;
-    bounded = λ border x. let one = x.0 in let none = unmarked in absurd (omega arith);
-    are_objects = λ r i. absurd (in_nothing r (items (row_at words 1)) no_items i);
-    headed = subst (IsHeaded (row_at words 1)) (sym (ap (map (λ row. row_at words row)) no_items)) (bare_headed (row_at words 1) first_word
-        (word_at words 1 7 (omega arith) ∙ above 143 (omega arith) (omega arith)) (word_at words 1 8 (omega arith) ∙ above 144 (omega arith) (omega arith))
-        (word_at words 1 9 (omega arith) ∙ above 145 (omega arith) (omega arith)) (word_at words 1 10 (omega arith) ∙ above 146 (omega arith) (omega arith)));
-    has = ap (map (λ row. pair (row_at words row))) no_items;
-  }
-
-  base_one : (row : ℕ) (p : Place) → role_of row ≡ Base p → row ≡ 1
-  base_one row p e = dite (ℕ_discrete row 1) (λ same. same) (λ n. let x : Base p ≡ Out = sym e ∙ role_other row n in absurd cc)
-
-  no_route : (row : ℕ) (p : Place) (key : List ℕ) → role_of row ≢ Route p key
-  no_route row p key e = dite (ℕ_discrete row 1)
-      (λ (same : row ≡ 1). let x : Base root_place ≡ Route p key = sym role_one ∙ (ap role_of (sym same) ∙ e) in cc)
-      (λ n. let x : Out ≡ Route p key = sym (role_other row n) ∙ e in cc)
-
-  range_is : (pass : ℕ) → 0 < pass → pass ≤ 64 → result_of words pass ≡ sequence_unit * z.starts.sequence
-  range_is = results
-
-  shape_there : IsShape z words role_of []
-  shape_there = record {
-    wide = wide;
-    top = record { level = 0; greater = omega arith; hangs = ap (λ r. place_of (role_of r)) root_is ∙ ap place_of role_one };
-    each_row = λ row. dite (ℕ_discrete row 1)
-        (λ (e : row ≡ 1). subst (λ r. IsSo z words role_of [] r (role_of r)) (sym e) (subst (IsSo z words role_of [] 1) (sym role_one) first_base))
-        (λ n. subst (IsSo z words role_of [] row) (sym (role_other row n)) tt);
-    apart = λ a b p q key is is' _ _. base_one a p is ∙ sym (base_one b q is');
-    idle = λ route p key e. absurd (no_route route p key e);
-  }
-
-  -- No range is active.
-  quiet : (pass number : ℕ) → ¬ IsActive words pass number
-  quiet pass number x = let lo = x.0 in let hi = x.1 in let e = x.2 in let here = range_is pass lo hi in omega arith
-
-  base_unmarked : (row pass number : ℕ) → IsBase role_of row → ¬ IsMarkedBy (row_at words row) pass number
-  base_unmarked row pass number base marked = let same = base_one row base.0 base.1 in
-      let one : mark (row_at words 1) ≡ 1 = ap (λ r. mark (row_at words r)) (sym same) ∙ marked.0 in let none = unmarked in omega arith
-
-  ranged_there : AreRanged z 0 words role_of (blank 0 ∷ []) []
-  ranged_there = record {
-    ends = λ _. record { edge = Unbounded; top = 0 };
-    runs = record {
-      run = λ _. [];
-      each = λ pass number now. absurd (quiet pass number now);
-      whole = λ pass number row now base marked. absurd (quiet pass number now);
-      begun = λ pass number row base marked. absurd (base_unmarked row pass number base marked);
-    };
-    made_before = λ pass number now. absurd (quiet pass number now);
-    each = λ j u here. by j u here;
-  }
-    where
-      by : (j : ℕ) (u : TreeView) → get_elem? (blank 0 ∷ []) j ≡ some u
-          → IsRanging z words role_of (record { edge = Unbounded; top = 0 }) u.since [] u.number u.ranges
-      by zero u e = subst (λ (v : TreeView). IsRanging z words role_of (record { edge = Unbounded; top = 0 }) v.since [] v.number v.ranges)
-          (some-injective (blank 0) u e) (no_ranging z words role_of (record { edge = Unbounded; top = 0 }) [])
-      by (suc j) u e = absurd (some-ne-none u (sym e))
-
-  only : (j : ℕ) (u : TreeView) → get_elem? (blank 0 ∷ []) j ≡ some u → Knows z.rows 0 words role_of (blank 0 ∷ []) [] j u
-  only zero u e = subst (Knows z.rows 0 words role_of (blank 0 ∷ []) [] 0) (some-injective (blank 0) u e)
-      (knows_nothing z.rows 0 words role_of (blank 0 ∷ []) [] 0 0 (omega arith) (λ lo. absurd (omega arith)) refl)
-  only (suc j) u e = absurd (some-ne-none u (sym e))
-
-  -- Row 1 alone is linked.
-  only_first : (row : ℕ) → IsLinked words row → row ≡ 1
-  only_first row l = ⊎_elim
-      (λ (x : (place : Place) × (place_of (role_of row) ≡ some place)). dite (ℕ_discrete row 1) (λ e. e)
-      (λ n. absurd (some-ne-none x.0 (sym x.1 ∙ ap place_of (role_other row n)))))
-      (λ is. ⊎_elim
-      (λ (x : (base : ℕ) × (place : Place) × (role_of base ≡ Base place) × IsIn row (items (row_at words base))). dite (ℕ_discrete x.0 1)
-      (λ e. absurd (in_nothing row (items (row_at words x.0)) (ap (λ r. items (row_at words r)) e ∙ no_items) x.3))
-      (λ n. let y : Base x.1 ≡ Out = sym x.2 ∙ role_other x.0 n in absurd cc))
-      (λ (x : (base : ℕ) × (place : Place) × (role_of base ≡ Base place) × IsBoundOf words base row). absurd (quiet
-      (mark_owner (row_at words x.0)) (mark_number (row_at words x.0)) x.3.1))
-      is)
-      (reached z words role_of [] shape_there row l)
-
-  one_linked : (row : ℕ) → row ≡ 1 → IsLinked words row
-  one_linked row e = by_root row (root_is ∙ sym e)
-
-  -- It is all that the tree has.
-  listed_first : IsInventory words role_of first_inventory
-  listed_first = record {
-    linked = λ row l. subst (λ (r : ℕ). IsIn r (1 ∷ [])) (sym (only_first row l)) (0, refl);
-    rows = λ row i. one_linked row (sym (in_one 1 row i));
-    rows_once = ((λ t. in_nothing t.0 [] refl t.1), tt);
-    based = λ row place is. let one = base_one row place is in
-        let same : root_place ≡ place = same_place root_place place (sym role_one ∙ (ap role_of (sym one) ∙ is)) in
-        subst (λ (p : Place). IsIn {A = ℕ × Place} (row, p) first_inventory.bases) same
-        (subst (λ (r : ℕ). IsIn {A = ℕ × Place} (r, root_place) first_inventory.bases) (sym one) (0, refl));
-    bases = λ row place i. let first : ℕ × Place = (1, root_place) in let here : ℕ × Place = (row, place) in let e : first ≡ here = in_one first here i in
-        ap (λ (x : ℕ × Place). role_of x.0) (sym e) ∙ (role_one ∙ ap (λ (x : ℕ × Place). Base x.1) e);
-    bases_once = ((λ t. in_nothing t.0 [] refl t.1), tt);
-  }
-
-  opened : Opened IsLinked IsLent IsNoted IsTree z (blank 0) words
-  opened = record {
-    stands = record {
-      usable = usable;
-      history = [];
-      edits = tt;
-      by_passes = tt;
-      keypos = above 131 (omega arith) (omega arith);
-      leaf = above 132 (omega arith) (omega arith);
-      levels = above 133 (omega arith) (omega arith);
-      role = role_of;
-      shape = shape_there;
-      ranged = ranged_there;
-      each_seat = only;
-      inventory = first_inventory;
-      listed = listed_first;
-      at_first = λ _. refl;
-      only_one = λ j u here few lo. let low = (only j u here).made_before in absurd (omega arith);
-    };
-    links = λ r. (only_first r, one_linked r);
-    lents = λ r x. quiet (mark_owner (row_at words x.0)) (mark_number (row_at words x.0)) x.3.1;
-    notes = λ r. no_blank_notes words 0 r;
-  }
-
-pub tree_opening : Opening IsLinked IsLent IsNoted IsTree opens_at result_at (blank 0)
-tree_opening z words bounds usable wide above results = opened z words bounds usable wide above results

@@ -1,7 +1,13 @@
+pub mod Attempts
 pub mod Bare
 pub mod Copies
 pub mod Endings
+pub mod FirstTree
 pub mod Inventory
+pub mod JoinCopies
+pub mod JoinSteps
+pub mod Joining
+pub mod JoinsStay
 pub mod LastTree
 pub mod Laws
 pub mod Layout

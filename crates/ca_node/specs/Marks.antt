@@ -1,8 +1,9 @@
 -- What operations leave in the words of bases and routes: marks, and how far joins are.
 use Rattle.std.specs.Prelude.{◌≡◌, ◌⊎◌, ℕ, ◌+◌, ◌*◌, ◌/◌, ◌<◌, ◌≤◌, List, slice_index}
+use Rattle.ca_node.specs.Attempts.{HasAttempt}
 use Rattle.ca_rows.specs.declared.sizes.Sizes.{Sizes}
 use Rattle.ca_node.specs.Place.{Place, IsLinkOf}
-use Rattle.ca_node.specs.Row.{row_at, IsBaseRow, IsBorderRow, count, mark, mark_owner, mark_number, IsUnmarked, join_word, IsIdle, IsPreparing, IsSecured}
+use Rattle.ca_node.specs.Row.{row_at, IsBaseRow, IsBorderRow, count, mark, mark_owner, mark_number, IsMarkedFor, IsUnmarked}
 use Rattle.ca_rows.specs.Layout.{row_words}
 use Rattle.ca_node.specs.Layout.{sequence_unit}
 use Rattle.ca_rows.specs.Words.{result_of}
@@ -23,7 +24,7 @@ IsMark place its = IsUnmarked its ⊎ (IsOfRange its ⊎ IsOfJoin place its)
 -- greater than the last one of its route.
 abbrev pub IsMarkIn : List ℕ → Place → List ℕ → Type 0
 IsMarkIn words place its = IsUnmarked its ⊎ ((IsOfRange its × (mark_number its ≤ result_of words (mark_owner its) / sequence_unit))
-    ⊎ (IsOfJoin place its × (4 * mark_number its ≤ slice_index words (row_words * mark_owner its + 3))))
+    ⊎ (IsOfJoin place its × HasAttempt words (mark_owner its) (mark_number its)))
 
 -- The row says up to where a range of this pass goes.
 pub record IsBorder (rows : ℕ) (words : List ℕ) (pass row : ℕ) : Type 0 where
@@ -33,19 +34,11 @@ pub record IsBorder (rows : ℕ) (words : List ℕ) (pass row : ℕ) : Type 0 wh
   pub owner : slice_index (row_at words row) 1 ≡ pass
 
 -- This attempt of the route marked the base that one of its links names.
-pub record IsMarkedUnder (words : List ℕ) (route attempt link : ℕ) : Type 0 where
-  pub is_base : IsBaseRow (row_at words (slice_index words link))
-  pub is_join : mark (row_at words (slice_index words link)) ≡ 2
-  pub owner : mark_owner (row_at words (slice_index words link)) ≡ route
-  pub number : mark_number (row_at words (slice_index words link)) ≡ attempt
+abbrev pub IsMarkedUnder : List ℕ → ℕ → ℕ → ℕ → Type 0
+IsMarkedUnder words route attempt link = IsBaseRow (row_at words (slice_index words link)) × IsMarkedFor (row_at words (slice_index words link)) route attempt
 
--- Both bases under a route whose join is secured have its mark, and together no more items than a leaf may have.
-pub record AreJoined (z : Sizes) (words : List ℕ) (route : ℕ) : Type 0 where
-  pub left : IsMarkedUnder words route (join_word (row_at words route) / 4) (row_words * route + 1)
-  pub right : IsMarkedUnder words route (join_word (row_at words route) / 4) (row_words * route + 2)
+-- Both bases under the route have the mark of this attempt, and together no more items than a leaf may have.
+pub record AreJoined (z : Sizes) (words : List ℕ) (route attempt : ℕ) : Type 0 where
+  pub left : IsMarkedUnder words route attempt (row_words * route + 1)
+  pub right : IsMarkedUnder words route attempt (row_words * route + 2)
   pub few : count (row_at words (slice_index words (row_words * route + 1))) + count (row_at words (slice_index words (row_words * route + 2))) ≤ z.leaf
-
--- The route's join word says that no join is under way, or that one is prepared, or that one is secured.
-abbrev pub IsJoinWord : Sizes → List ℕ → ℕ → Type 0
-IsJoinWord z words route = IsIdle (row_at words route) ⊎ (IsPreparing (row_at words route)
-    ⊎ (IsSecured (row_at words route) × AreJoined z words route))

@@ -73,6 +73,10 @@ mark_bound its = slice_index its 6
 abbrev pub IsMarkedBy : List ℕ → ℕ → ℕ → Type 0
 IsMarkedBy its pass number = (mark its ≡ 1) × (mark_owner its ≡ pass) × (mark_number its ≡ number)
 
+-- This attempt to join the bases under a route marked the base.
+abbrev pub IsMarkedFor : List ℕ → ℕ → ℕ → Type 0
+IsMarkedFor its route attempt = (mark its ≡ 2) × (mark_owner its ≡ route) × (mark_number its ≡ attempt)
+
 -- No operation marked the base.
 abbrev pub IsUnmarked : List ℕ → Type 0
 IsUnmarked its = mark its ≡ 0
@@ -83,12 +87,6 @@ join_word its = slice_index its 3
 
 abbrev pub IsIdle : List ℕ → Type 0
 IsIdle its = join_word its % 4 ≡ 0
-
-abbrev pub IsPreparing : List ℕ → Type 0
-IsPreparing its = join_word its % 4 ≡ 1
-
-abbrev pub IsSecured : List ℕ → Type 0
-IsSecured its = join_word its % 4 ≡ 2
 
 -- the bytes of words, eight a word, the highest first
 abbrev pub bytes_in : List ℕ → List ℕ

@@ -7,9 +7,9 @@ use Rattle.ca_model.specs.StoreMap.{StoreMap, bytes_cmp}
 use Rattle.ca_rows.specs.declared.sizes.Sizes.{Sizes}
 use Rattle.ca_rows.specs.Words.{IsWide}
 use Rattle.ca_node.specs.Links.{IsIn, IsBoundOf}
-use Rattle.ca_node.specs.Marks.{IsMarkIn, IsBorder, IsJoinWord}
+use Rattle.ca_node.specs.Marks.{IsMarkIn, IsBorder}
 use Rattle.ca_node.specs.Place.{Span, all_keys, left_of, right_of, HasKey, part, Place, IsLinkOf}
-use Rattle.ca_node.specs.Row.{row_at, IsObjectRow, IsBaseRow, IsRouteRow, count, level, items, mark_owner, IsIdle, route_key, objects_in, AreHeaded}
+use Rattle.ca_node.specs.Row.{row_at, IsObjectRow, IsBaseRow, IsRouteRow, count, level, items, mark_owner, route_key, objects_in, AreHeaded}
 use Rattle.ca_rows.specs.Layout.{row_words}
 use Rattle.ca_node.specs.Layout.{root_word}
 
@@ -53,7 +53,7 @@ pub record IsBaseAt (z : Sizes) (words : List ℕ) (role : ℕ → Role) (map : 
   pub has : objects_in words row ≡ part place.span map
 
 -- The row is a route at this place, above the last level: its key is one of those that are led to it, and not the least one, the lesser ones go left and the
--- others right, and its join word says how far a join is.
+-- others right.
 pub record IsRouteAt (z : Sizes) (words : List ℕ) (role : ℕ → Role) (place : Place) (key : List ℕ) (row : ℕ) : Type 0 where
   pub some_row : 0 < row
   pub in_range : row ≤ z.rows
@@ -66,7 +66,6 @@ pub record IsRouteAt (z : Sizes) (words : List ℕ) (role : ℕ → Role) (place
   pub key_is : route_key (row_at words row) ≡ key
   pub inside : HasKey place.span key
   pub rises : (low : List ℕ) → place.span.low ≡ Included low → bytes_cmp low key ≡ Less
-  pub joins : IsJoinWord z words row
   pub left : LeadsTo words role (row_words * row + 1) (place.level + 1) (left_of key place.span)
   pub right : LeadsTo words role (row_words * row + 2) (place.level + 1) (right_of key place.span)
 
@@ -81,5 +80,3 @@ pub record IsShape (z : Sizes) (words : List ℕ) (role : ℕ → Role) (map : S
   pub top : LeadsTo words role root_word 0 all_keys
   pub each_row : (row : ℕ) → IsSo z words role map row (role row)
   pub apart : (a b : ℕ) (p q : Place) (key : List ℕ) → role a ≡ Base p → role b ≡ Base q → HasKey p.span key → HasKey q.span key → a ≡ b
-  -- So far no join is under way.
-  pub idle : (route : ℕ) (place : Place) (key : List ℕ) → role route ≡ Route place key → IsIdle (row_at words route)

@@ -7,30 +7,32 @@ use mathlib.Core.Option.{some}
 use Rattle.ca_model.specs.StoreMap.{StoreMap}
 use Rattle.ca_rows.specs.declared.sizes.Sizes.{Sizes}
 use Rattle.ca_rows.specs.Words.{IsWide, result_of}
+use Rattle.ca_node.specs.Attempts.{HasAttempt}
 use Rattle.ca_node.specs.Links.{root, IsIn, IsActive, IsBoundOf, IsLinked, by_range}
 use Rattle.ca_node.specs.Marks.{IsOfRange, IsOfJoin, IsMark, IsMarkIn, IsBorder}
 use Rattle.ca_node.specs.Place.{Span, all_keys, left_of, right_of, part, Place, IsLinkOf}
-use Rattle.ca_node.specs.Row.{row_at, form, IsObjectRow, IsBaseRow, IsBorderRow, count, level, items, mark, mark_owner, mark_number, mark_bound, IsMarkedBy, IsUnmarked, join_word, IsIdle, route_key, bytes_in, pair, objects_in, IsHeaded, AreHeaded}
+use Rattle.ca_node.specs.Row.{row_at, form, IsObjectRow, IsBaseRow, IsBorderRow, count, level, items, mark, mark_owner, mark_number, mark_bound, IsMarkedBy, IsUnmarked, route_key, bytes_in, pair, objects_in, IsHeaded, AreHeaded}
 use Rattle.ca_node.specs.Shape.{Role, Out, Base, Route, place_of, IsLink, LeadsTo, IsBaseAt, IsRouteAt, IsSo, IsShape}
 use Rattle.ca_node.specs.Stays.{IsSameRow, word_at, row_long, row_same, map_same}
 use Rattle.ca_node.specs.Reached.{linked_range, placed_linked, item_linked}
 use Rattle.ca_rows.specs.Layout.{row_words}
 use Rattle.ca_node.specs.Layout.{key_word, form_unit, root_word, sequence_unit}
 
--- The row has the same words in both tables, but for those of a route's links.
+-- The row has the same words in both tables, but for those of a route's links, and its join word.
 abbrev pub IsSameButLinks : List ℕ → List ℕ → ℕ → Type 0
-IsSameButLinks words others row = (k : ℕ) → k < row_words → k ≢ 1 → k ≢ 2 → get_or others (row_words * row + k) 0 ≡ get_or words (row_words * row + k) 0
+IsSameButLinks words others row = (k : ℕ) → k < row_words → k ≢ 1 → k ≢ 2 → k ≢ 3
+    → get_or others (row_words * row + k) 0 ≡ get_or words (row_words * row + k) 0
 
--- What a row says without the words of its links.
+-- What a row says without these words.
 module _ (words others : List ℕ) (rows row : ℕ) (wide : IsWide rows words) (wide' : IsWide rows others) (hi : row ≤ rows)
     (same : IsSameButLinks words others row) where
-  -- A word of the row is the same, unless it is a link.
-  pub word_same : (k : ℕ) → k < row_words → k ≢ 1 → k ≢ 2 → get_or (row_at others row) k 0 ≡ get_or (row_at words row) k 0
-  word_same k l n m = word_at others row k l ∙ (same k l n m ∙ sym (word_at words row k l))
+  -- A word of the row is the same, unless it is one of these.
+  pub word_same : (k : ℕ) → k < row_words → k ≢ 1 → k ≢ 2 → k ≢ 3 → get_or (row_at others row) k 0 ≡ get_or (row_at words row) k 0
+  word_same k l a b c = word_at others row k l ∙ (same k l a b c ∙ sym (word_at words row k l))
 
   -- So is the first word.
   first_same : get_or (row_at others row) 0 0 ≡ get_or (row_at words row) 0 0
-  first_same = word_same 0 (omega arith) (λ e. omega arith) (λ e. omega arith)
+  first_same = word_same 0 (omega arith) (λ e. omega arith) (λ e. omega arith) (λ e. omega arith)
 
   -- So are the words of the bytes.
   rest_same : drop key_word (row_at others row) ≡ drop key_word (row_at words row)
@@ -38,7 +40,7 @@ module _ (words others : List ℕ) (rows row : ℕ) (wide : IsWide rows words) (
       let a = length-drop key_word (row_at words row) in let b = length-drop key_word (row_at others row) in
       same_number_lists (drop key_word (row_at others row)) (drop key_word (row_at words row)) (omega arith)
       (λ k l. get_or-drop key_word (row_at others row) k 0
-      ∙ (word_same (key_word + k) (omega arith) (λ e. omega arith) (λ e. omega arith) ∙ sym (get_or-drop key_word (row_at words row) k 0)))
+      ∙ (word_same (key_word + k) (omega arith) (λ e. omega arith) (λ e. omega arith) (λ e. omega arith) ∙ sym (get_or-drop key_word (row_at words row) k 0)))
 
   -- So it has the same key, if it is a route.
   pub key_same : route_key (row_at others row) ≡ route_key (row_at words row)
@@ -78,21 +80,21 @@ mark_of words place its m = ⊎_elim
     (λ (none : IsUnmarked its). inl none)
     (λ some_mark. ⊎_elim
     (λ (r : IsOfRange its × (mark_number its ≤ result_of words (mark_owner its) / sequence_unit)). inr (inl r.0))
-    (λ (j : IsOfJoin place its × (4 * mark_number its ≤ get_or words (row_words * mark_owner its + 3) 0)). inr (inr j.0))
+    (λ (j : IsOfJoin place its × HasAttempt words (mark_owner its) (mark_number its)). inr (inr j.0))
     some_mark) m
 
--- A mark stays one, where no pass's sequence falls, nor the attempt of the route above.
+-- A mark stays one, where no pass's sequence falls, and each attempt that was begun of the route above was.
 pub mark_stays : (words others : List ℕ) (place : Place) (its : List ℕ)
     → ((pass : ℕ) → 0 < pass → pass ≤ 64 → result_of words pass / sequence_unit ≤ result_of others pass / sequence_unit)
-    → ((route : ℕ) → IsLinkOf route place.link → get_or words (row_words * route + 3) 0 ≤ get_or others (row_words * route + 3) 0)
+    → ((route attempt : ℕ) → IsLinkOf route place.link → HasAttempt words route attempt → HasAttempt others route attempt)
     → IsMarkIn words place its → IsMarkIn others place its
 mark_stays words others place its ranges joins m = ⊎_elim
     (λ (none : IsUnmarked its). inl none)
     (λ some_mark. ⊎_elim
     (λ (r : IsOfRange its × (mark_number its ≤ result_of words (mark_owner its) / sequence_unit)).
     let before = r.1 in let rises = ranges (mark_owner its) r.0.1 r.0.2 in inr (inl (r.0, omega arith)))
-    (λ (j : IsOfJoin place its × (4 * mark_number its ≤ get_or words (row_words * mark_owner its + 3) 0)).
-    let before = j.1 in let rises = joins (mark_owner its) j.0.1 in inr (inr (j.0, omega arith)))
+    (λ (j : IsOfJoin place its × HasAttempt words (mark_owner its) (mark_number its)).
+    inr (inr (j.0, joins (mark_owner its) (mark_number its) j.0.1 j.1)))
     some_mark) m
 
 -- The route of a link of the tree is one.
@@ -150,14 +152,14 @@ base_stands z words others role role' m n place row b e same under is parts mark
   has = objects_same words others row e same ∙ (b.has ∙ sym parts);
 }
 
--- A route is one in other words and under other roles, if all its words are the same but its links, it is under its link, which is one of the
--- tree, its own links lead where they led, and no join of it is under way.
+-- A route is one in other words and under other roles, if all its words are the same but its links and its join word, it is under its link, which is one of the
+-- tree, and its own links lead where they led.
 pub route_stands : (z : Sizes) (words others : List ℕ) (role role' : ℕ → Role) (place : Place) (key : List ℕ) (row : ℕ)
     → IsRouteAt z words role place key row → IsWide z.rows words → IsWide z.rows others → IsSameButLinks words others row
-    → get_or others place.link 0 ≡ row → IsLink role' place.link → IsIdle (row_at words row)
+    → get_or others place.link 0 ≡ row → IsLink role' place.link
     → LeadsTo others role' (row_words * row + 1) (place.level + 1) (left_of key place.span)
     → LeadsTo others role' (row_words * row + 2) (place.level + 1) (right_of key place.span) → IsRouteAt z others role' place key row
-route_stands z words others role role' place key row r wide wide' same under is idle left right = record {
+route_stands z words others role role' place key row r wide wide' same under is left right = record {
   some_row = r.some_row;
   in_range = r.in_range;
   under = under;
@@ -169,7 +171,6 @@ route_stands z words others role role' place key row r wide wide' same under is 
   key_is = key_same words others z.rows row wide wide' r.in_range same ∙ r.key_is;
   inside = r.inside;
   rises = r.rises;
-  joins = inl (ap (λ n. n % 4) (word_same words others z.rows row wide wide' r.in_range same 3 (omega arith) (λ e. omega arith) (λ e. omega arith)) ∙ idle);
   left = left;
   right = right;
 }
@@ -211,7 +212,8 @@ module _ (z : Sizes) (words others : List ℕ) (role : ℕ → Role) (m : StoreM
   -- A mark at a place of the tree stays one.
   marks : (place : Place) (its : List ℕ) → IsLink role place.link → IsMarkIn words place its → IsMarkIn others place its
   marks place its is = mark_stays words others place its sequences
-      (λ route of. let t = link_route role place.link route is of in let e = same route (placed route t.0 (ap place_of t.2)) 3 (omega arith) in omega arith)
+      (λ route attempt of before. let t = link_route role place.link route is of in let e = same route (placed route t.0 (ap place_of t.2)) 3 (omega arith) in
+      omega (arith, before))
 
   -- Each row is what it was.
   so : (row : ℕ) (is : Role) → role row ≡ is → IsSo z words role m row is → IsSo z others role m row is
@@ -221,7 +223,7 @@ module _ (z : Sizes) (words others : List ℕ) (role : ℕ → Role) (m : StoreM
       (marks place (row_at words row) s.is_link) (active row place e)
       (λ border b. its_same border (by_range row border (placed row place (ap place_of e)) s.is_base b))
   so row (Route place key) e s = route_stands z words others role role place key row s shape.wide wide
-      (λ k l _ _. same row (placed row place (ap place_of e)) k l) (link_same place.link s.is_link ∙ s.under) s.is_link (shape.idle row place key e)
+      (λ k l _ _ _. same row (placed row place (ap place_of e)) k l) (link_same place.link s.is_link ∙ s.under) s.is_link
       (lead_same (row_words * row + 1) (place.level + 1) (left_of key place.span) (inr (row, place, key, e, inl refl)) s.left)
       (lead_same (row_words * row + 2) (place.level + 1) (right_of key place.span) (inr (row, place, key, e, inr refl)) s.right)
 
@@ -232,7 +234,6 @@ module _ (z : Sizes) (words others : List ℕ) (role : ℕ → Role) (m : StoreM
     top = lead_same root_word 0 all_keys (inl refl) shape.top;
     each_row = λ row. so row (role row) refl (shape.each_row row);
     apart = shape.apart;
-    idle = λ route place key e. ap (λ its. join_word its % 4) (its_same route (placed route place (ap place_of e))) ∙ shape.idle route place key e;
   }
 
 -- A shape for one map is one for another that has the same for each base.

@@ -26,7 +26,7 @@ use Rattle.ca_node.specs.Place.{Span, all_keys, left_of, right_of, HasKey, Place
 use Rattle.ca_node.specs.Row.{IsObjectRow, IsBaseRow, IsRouteRow, IsBorderRow, count, level, items, mark, mark_owner, mark_number, mark_bound, IsMarkedBy, IsUnmarked, IsIdle, key, route_key, pair, IsHeaded}
 use Rattle.ca_node.specs.States.{HasState, IsAlone, IsReadAt}
 use Rattle.ca_node.specs.Tree.{ArePast, IsFixed}
-use Rattle.ca_node.specs.TreeView.{Note, Way, Over, Quiet, Unfinished, Border, Turns, Renewal, Division, Inventory, TreeView, blank, no_note, one_passed}
+use Rattle.ca_node.specs.TreeView.{Note, Way, Over, Finished, Quiet, Unfinished, Border, Turns, Renewal, Division, Inventory, TreeView, blank, no_note, one_passed}
 use Rattle.ca_rows.specs.Layout.{row_words, pass_words, row_limit}
 use Rattle.ca_node.specs.Layout.{root_word, sequence_unit}
 
@@ -279,6 +279,10 @@ IsNotFrom x i row = IsIn row (items x.its) → IsIn row x.comes ⊎ ((j : ℕ) �
 -- No range has the base, or the seat knows that the one is over that marked it.
 abbrev pub IsSettled : TreeView → List ℕ → Type 0
 IsSettled u its = (mark its ≢ 1) ⊎ ((x : Over) × IsIn x u.ranges.over × (mark_owner its ≡ x.pass) × (mark_number its < x.below))
+
+-- No join has the base, or the seat knows that the attempt is finished that marked it.
+abbrev pub IsUnjoined : TreeView → List ℕ → Type 0
+IsUnjoined u its = (mark its ≢ 2) ⊎ ((x : Finished) × IsIn x u.ranges.joins.finished × (mark_owner its ≡ x.route) × (mark_number its < x.below))
 
 -- The seat may put the new row in the place of the old base: it is pinned, its last load of that link showed that base, which no range has, and it holds the
 -- new one.

@@ -104,8 +104,27 @@ pub data Ranging : Type 0 where
   Marking : Begun → Border → Ranging
   Left : Ranging
 
+-- An attempt to join the two bases under a route.
+pub record Attempt : Type 0 where
+  pub route : ℕ
+  pub number : ℕ
+
+-- The attempts of a route whose numbers are less than this one, of which it is known that they are finished.
+pub record Finished : Type 0 where
+  pub route : ℕ
+  pub below : ℕ
+
+-- What a seat knows of the joins of routes that it remembers: attempts that were begun, some that are finished, some that are secured, and some that are
+-- prepared no more, of which it doesn't know which of both they are.
+pub record KnownJoins : Type 0 where
+  pub begun : List Attempt
+  pub finished : List Finished
+  pub secured : List Attempt
+  pub decided : List Attempt
+
 -- What a seat knows of ranges: some that are over, some rows that say up to where one goes, how far its own last one is, that one's number, where it knows
--- it, the bases of a run of its own that it was shown, and those of other passes that it found unfinished since it was pinned, one a pass.
+-- it, the bases of a run of its own that it was shown, and those of other passes that it found unfinished since it was pinned, one a pass; and what it knows
+-- of joins.
 pub record KnownRanges : Type 0 where
   pub over : List Over
   pub borders : List Border
@@ -113,6 +132,7 @@ pub record KnownRanges : Type 0 where
   pub sequence : Option ℕ
   pub run : List Note
   pub unfinished : List Unfinished
+  pub joins : KnownJoins
 
 pub record TreeView : Type 0 where
   -- the number of its pass; 0 of a seat that is no pass's
@@ -158,8 +178,11 @@ no_refusals = record { busy = 0; full = 0; deep = 0; worn = 0; last = None }
 abbrev pub no_turns : Turns
 no_turns = record { passed = 0; helped = 0 }
 
+abbrev pub no_joins : KnownJoins
+no_joins = record { begun = []; finished = []; secured = []; decided = [] }
+
 abbrev pub no_ranges : KnownRanges
-no_ranges = record { over = []; borders = []; own = Quiet; sequence = none; run = []; unfinished = [] }
+no_ranges = record { over = []; borders = []; own = Quiet; sequence = none; run = []; unfinished = []; joins = no_joins }
 
 -- one turn more, by which a seat passed on
 abbrev pub one_passed : Turns → Turns
@@ -224,5 +247,5 @@ abbrev pub unpinned : TreeView → TreeView
 unpinned u = record u {
   notes = [];
   ways = [];
-  ranges = record { over = []; borders = []; own = left_over u.ranges.own; sequence = u.ranges.sequence; run = []; unfinished = [] };
+  ranges = record { over = []; borders = []; own = left_over u.ranges.own; sequence = u.ranges.sequence; run = []; unfinished = []; joins = no_joins };
 }

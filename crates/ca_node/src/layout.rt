@@ -36,6 +36,9 @@ pub const BORDER_FORM: u32 = (BORDER / FORM) as u32;
 /// The first word of an object's bytes.
 pub const CODE: u32 = 1;
 
+/// The word of a route that says how far its join is.
+pub const JOIN: u32 = 3;
+
 /// The first word of the bytes of a route's key.
 pub const KEY: u32 = 4;
 

@@ -7,6 +7,8 @@ mod cursor;
 mod exchange;
 mod handed;
 mod handing;
+mod join_state;
+mod joins;
 mod layout;
 mod link;
 mod marking;
@@ -26,12 +28,14 @@ pub use cursor::{Cursor, Spot, walk, walk_from};
 pub use exchange::{divide_base, replace_base};
 pub use handed::Front;
 pub use handing::{front, learn};
+pub use join_state::JoinState;
+pub use joins::{abort_join, load_join, secure_join};
 pub use layout::{
-    BASE, BASE_FORM, BORDER, BORDER_FORM, CODE, ITEMS, KEY, OBJECT, OBJECT_FORM, PREFIX,
+    BASE, BASE_FORM, BORDER, BORDER_FORM, CODE, ITEMS, JOIN, KEY, OBJECT, OBJECT_FORM, PREFIX,
     PREFIX_LENGTH, ROUTE,
 };
 pub use link::Link;
-pub use marking::{mark_first, mark_next};
+pub use marking::{mark_first, mark_for_join, mark_next};
 pub use own_ranges::{abort_own, decide_own, leave_range, load_own_status, open_range};
 pub use passing::pass_on;
 pub use plays::{Finishing, Intent, Marking, Owning, Plan};

@@ -2,6 +2,7 @@
 ghost use Rattle.std.specs.Prelude.{ℕ, List, [], ◌∷◌, true, false};
 ghost use Rattle.ca_node.specs.Copies.{Copy, no_copy, Copies, marking_now};
 ghost use Rattle.ca_node.specs.Endings.{Helps};
+ghost use Rattle.ca_node.specs.JoinSteps.{LoadsJoin, AbortsSome, SecuresSome};
 ghost use Rattle.ca_node.specs.OwnRanges.{Opens, WatchesOwn, DecidesOwn, Aborts, Leaves};
 ghost use Rattle.ca_node.specs.Row.{mark_bound};
 ghost use Rattle.ca_node.specs.Told.{Leads, PassesOn, Reads, Watches, Update, Updates, no_update, Divides, no_division, front_of, learnt};
@@ -49,8 +50,8 @@ impl Play<(), View<Knowledge>> for PassOn {
     ghost then = { PassesOn };
 }
 
-/// Which base a step marks for a range: the copy that takes its place, the range as it was begun and the words of the row that says up to where it goes, and
-/// the base that the range marked before. It exists in proofs alone.
+/// Which base a step marks for a range, or for a join: the copy that takes its place; and of a range how it was begun, the words of the row that says up to
+/// where it goes, and the base that it marked before. It exists in proofs alone.
 pub trait Marking {
     ghost copy: { Copy };
 
@@ -80,7 +81,7 @@ impl<K: Marking> Play<(), View<Knowledge>> for MarkFirst<K> {
     ghost then = { λ st m n m'. Copies (K.begun.top ∷ []) (marking_now m.0.upper.ranges K.begun K.border) K.copy st m n m' };
 }
 
-/// The exchange of a link that marks the next base of a range.
+/// The exchange of a link that marks the next base of a range, or one for a join.
 pub struct MarkNext<K> {
     marking: PhantomData<K>,
 }
@@ -124,6 +125,27 @@ pub struct WatchOwn;
 
 impl Play<(), View<Knowledge>> for WatchOwn {
     ghost then = { WatchesOwn };
+}
+
+/// A load of the word that says how far the join of a route is.
+pub struct LoadJoin;
+
+impl Play<(), View<Knowledge>> for LoadJoin {
+    ghost then = { LoadsJoin };
+}
+
+/// The exchange that gives up an attempt to join.
+pub struct AbortJoin;
+
+impl Play<(), View<Knowledge>> for AbortJoin {
+    ghost then = { AbortsSome };
+}
+
+/// The exchange that secures one.
+pub struct SecureJoin;
+
+impl Play<(), View<Knowledge>> for SecureJoin {
+    ghost then = { SecuresSome };
 }
 
 /// Which range of its own a pass begins, or ends: as it was begun, the row that says up to where it goes, and the base with which it decides it. It exists

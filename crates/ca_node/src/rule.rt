@@ -1,5 +1,6 @@
 //! The rule of the tree.
-ghost use Rattle.ca_node.specs.Laws.{tree_frames, tree_lends, tree_pinning, tree_making, tree_closing, tree_opening};
+ghost use Rattle.ca_node.specs.FirstTree.{tree_opening};
+ghost use Rattle.ca_node.specs.Laws.{tree_frames, tree_lends, tree_pinning, tree_making, tree_closing};
 ghost use Rattle.ca_node.specs.Links.{IsLinked, IsLent, IsNoted};
 ghost use Rattle.ca_node.specs.Opened.{opens_at, result_at};
 ghost use Rattle.ca_node.specs.May.{MayLoad, MaySwap, MayStore};

@@ -1,0 +1,90 @@
+-- Joins, once a link of the tree was exchanged on which a base hung that no join under way had.
+use Rattle.std.proofs.Common.{◌≡◌, ◌≢◌, ℕ, ◌+◌, ◌*◌, ◌%◌, ◌<◌, List, [], get_or, set, sym, ap, ◌∙◌, subst, inr, arith}
+use Rattle.ca_model.specs.StoreMap.{StoreMap}
+use Rattle.ca_rows.specs.declared.sizes.Sizes.{Sizes}
+use Rattle.ca_node.specs.Attempts.{IsSecured, IsUnderWay, IsJoinWord}
+use Rattle.ca_node.specs.Joining.{AreIdle, AreJoining, IsHung, IsJoining}
+use Rattle.ca_node.specs.JoinsStay.{remembered_route, join_same, joining_goes_on, mark_hangs, under_way_same}
+use Rattle.ca_node.specs.Links.{IsIn}
+use Rattle.ca_node.specs.Marks.{IsMarkIn, IsMarkedUnder, AreJoined}
+use Rattle.ca_node.specs.Place.{Span, Place}
+use Rattle.ca_node.specs.Reached.{base_at, route_at, hung}
+use Rattle.ca_node.specs.Row.{row_at, IsBaseRow, count, IsMarkedFor}
+use Rattle.ca_node.specs.Shape.{Role, Base, Route, LeadsTo, IsShape}
+use Rattle.ca_node.specs.Standing.{link_route}
+use Rattle.ca_node.specs.Tree.{IsLinkOfView}
+use Rattle.ca_node.specs.TreeView.{Note, TreeView}
+use Rattle.ca_node.proofs.Rebased.{IsRoute, relinked_here, relinked_else, relinked_joins, relinked_marks, relinked_row}
+use Rattle.ca_rows.specs.Layout.{row_words}
+
+-- No join under way has a base of the tree, where none is under way.
+pub idle_over : (z : Sizes) (words : List ℕ) (role : ℕ → Role) (m : StoreMap) → IsShape z words role m → AreIdle words role → (base : ℕ) (place : Place)
+    → role base ≡ Base place → (route attempt : ℕ) → IsMarkedFor (row_at words base) route attempt → ¬ IsUnderWay words route attempt
+idle_over z words role m shape idle base place is route attempt marked now = let at = base_at z words role m shape base place is in
+    let h : IsHung words (record { row = base; its = row_at words base; objects = []; place = place }) route attempt =
+    mark_hangs words (record { row = base; its = row_at words base; objects = []; place = place }) at.marked at.under route attempt marked in
+    let t = link_route role place.link route at.is_link h.is_link in idle route t.0 t.1 attempt t.2 now
+
+-- The link of the base `old` names another row then.
+module _ (z : Sizes) (words : List ℕ) (role : ℕ → Role) (m : StoreMap) (shape : IsShape z words role m) (old : ℕ) (place : Place)
+    (is : role old ≡ Base place) (row : ℕ)
+    (over : (route attempt : ℕ) → IsMarkedFor (row_at words old) route attempt → ¬ IsUnderWay words route attempt) where
+  abbrev words' : List ℕ
+  words' = set words place.link row
+
+  -- Another base under a link is there still, with the words that it had.
+  child_keeps : (link least : ℕ) (span : Span) → LeadsTo words role link least span → IsBaseRow (row_at words (get_or words link 0)) → link ≢ place.link
+      → row_at words' (get_or words' link 0) ≡ row_at words (get_or words link 0)
+  child_keeps link least span l base ne = let c = get_or words link 0 in
+      let h = hung z words role m shape c _ l.hangs in
+      ap (row_at words') (relinked_else z words role m shape old place is row link ne)
+      ∙ relinked_row z words role m shape old place is row c h.2 h.3
+      (λ (t : IsRoute role c). let three = (route_at z words role m shape c t.0 t.1 t.2).is_route in omega arith)
+
+  -- The link of a base that a secured join has isn't this one.
+  other_link : (route attempt link : ℕ) → IsSecured words route attempt → IsMarkedUnder words route attempt link → link ≢ place.link
+  other_link route attempt link now marked e = over route attempt
+      (subst (λ c. IsMarkedFor (row_at words c) route attempt) (ap (λ i. get_or words i 0) e ∙ (base_at z words role m shape old place is).under) marked.1)
+      (inr now)
+
+  -- A secured join has under its route what it had.
+  pub joined_keeps : AreJoining z words role → (route : ℕ) (p : Place) (key : List ℕ) (attempt : ℕ) → role route ≡ Route p key
+      → IsSecured (set words place.link row) route attempt → AreJoined z (set words place.link row) route attempt
+  joined_keeps joined route p key attempt e now =
+      let before : IsSecured words route attempt = sym (relinked_joins z words role m shape old place is row route) ∙ now in
+      let j = joined.secured route p key attempt e before in let at = route_at z words role m shape route p key e in
+      let left = child_keeps (row_words * route + 1) _ _ at.left j.left.0 (other_link route attempt (row_words * route + 1) before j.left) in
+      let right = child_keeps (row_words * route + 2) _ _ at.right j.right.0 (other_link route attempt (row_words * route + 2) before j.right) in record {
+        left = subst (λ its. IsBaseRow its × IsMarkedFor its route attempt) (sym left) j.left;
+        right = subst (λ its. IsBaseRow its × IsMarkedFor its route attempt) (sym right) j.right;
+        few = let few = j.few in omega (arith, ap count left, ap count right);
+      }
+
+  pub states_keep : AreJoining z words role → (route : ℕ) (p : Place) (key : List ℕ) → role route ≡ Route p key
+      → IsJoinWord (set words place.link row) route
+  states_keep joined route p key e =
+      subst (λ n. n % 4 < 3) (sym (relinked_joins z words role m shape old place is row route)) (joined.states route p key e)
+
+  -- None is under way where none was.
+  pub idle_keeps : AreIdle words role → (route : ℕ) (p : Place) (key : List ℕ) (attempt : ℕ) → role route ≡ Route p key
+      → ¬ IsUnderWay (set words place.link row) route attempt
+  idle_keeps idle route p key attempt e now =
+      idle route p key attempt e (under_way_same words words' route attempt (relinked_joins z words role m shape old place is row route) now)
+
+  -- A seat knows of joins what it knew.
+  pub joining_keeps : (u : TreeView) → ((note : Note) → IsIn note u.notes → IsLinkOfView u note.place.link)
+      → ((note : Note) → IsIn note u.notes → row_at words note.row ≡ note.its) → IsJoining words u.notes u.ways u.ranges.joins
+      → IsJoining (set words place.link row) u.notes u.ways u.ranges.joins
+  joining_keeps u links spell = joining_goes_on words words' u.notes u.ways u.ranges.joins
+      (λ route _. join_same words words' route (relinked_joins z words role m shape old place is row route))
+      (λ note i route of. remembered_route u note.place.link route (links note i) of)
+      (λ note i route attempt of marked now there. relinked_else z words role m shape old place is row note.place.link
+      (λ e. over route attempt (subst (λ c. IsMarkedFor (row_at words c) route attempt)
+      (sym there ∙ (ap (λ k. get_or words k 0) e ∙ (base_at z words role m shape old place is).under))
+      (subst (λ its. IsMarkedFor its route attempt) (sym (spell note i)) marked)) now) ∙ there)
+
+  -- The mark of a base that comes is one that hangs.
+  pub new_hangs : (note : Note) → IsMarkIn words note.place note.its → note.place.link ≡ place.link → note.row ≡ row → (route attempt : ℕ)
+      → IsMarkedFor note.its route attempt → IsHung (set words place.link row) note route attempt
+  new_hangs note marked here same = mark_hangs words' note (relinked_marks z words role m shape old place is row note.place note.its marked)
+      (ap (λ i. get_or words' i 0) here ∙ (relinked_here z words role m shape old place is row ∙ sym same))

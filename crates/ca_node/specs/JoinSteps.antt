@@ -1,0 +1,130 @@
+-- What a pass does with the join of a route: it looks how far it is, begins one, secures it, or gives it up.
+use Rattle.std.specs.Prelude.{◌≡◌, ◌≢◌, ◌==◌, ◌⊎◌, Bool, true, false, ℕ, ◌+◌, ◌*◌, ◌/◌, ◌%◌, ◌<◌, ◌≤◌, cond, List, [], ◌∷◌, ◌++◌}
+use Rattle.atomic_table.specs.Table.{Step}
+use Rattle.ca_rows.specs.Told.{relinked}
+use Rattle.ca_node.specs.declared.join_state.JoinState.{JoinState}
+use Rattle.ca_node.specs.declared.join_state.JoinState.TheVariants as state
+use Rattle.ca_node.specs.Joining.{IsRemembered}
+use Rattle.ca_node.specs.Links.{IsIn}
+use Rattle.ca_node.specs.Row.{IsBaseRow, count, IsMarkedFor}
+use Rattle.ca_node.specs.Told.{MyTree, with_upper}
+use Rattle.ca_node.specs.TreeView.{Note, Attempt, Finished, KnownJoins, TreeView}
+use Rattle.ca_rows.specs.Layout.{row_words}
+
+-- the word that says how far the join of a route is, by its last attempt
+abbrev pub join_place : ℕ → ℕ
+join_place route = row_words * route + 3
+
+-- how far it is, by that word
+abbrev pub join_state : ℕ → JoinState
+join_state word = cond (word % 4 == 1) (state.Prep (word / 4)) (cond (word % 4 == 2) (state.Secured (word / 4)) (state.Idle (word / 4)))
+
+-- an attempt of a route by its number, and the attempts of the route before one
+abbrev pub attempt_of : ℕ → ℕ → Attempt
+attempt_of route number = record { route = route; number = number }
+
+abbrev pub before : ℕ → ℕ → Finished
+before route number = record { route = route; below = number }
+
+-- The attempts that are finished, by that word: all that were begun, but for the last one where it is under way.
+abbrev pub finished_by : ℕ → ℕ → Finished
+finished_by route word = before route (cond (word % 4 == 0) (word / 4 + 1) (word / 4))
+
+-- the attempt that is secured, by that word
+abbrev pub secured_by : ℕ → ℕ → List Attempt
+secured_by route word = cond (word % 4 == 2) (attempt_of route (word / 4) ∷ []) []
+
+abbrev pub with_joins : TreeView → KnownJoins → TreeView
+with_joins u joins = record u { ranges = record u.ranges { joins = joins } }
+
+-- what a seat knows of joins that loaded that word
+abbrev pub joins_loaded : ℕ → ℕ → KnownJoins → KnownJoins
+joins_loaded route word joins = record {
+  begun = attempt_of route (word / 4) ∷ joins.begun;
+  finished = finished_by route word ∷ joins.finished;
+  secured = secured_by route word ++ joins.secured;
+  decided = joins.decided;
+}
+
+-- The join word of a route was loaded. Each attempt of the route that marked a base which was shown, or is known to be begun, was begun; one that is known to
+-- be finished isn't under way, one that is known to be decided isn't prepared, and one that is known to be secured is.
+pub record HasLoadedJoin (route : ℕ) (m : MyTree) (n : ℕ) (m' : MyTree) : Type 0 where
+  pub now : m' ≡ with_upper m (with_joins m.0.upper (joins_loaded route n m.0.upper.ranges.joins))
+  pub state_is : n % 4 < 3
+  pub marked : (note : Note) → IsIn note m.0.upper.notes → (attempt : ℕ) → IsMarkedFor note.its route attempt → attempt ≤ n / 4
+  pub begun : (x : Attempt) → IsIn x m.0.upper.ranges.joins.begun → x.route ≡ route → x.number ≤ n / 4
+  pub finished : (x : Finished) → IsIn x m.0.upper.ranges.joins.finished → x.route ≡ route → n % 4 ≢ 0 → x.below ≤ n / 4
+  pub decided : (x : Attempt) → IsIn x m.0.upper.ranges.joins.decided → x.route ≡ route → n ≢ 4 * x.number + 1
+  pub secured : (x : Attempt) → IsIn x m.0.upper.ranges.joins.secured → x.route ≡ route → n ≡ 4 * x.number + 2
+
+abbrev pub LoadsJoin : Step (Unit {0}) → MyTree → ℕ → MyTree → Type 0
+LoadsJoin st m n m' = (route : ℕ) × (st.word ≡ join_place route) × HasLoadedJoin route m n m'
+
+-- what a seat knows of joins that began an attempt: those before are finished
+abbrev pub joins_begun : Attempt → KnownJoins → KnownJoins
+joins_begun x joins = record joins { begun = x ∷ joins.begun; finished = before x.route x.number ∷ joins.finished }
+
+-- what one knows that secured an attempt
+abbrev pub joins_secured : Attempt → KnownJoins → KnownJoins
+joins_secured x joins = record joins { secured = x ∷ joins.secured }
+
+-- what one knows that gave one up, and what one knows that came too late to give it up
+abbrev pub joins_aborted : Attempt → KnownJoins → KnownJoins
+joins_aborted x joins = record joins { finished = before x.route (x.number + 1) ∷ joins.finished }
+
+abbrev pub joins_too_late : Attempt → KnownJoins → KnownJoins
+joins_too_late x joins = record joins { decided = x ∷ joins.decided }
+
+-- The seat may secure an attempt: it is pinned, and was shown the two bases under the route, which this attempt marked. Together they have no more items than
+-- a leaf may have.
+pub record IsSecuring (leaf : ℕ) (m : MyTree) (x : Attempt) (left right : Note) : Type 0 where
+  pub is_pinned : m.0.pin.pinned ≡ true
+  pub remembered : IsRemembered m.0.upper.ways x.route
+  pub left_shown : IsIn left m.0.upper.notes
+  pub left_base : IsBaseRow left.its
+  pub left_marked : IsMarkedFor left.its x.route x.number
+  pub left_link : left.place.link ≡ row_words * x.route + 1
+  pub right_shown : IsIn right m.0.upper.notes
+  pub right_base : IsBaseRow right.its
+  pub right_marked : IsMarkedFor right.its x.route x.number
+  pub right_link : right.place.link ≡ row_words * x.route + 2
+  pub few : count left.its + count right.its ≤ leaf
+
+-- The join word was exchanged, from this attempt prepared to it secured; or it wasn't prepared any more.
+abbrev pub SecuresJoin : Attempt → Step (Unit {0}) → MyTree → ℕ → MyTree → Type 0
+SecuresJoin x st m n m' = (n ≡ st.first → m' ≡ relinked m m.0.claims (with_joins m.0.upper (joins_secured x m.0.upper.ranges.joins)))
+    × (n ≢ st.first → m' ≡ with_upper m (with_joins m.0.upper (joins_too_late x m.0.upper.ranges.joins)))
+
+abbrev pub HasSecured : Bool → Attempt → MyTree → MyTree → Type 0
+HasSecured true x m m' = m' ≡ relinked m m.0.claims (with_joins m.0.upper (joins_secured x m.0.upper.ranges.joins))
+HasSecured false x m m' = m' ≡ with_upper m (with_joins m.0.upper (joins_too_late x m.0.upper.ranges.joins))
+
+-- The seat may give an attempt up, be it its own or another pass's: it is pinned, remembers the route, and knows that it was begun.
+pub record IsAborting (m : MyTree) (x : Attempt) : Type 0 where
+  pub is_pinned : m.0.pin.pinned ≡ true
+  pub remembered : IsRemembered m.0.upper.ways x.route
+  pub begun : IsIn x m.0.upper.ranges.joins.begun
+
+-- The join word was exchanged, and the attempt is finished; or it wasn't prepared any more.
+abbrev pub AbortsJoin : Attempt → Step (Unit {0}) → MyTree → ℕ → MyTree → Type 0
+AbortsJoin x st m n m' = (n ≡ st.first → m' ≡ relinked m m.0.claims (with_joins m.0.upper (joins_aborted x m.0.upper.ranges.joins)))
+    × (n ≢ st.first → m' ≡ with_upper m (with_joins m.0.upper (joins_too_late x m.0.upper.ranges.joins)))
+
+abbrev pub HasAbortedJoin : Bool → Attempt → MyTree → MyTree → Type 0
+HasAbortedJoin true x m m' = m' ≡ relinked m m.0.claims (with_joins m.0.upper (joins_aborted x m.0.upper.ranges.joins))
+HasAbortedJoin false x m m' = m' ≡ with_upper m (with_joins m.0.upper (joins_too_late x m.0.upper.ranges.joins))
+
+-- The exchange is of the join word of this attempt's route, and expects the attempt prepared.
+abbrev pub IsJoinStep : Attempt → Step (Unit {0}) → Type 0
+IsJoinStep x st = (st.word ≡ join_place x.route) × (st.first ≡ 4 * x.number + 1)
+
+-- It is about some attempt.
+abbrev pub SecuresSome : Step (Unit {0}) → MyTree → ℕ → MyTree → Type 0
+SecuresSome st m n m' = (x : Attempt) × IsJoinStep x st × SecuresJoin x st m n m'
+
+abbrev pub AbortsSome : Step (Unit {0}) → MyTree → ℕ → MyTree → Type 0
+AbortsSome st m n m' = (x : Attempt) × IsJoinStep x st × AbortsJoin x st m n m'
+
+-- All that an exchange of the join word of a route may tell.
+abbrev pub SwapsJoin : Step (Unit {0}) → MyTree → ℕ → MyTree → Type 0
+SwapsJoin st m n m' = SecuresSome st m n m' ⊎ AbortsSome st m n m'
