@@ -5,7 +5,7 @@ use crate::say::{say, say_term, say_value};
 use ca_match::match_result;
 use ca_order::{Code, encode};
 use ca_plan::{Plan, plan};
-use ca_spec::{Spec, apply, apply_code, compile};
+use ca_spec::{Spec, apply, apply_code, chooses, compile};
 use ca_term::{Term, term_order};
 use std::alloc::{AllocError, Global};
 
@@ -28,7 +28,7 @@ fn say_result(found: Result<Option<Term>, AllocError>, into: &mut Vec<u8>) {
     }
 }
 
-/// What a compiled specification makes of an object, and what it makes of the object's code, where that differs.
+/// What a compiled specification makes of an object, and what it makes and tells of the object's code, where that differs.
 pub(crate) fn say_applied(alloc: Global, spec: &Term, object: &Term, into: &mut Vec<u8>) {
     match compile(alloc, spec) {
         Ok(spec) => say_both(alloc, &spec, object, into),
@@ -39,18 +39,29 @@ pub(crate) fn say_applied(alloc: Global, spec: &Term, object: &Term, into: &mut 
 fn say_both(alloc: Global, spec: &Spec, object: &Term, into: &mut Vec<u8>) {
     let found = apply(alloc, spec, object);
     let mut code = Code::new();
-    let by_code = match encode(object, &mut code) {
-        Ok(()) => {
-            let _kind = object.kind();
-            apply_code(alloc, spec, code.as_slice())
-        }
-        Err(_) => apply(alloc, spec, object),
+    let _kind = object.kind();
+    let Ok(()) = encode(object, &mut code) else {
+        return say_result(found, into);
     };
+    let by_code = apply_code(alloc, spec, code.as_slice());
+    let chosen = chooses(alloc, spec, code.as_slice());
     let differs = !is_same(&found, &by_code);
+    let told_otherwise = !tells(&found, chosen);
     say_result(found, into);
     if differs {
         say(b", and by its code ", into);
         say_result(by_code, into);
+    }
+    if told_otherwise {
+        say(b", and it is told otherwise whether there is one", into);
+    }
+}
+
+// Whether it is told of a result whether it is one.
+fn tells(found: &Result<Option<Term>, AllocError>, chosen: Result<bool, AllocError>) -> bool {
+    match (found, chosen) {
+        (Ok(found), Ok(chosen)) => found.is_some() == chosen,
+        _ => false,
     }
 }
 

@@ -42,7 +42,7 @@ tagged (Cons head tail) b x e = let p = first_same b 0x70 x (code_of head ++ cod
 tagged (Binary bytes) b x e = let p = first_same b 0x80 x (escaped bytes) e in is_binary bytes p.0 p.1
 
 -- the first bytes of a kind
-abbrev IsOfKind : Tree → ℕ → Type 0
+abbrev pub IsOfKind : Tree → ℕ → Type 0
 IsOfKind (Integer (pos n)) b = (0x20 ≤ b) × (b ≤ 0x28)
 IsOfKind (Integer (negsuc m)) b = (0x17 ≤ b) × (b ≤ 0x1f)
 IsOfKind (Atom text) b = b ≡ 0x30

@@ -17,6 +17,7 @@ pub mod NewNumbers
 pub mod Operations
 pub mod Parts
 pub mod Put
+pub mod Ranks
 pub mod ReadNumbers
 pub mod Replaced
 pub mod Sizes

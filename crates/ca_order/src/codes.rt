@@ -8,7 +8,7 @@ ghost use Rattle.ca_order.specs.Codes.{AreCodes, AreCodes-prop, IsTermCode-prop}
 use crate::fault::DecodeFault;
 use crate::object::{skip_one, split_size};
 use crate::reading::decode;
-use crate::tags::{CONS, TUPLE};
+use crate::tags::{ATOM, CONS, NIL, TUPLE};
 use ca_term::Term;
 use std::alloc::{AllocError, Global};
 use std::cmp::Ordering;
@@ -96,7 +96,7 @@ impl<'a> Part<'a> {
     ghost use Rattle.std.specs.Prelude.{◌≡◌, IfOk};
     ghost use Rattle.std.specs.Ordering.{is_eq};
     ghost use Rattle.ca_term.specs.Tree.{Tree, IsTerm};
-    ghost use Rattle.ca_term.specs.Order.{term_cmp};
+    ghost use Rattle.ca_term.specs.Order.{rank, term_cmp};
     ghost use Rattle.ca_term.specs.Code.{code_of};
     ghost use Rattle.ca_order.specs.CodesView.{tree_of};
 
@@ -120,6 +120,24 @@ impl<'a> Part<'a> {
         };
         let _kind = term.kind();
         Ok(term)
+    }
+
+    /// The place of its term's kind in the order of kinds: number, atom, tuple, empty list, list cell, binary, from 0 on.
+    #[inline(always)]
+    pub fn rank(self) -> u8
+        ensures { result ≡ rank (tree_of self.entry) }
+    {
+        let Some((tag, _)) = self.bytes.split_first() else {
+            unreachable!()
+        };
+        match *tag {
+            0x17..=0x28 => 0,
+            ATOM => 1,
+            TUPLE => 2,
+            NIL => 3,
+            CONS => 4,
+            _ => 5,
+        }
     }
 
     /// Whether both are codes of equal terms: whether the bytes are equal.

@@ -46,8 +46,26 @@ holds head guards body object b c r p e f n g q =
     ap (λ (x : Bool). if x then value (scene object c) body else None) (sym q ∙ g)
     ∙ ap (λ (x : Bool). on object guards (Cons body Nil) (if x then Some c else None)) (sym n) ∙ bound_result head guards body object b c r e f
 
+-- A clause whose head fits has as its result what its body is, where its guards hold.
+pub fits : (head guards body object : Tree) (b c : Bindings) (r : Bool) (v : Option Tree) → b ≡ no_bindings
+    → bind head object b ≡ (if r then Some c else None) → r ≡ true → v ≡ guarded (record { object = object; bindings = c }) guards (Cons body Nil)
+    → v ≡ clause_result (Tuple (More head (More guards (More (Cons body Nil) Ends)))) object
+fits head guards body object b c r v e f n g =
+    g ∙ ap (λ (x : Bool). on object guards (Cons body Nil) (if x then Some c else None)) (sym n) ∙ bound_result head guards body object b c r e f
+
 -- The result of a clause, by whether its head fits and its guards hold.
 pub ruleset clause_results = (no_fit, no_pass, holds)
+
+-- Where a guard isn't true, a body comes to nothing.
+pub not_guarded : (s : Scene) (guards body : Tree) (p : Bool) → p ≡ pass s guards → p ≡ false → None ≡ guarded s guards (Cons body Nil)
+not_guarded s guards body p g q = ap (λ (x : Bool). if x then value s body else None) (sym q ∙ g)
+
+-- Where the guards hold, it comes to its value.
+pub is_guarded : (s : Scene) (guards body : Tree) (p : Bool) → p ≡ pass s guards → p ≡ true → value s body ≡ guarded s guards (Cons body Nil)
+is_guarded s guards body p g q = ap (λ (x : Bool). if x then value s body else None) (sym q ∙ g)
+
+-- What a body comes to, by whether the guards hold.
+pub ruleset guarded_results = (not_guarded, is_guarded)
 
 -- ---- clauses
 

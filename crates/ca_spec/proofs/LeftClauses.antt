@@ -1,11 +1,13 @@
 -- Results of clauses that are passed over one after the other.
-use Rattle.std.proofs.Common.{◌≡◌, List, [], ◌∷◌, length, Option, Some, None, refl, ap, sym, ◌∙◌, subst, arith, inr}
+use Rattle.std.proofs.Common.{◌≡◌, Bool, true, false, List, [], ◌∷◌, length, Option, Some, None, Result, refl, ap, sym, ◌∙◌, subst, arith, inl, inr}
+use Rattle.std.specs.Prelude.{OnErr, is_some}
 use Rattle.std.specs.Option.{option_or}
 use Rattle.ca_term.specs.Tree.{Tree, Nil, list_of}
 use Rattle.ca_match.specs.Match.{clause_result, result_of}
 use Rattle.ca_spec.specs.ClauseView.{tree_of_clause, trees_of_clauses}
-use Rattle.ca_spec.specs.Reached.{SomeMayFit}
+use Rattle.ca_spec.specs.Reached.{MayFit, SomeMayFit}
 use Rattle.ca_spec.specs.declared.clause.Clause.{Clause}
+use Rattle.ca_spec.proofs.Reaching.{on_err}
 
 -- The result that clauses give.
 abbrev pub result_by : List Clause → Tree → Option Tree
@@ -64,8 +66,43 @@ pub first_fails : (clause : Clause) (others : List Clause) (object : Tree) (r : 
 first_fails clause others object r n e =
     e ∙ ap (λ (x : Option Tree). option_or x (result_by others object)) n ∙ sym (first clause others object)
 
+-- ---- whether one holds
+
+-- Where the first one that is left holds, there is a result.
+pub left_holds : (clauses left others : List Clause) (clause : Clause) (object : Tree) (h : Bool) → IsLeft clauses left object → left ≡ clause ∷ others
+    → h ≡ is_some (clause_result (tree_of_clause clause) object) → h ≡ true → true ≡ is_some (result_by clauses object)
+left_holds clauses left others clause object h l e k t =
+    by (clause_result (tree_of_clause clause) object) (sym t ∙ k)
+    ∙ ap is_some (sym (l.same ∙ ap (λ (x : List Clause). result_by x object) e ∙ first clause others object))
+  where
+    by : (r : Option Tree) → true ≡ is_some r → true ≡ is_some (option_or r (result_by others object))
+    by None n = cc
+    by (Some v) n = refl
+
+-- Where it doesn't, those behind it are left.
+pub left_fails : (clauses left others : List Clause) (clause : Clause) (object : Tree) (h : Bool) → IsLeft clauses left object → left ≡ clause ∷ others
+    → h ≡ is_some (clause_result (tree_of_clause clause) object) → h ≡ false → IsLeft clauses others object
+left_fails clauses left others clause object h l e k f =
+    left_behind clauses left others clause object l e (none (clause_result (tree_of_clause clause) object) (sym f ∙ k))
+  where
+    none : (r : Option Tree) → false ≡ is_some r → r ≡ None
+    none None n = refl
+    none (Some v) n = cc
+
+-- Where none is left there is none.
+pub left_no_more : (clauses left : List Clause) (object : Tree) → IsLeft clauses left object → length left ≡ 0 → false ≡ is_some (result_by clauses object)
+left_no_more clauses left object l e = ap is_some (left_none clauses left object l e)
+
+-- Where memory lacked for the first one that is left, its head may fit.
+pub left_lacks : {T E : Type 0} (r : Result T E) (clauses left others : List Clause) (clause : Clause) (object : Tree) → IsLeft clauses left object
+    → left ≡ clause ∷ others → MayFit clause.head object → OnErr r (MayFitBy clauses object)
+left_lacks r clauses left others clause object l e m = on_err r _ (left_lack clauses left others clause object l e (inl m))
+
 -- Clauses that are passed over.
 pub ruleset left_clauses = (left_all, left_behind, left_none)
 
 -- The first clause and those behind it.
 pub ruleset first_clause = (first_holds, first_fails)
+
+-- Clauses of which it is asked whether one holds.
+pub ruleset holding_clauses = (left_all, left_holds, left_fails, left_no_more, left_lacks)

@@ -1,11 +1,12 @@
 -- Tables of parts of a code, and the bindings that they hold.
-use Rattle.std.proofs.Common.{◌≡◌, ℕ, zero, suc, ◌≤◌, ◌<◌, ◌-◌, List, [], ◌∷◌, ◌++◌, length, set, get_or, map, replicate, Option, Some, None, refl, ap, sym, ◌∙◌, arith}
+use Rattle.std.proofs.Common.{◌≡◌, ℕ, zero, suc, ◌≤◌, ◌<◌, ◌+◌, ◌-◌, List, [], ◌∷◌, ◌++◌, length, set, get_or, map, replicate, Option, Some, None, refl, ap, sym, ◌∙◌, arith}
 use Rattle.std.proofs.lemmas.List.{length-set}
-use Rattle.ca_term.specs.Tree.{Tree}
-use Rattle.ca_match.specs.Match.{Bindings, bind_variable, bound, where_equal}
+use Rattle.ca_term.specs.Tree.{Nil, Tree, list_of}
+use Rattle.ca_match.specs.Match.{Bindings, all_bound, bind_variable, bound, where_equal}
 use Rattle.ca_order.specs.declared.codes.Part.{Part}
 use Rattle.ca_order.specs.CodesView.{tree_of}
 use Rattle.ca_spec.specs.PartBound.{first, part_at, parts_of}
+use Rattle.ca_spec.proofs.BoundInOrder.{all_gathered, none_more, one_more, terms_from}
 
 abbrev Table : Type 0
 Table = List (Option Part)
@@ -64,3 +65,27 @@ behind_front (x ∷ xs) m (suc n) h = behind_front xs m n (omega arith)
 -- Nothing is bound behind the last place.
 pub none_behind : (table : List (Option Part)) (n : ℕ) → length table ≤ n → bound (parts_of table) n ≡ None
 none_behind table n h = behind_front table (100 - length table) n h
+
+-- ---- what is bound
+
+-- The terms that are bound from a place on.
+abbrev pub parts_from : List (Option Part) → ℕ → List Tree
+parts_from table k = terms_from part_at table k
+
+-- A place with a part adds that part's term to what is bound.
+pub one_part : (table : List (Option Part)) (k : ℕ) (d : Option Part) (part : Part) (ts all : List Tree) → k < length table
+    → all ≡ ts ++ parts_from table k → get_or table k d ≡ Some part → all ≡ (ts ++ tree_of part ∷ []) ++ parts_from table (k + 1)
+one_part table k d part ts all h a e = one_more part_at table k d (tree_of part) ts all h a (ap part_at e)
+
+-- An empty place adds nothing to what is bound.
+pub no_part : (table : List (Option Part)) (k : ℕ) (d : Option Part) (ts all : List Tree) → k < length table
+    → all ≡ ts ++ parts_from table k → get_or table k d ≡ None → all ≡ ts ++ parts_from table (k + 1)
+no_part table k d ts all h a e = none_more part_at table k d ts all h a (ap part_at e)
+
+-- Behind the last place all that is bound was gathered.
+pub all_parts : (table : List (Option Part)) (k : ℕ) (ts : List Tree) → length table ≤ k → parts_from table 0 ≡ ts ++ parts_from table k
+    → list_of ts Nil ≡ all_bound (parts_of table)
+all_parts table k ts h a = all_gathered part_at table k ts h a
+
+-- Going over the places in order gathers what is bound in the order of the numbers.
+pub ruleset part_table = (one_part, no_part, all_parts)

@@ -1,11 +1,11 @@
 -- Tables of places, and the bindings that they hold.
-use Rattle.std.proofs.Common.{◌≡◌, ℕ, zero, suc, ◌≤◌, ◌<◌, ◌+◌, ◌-◌, List, [], ◌∷◌, ◌++◌, length, set, get_or, map, replicate, Option, Some, None, Bor, drop, add-one, drop-cons, append_assoc, append-nil, refl, ap, sym, ◌∙◌, arith}
-use Rattle.std.proofs.lemmas.List.{drop_all, length-set}
-use Rattle.std.specs.Prelude.{filter_map}
+use Rattle.std.proofs.Common.{◌≡◌, ℕ, zero, suc, ◌≤◌, ◌<◌, ◌+◌, ◌-◌, List, [], ◌∷◌, ◌++◌, length, set, get_or, map, replicate, Option, Some, None, Bor, refl, ap, sym, ◌∙◌, arith}
+use Rattle.std.proofs.lemmas.List.{length-set}
 use Rattle.ca_term.specs.Tree.{Nil, list_of}
 use Rattle.ca_term.specs.Tree.{Tree}
 use Rattle.ca_match.specs.Match.{Bindings, all_bound, bind_variable, bound, where_equal}
 use Rattle.ca_spec.specs.Bound.{bound_at, table_of}
+use Rattle.ca_spec.proofs.BoundInOrder.{all_gathered, none_more, one_more, terms_from}
 
 abbrev Table : Type 0
 Table = List (Option (Bor Tree))
@@ -63,39 +63,22 @@ none_behind table n h = behind_front table (100 - length table) n h
 
 -- The terms that are bound from a place on.
 abbrev pub bound_from : List (Option (Bor Tree)) → ℕ → List Tree
-bound_from table k = filter_map (λ b. b) (map bound_at (drop k table) ++ replicate (100 - length table) None)
-
-bound_head : (table : Table) (k : ℕ) (d : Option (Bor Tree)) → k < length table
-    → bound_from table k ≡ filter_map (λ b. b) (bound_at (get_or table k d) ∷ (map bound_at (drop (k + 1) table) ++ replicate (100 - length table) None))
-bound_head table k d h = rw (add-one, drop-cons table k d) refl
+bound_from table k = terms_from bound_at table k
 
 -- A place with a term adds that term to what is bound.
 pub one_bound : (table : List (Option (Bor Tree))) (k : ℕ) (d : Option (Bor Tree)) (t : Bor Tree) (ts all : List Tree) → k < length table
     → all ≡ ts ++ bound_from table k → get_or table k d ≡ Some t → all ≡ (ts ++ t.now ∷ []) ++ bound_from table (k + 1)
-one_bound table k d t ts all h a e =
-    a ∙ ap (λ (x : List Tree). ts ++ x) (bound_head table k d h
-    ∙ ap (λ (x : Option (Bor Tree)). filter_map (λ b. b) (bound_at x ∷ (map bound_at (drop (k + 1) table) ++ replicate (100 - length table) None))) e)
-    ∙ sym (append_assoc ts (t.now ∷ []) (bound_from table (k + 1)))
+one_bound table k d t ts all h a e = one_more bound_at table k d t.now ts all h a (ap bound_at e)
 
 -- An empty place adds nothing to what is bound.
 pub not_bound : (table : List (Option (Bor Tree))) (k : ℕ) (d : Option (Bor Tree)) (ts all : List Tree) → k < length table
     → all ≡ ts ++ bound_from table k → get_or table k d ≡ None → all ≡ ts ++ bound_from table (k + 1)
-not_bound table k d ts all h a e =
-    a ∙ ap (λ (x : List Tree). ts ++ x) (bound_head table k d h
-    ∙ ap (λ (x : Option (Bor Tree)). filter_map (λ b. b) (bound_at x ∷ (map bound_at (drop (k + 1) table) ++ replicate (100 - length table) None))) e)
-
-nothing : (m : ℕ) → filter_map (λ (b : Option Tree). b) (replicate m None) ≡ []
-nothing zero = refl
-nothing (suc m) = nothing m
-
-bound_end : (table : Table) (k : ℕ) → length table ≤ k → bound_from table k ≡ []
-bound_end table k h = rw (drop_all k table h) (nothing (100 - length table))
+not_bound table k d ts all h a e = none_more bound_at table k d ts all h a (ap bound_at e)
 
 -- Behind the last place all that is bound was gathered.
 pub all_are_bound : (table : List (Option (Bor Tree))) (k : ℕ) (ts : List Tree) → length table ≤ k → bound_from table 0 ≡ ts ++ bound_from table k
     → list_of ts Nil ≡ all_bound (table_of table)
-all_are_bound table k ts h a =
-    ap (λ (x : List Tree). list_of x Nil) (sym (a ∙ ap (λ (x : List Tree). ts ++ x) (bound_end table k h) ∙ append-nil ts))
+all_are_bound table k ts h a = all_gathered bound_at table k ts h a
 
 -- Going over the places in order gathers what is bound in the order of the numbers.
 pub ruleset bound_table = (one_bound, not_bound, all_are_bound)

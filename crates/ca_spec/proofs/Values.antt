@@ -223,14 +223,6 @@ guards_end s guards k all h a = a ∙ (rw (drop_all k guards h) refl)
 
 -- ---- exits
 
--- What is bound to a variable is its value.
-pub variable_some : (s : Scene) (e t : Tree) (n : ℕ) → n < 100 → Atom (variable_name n) ≡ e → Some t ≡ bound s.bindings n → Some t ≡ value s e
-variable_some s e t n h f b = b ∙ variable_value s e n h f
-
--- A variable that nothing is bound to has no value.
-pub variable_none : (s : Scene) (e : Tree) (n : ℕ) → n < 100 → Atom (variable_name n) ≡ e → None ≡ bound s.bindings n → None ≡ value s e
-variable_none s e n h f b = b ∙ variable_value s e n h f
-
 -- What `andalso` or `orelse` makes of the values of its arguments is its value.
 pub short_is_value : (s : Scene) (e : Tree) (operator : Code) (stop : Bool) (a b : Tree)
     → Tuple (More (Atom (name_of operator)) (More a (More b Ends))) ≡ e → Some stop ≡ stop_of (meaning_of operator)

@@ -4,6 +4,7 @@ pub mod ConstantView
 pub mod ExpressionFalls
 pub mod ExpressionView
 pub mod Faults
+pub mod FittedView
 pub mod Held
 pub mod PartBound
 pub mod Parts

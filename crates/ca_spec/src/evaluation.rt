@@ -1,46 +1,43 @@
 //! Values of expressions.
 ghost use Rattle.std.specs.Prelude.{◌≡◌, [], ◌∷◌, ◌++◌, ◌<◌, IfOk, OnOk, None, Some, length, option_and_then, option_map};
 ghost use Rattle.ca_term.specs.Tree.{Nil, list_of, row_of};
-ghost use Rattle.ca_match.specs.Match.{all_bound, all_values, bound, is_truth, pass, tuple_of, value, values, within};
+ghost use Rattle.ca_match.specs.Match.{all_bound, all_values, is_truth, pass, tuple_of, value, values, within};
 ghost use Rattle.ca_match.specs.OperatorView.{meaning_of, stop_of};
 ghost use Rattle.ca_match.specs.Operators.{Short, applied, truth, truth_of};
 ghost use Rattle.ca_match.specs.ValueView.{tree_of_value};
-ghost use Rattle.ca_spec.specs.Bound.{scene_of, table_of};
+ghost use Rattle.ca_spec.specs.FittedView.{scene_at};
 
 use crate::expression::{Expression, Form};
-use ca_match::{Operator, Value, push, push_copy, truth, truth_value};
+use crate::fitted::{Fitted, all_variables, variable, whole};
+use ca_match::{Operator, Value, push, truth, truth_value};
 use ca_term::{Term, TermFault, Terms, list, nil, tuple};
 use std::alloc::{AllocError, Global};
 
 // A value, where the expression doesn't fail, or want of memory.
 pub(crate) type Evaluated<'a> = Result<Option<Value<'a>>, AllocError>;
 
-// The value of an expression for an object with these bindings.
+// The value of an expression for an object that the head fits.
 #[cycle(value)]
 #[tactic(auto, using(crate::proofs::Values::expression_values))]
 pub(crate) fn value<'a>(
     alloc: Global,
     expression: &'a Expression,
-    object: &'a Term,
-    table: &[Option<&'a Term>],
+    fitted: &Fitted<'a, '_>,
 ) -> Evaluated<'a>
-    ensures { IfOk result (λ v. option_map tree_of_value v ≡ value (scene_of object.now table.now) expression.now) }
+    ensures { IfOk result (λ v. option_map tree_of_value v ≡ value (scene_at fitted.now) expression.now) }
 {
     match &expression.form {
-        Form::Variable(number) => match bound(*number as usize, table) {
-            Some(term) => Ok(Some(Value::Lent(term))),
-            None => Ok(None),
-        },
-        Form::Whole => Ok(Some(Value::Lent(object))),
-        Form::AllBound => all_bound(alloc, table),
+        Form::Variable(number) => variable(alloc, *number as usize, fitted),
+        Form::Whole => Ok(Some(whole(alloc, fitted)?)),
+        Form::AllBound => all_bound(alloc, fitted),
         Form::Literal(term) => Ok(Some(Value::Lent(term.term()))),
         Form::Constant(term) => Ok(Some(Value::Lent(term.term()))),
-        Form::Tuple(parts) => tuple_value(alloc, parts.as_slice(), object, table),
-        Form::List(heads, tail) => list_value(alloc, heads.as_slice(), tail, object, table),
-        Form::One(operator, a) => value_of_one(alloc, *operator, a, object, table),
+        Form::Tuple(parts) => tuple_value(alloc, parts.as_slice(), fitted),
+        Form::List(heads, tail) => list_value(alloc, heads.as_slice(), tail, fitted),
+        Form::One(operator, a) => value_of_one(alloc, *operator, a, fitted),
         Form::Two(operator, a, b) => match operator.stop() {
-            Some(stop) => short_value(alloc, stop, a, b, object, table),
-            None => value_of_two(alloc, *operator, a, b, object, table),
+            Some(stop) => short_value(alloc, stop, a, b, fitted),
+            None => value_of_two(alloc, *operator, a, b, fitted),
         },
     }
 }
@@ -52,49 +49,22 @@ fn value_of_one<'a>(
     alloc: Global,
     operator: Operator,
     a: &'a Expression,
-    object: &'a Term,
-    table: &[Option<&'a Term>],
+    fitted: &Fitted<'a, '_>,
 ) -> Evaluated<'a>
-    ensures { let scene = scene_of object.now table.now in
+    ensures { let scene = scene_at fitted.now in
         IfOk result (λ v. option_map tree_of_value v ≡ applied (meaning_of operator) (value scene a.now ∷ [])) }
 {
-    let Some(a) = value(alloc, a, object, table)? else {
+    let Some(a) = value(alloc, a, fitted)? else {
         return Ok(None);
     };
     operator.value_of_one(alloc, a)
 }
 
-// What is bound to a variable.
-#[tactic(auto, using(crate::proofs::Tables::bound_in, crate::proofs::Tables::none_behind))]
-fn bound<'a>(number: usize, table: &[Option<&'a Term>]) -> Option<&'a Term>
-    ensures { option_map (λ term. term.now) result ≡ bound (table_of table.now) number }
-{
-    if number < table.len() {
-        table[number]
-    } else {
-        None
-    }
-}
-
 // The list of what is bound.
-fn all_bound<'a>(alloc: Global, table: &[Option<&'a Term>]) -> Evaluated<'a>
-    ensures { IfOk result (λ v. option_map tree_of_value v ≡ within (all_bound (table_of table.now))) }
+fn all_bound<'a>(alloc: Global, fitted: &Fitted<'_, '_>) -> Evaluated<'a>
+    ensures { IfOk result (λ v. option_map tree_of_value v ≡ within (all_bound (scene_at fitted.now).bindings)) }
 {
-    listed(alloc, bound_terms(alloc, table)?, nil())
-}
-
-// Copies of what is bound, in the order of the variables' numbers.
-#[tactic(auto, using(crate::proofs::Tables::bound_table))]
-fn bound_terms(alloc: Global, table: &[Option<&Term>]) -> Result<Terms, AllocError>
-    ensures { IfOk result (λ terms. list_of terms.items Nil ≡ all_bound (table_of table.now)) }
-{
-    let mut terms = Terms::new(alloc);
-    for place in table {
-        if let Some(term) = place {
-            push_copy(alloc, &mut terms, term)?;
-        }
-    }
-    Ok(terms)
+    listed(alloc, all_variables(alloc, fitted)?, nil())
 }
 
 // The list of these terms with this tail, unless it is too deep.
@@ -112,15 +82,10 @@ fn listed<'a>(alloc: Global, items: Terms, tail: Term) -> Evaluated<'a>
 // The tuple of values. An expression has no more elements than a tuple may have, so `tuple` refuses none as too wide.
 #[cycle(value)]
 #[tactic(auto, using(crate::proofs::Built::tuples_built))]
-fn tuple_value<'a>(
-    alloc: Global,
-    parts: &'a [Expression],
-    object: &'a Term,
-    table: &[Option<&'a Term>],
-) -> Evaluated<'a>
-    ensures { IfOk result (λ v. option_map tree_of_value v ≡ tuple_of (values (scene_of object.now table.now) (row_of parts.now))) }
+fn tuple_value<'a>(alloc: Global, parts: &'a [Expression], fitted: &Fitted<'a, '_>) -> Evaluated<'a>
+    ensures { IfOk result (λ v. option_map tree_of_value v ≡ tuple_of (values (scene_at fitted.now) (row_of parts.now))) }
 {
-    let Some(items) = terms(alloc, parts, object, table)? else {
+    let Some(items) = terms(alloc, parts, fitted)? else {
         return Ok(None);
     };
     match tuple(items) {
@@ -137,16 +102,15 @@ fn list_value<'a>(
     alloc: Global,
     heads: &'a [Expression],
     tail: &'a Expression,
-    object: &'a Term,
-    table: &[Option<&'a Term>],
+    fitted: &Fitted<'a, '_>,
 ) -> Evaluated<'a>
     requires { 0 < length heads.now }
-    ensures { IfOk result (λ v. option_map tree_of_value v ≡ value (scene_of object.now table.now) (list_of heads.now tail.now)) }
+    ensures { IfOk result (λ v. option_map tree_of_value v ≡ value (scene_at fitted.now) (list_of heads.now tail.now)) }
 {
-    let Some(items) = terms(alloc, heads, object, table)? else {
+    let Some(items) = terms(alloc, heads, fitted)? else {
         return Ok(None);
     };
-    match value(alloc, tail, object, table)? {
+    match value(alloc, tail, fitted)? {
         Some(tail) => listed(alloc, items, tail.into_term(alloc)?),
         None => Ok(None),
     }
@@ -158,14 +122,13 @@ fn list_value<'a>(
 fn terms<'a>(
     alloc: Global,
     parts: &'a [Expression],
-    object: &'a Term,
-    table: &[Option<&'a Term>],
+    fitted: &Fitted<'a, '_>,
 ) -> Result<Option<Terms>, AllocError>
-    ensures { IfOk result (λ terms. option_map (λ ts. ts.items) terms ≡ all_values (values (scene_of object.now table.now) (row_of parts.now))) }
+    ensures { IfOk result (λ terms. option_map (λ ts. ts.items) terms ≡ all_values (values (scene_at fitted.now) (row_of parts.now))) }
 {
     let mut terms = Terms::new(alloc);
     for part in parts {
-        let Some(value) = value(alloc, part, object, table)? else {
+        let Some(value) = value(alloc, part, fitted)? else {
             return Ok(None);
         };
         push(&mut terms, value.into_term(alloc)?)?;
@@ -181,17 +144,16 @@ fn value_of_two<'a>(
     operator: Operator,
     a: &'a Expression,
     b: &'a Expression,
-    object: &'a Term,
-    table: &[Option<&'a Term>],
+    fitted: &Fitted<'a, '_>,
 ) -> Evaluated<'a>
     requires { stop_of (meaning_of operator) ≡ None }
-    ensures { let scene = scene_of object.now table.now in
+    ensures { let scene = scene_at fitted.now in
         IfOk result (λ v. option_map tree_of_value v ≡ applied (meaning_of operator) (value scene a.now ∷ value scene b.now ∷ [])) }
 {
-    let Some(a) = value(alloc, a, object, table)? else {
+    let Some(a) = value(alloc, a, fitted)? else {
         return Ok(None);
     };
-    let Some(b) = value(alloc, b, object, table)? else {
+    let Some(b) = value(alloc, b, fitted)? else {
         return Ok(None);
     };
     operator.value_of_two(alloc, a, b)
@@ -205,18 +167,17 @@ fn short_value<'a>(
     stop: bool,
     a: &'a Expression,
     b: &'a Expression,
-    object: &'a Term,
-    table: &[Option<&'a Term>],
+    fitted: &Fitted<'a, '_>,
 ) -> Evaluated<'a>
-    ensures { let scene = scene_of object.now table.now in
+    ensures { let scene = scene_at fitted.now in
         IfOk result (λ v. option_map tree_of_value v ≡ applied (Short stop) (value scene a.now ∷ value scene b.now ∷ [])) }
 {
-    match truth(&value(alloc, a, object, table)?) {
+    match truth(&value(alloc, a, fitted)?) {
         Some(first) => {
             if first == stop {
                 return Ok(Some(Value::Truth(first)));
             }
-            Ok(truth_value(truth(&value(alloc, b, object, table)?)))
+            Ok(truth_value(truth(&value(alloc, b, fitted)?)))
         }
         None => Ok(None),
     }
@@ -227,13 +188,12 @@ fn short_value<'a>(
 pub(crate) fn pass<'a>(
     alloc: Global,
     guards: &'a [Expression],
-    object: &'a Term,
-    table: &[Option<&'a Term>],
+    fitted: &Fitted<'a, '_>,
 ) -> Result<bool, AllocError>
-    ensures { IfOk result (λ passed. passed ≡ pass (scene_of object.now table.now) (list_of guards.now Nil)) }
+    ensures { IfOk result (λ passed. passed ≡ pass (scene_at fitted.now) (list_of guards.now Nil)) }
 {
     for guard in guards {
-        if !holds(&value(alloc, guard, object, table)?) {
+        if !holds(&value(alloc, guard, fitted)?) {
             return Ok(false);
         }
     }

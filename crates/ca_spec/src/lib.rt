@@ -8,6 +8,7 @@ mod evaluation;
 mod expression;
 mod expressions;
 mod fault;
+mod fitted;
 mod fitting;
 mod heads;
 mod held;
@@ -21,6 +22,6 @@ mod spec;
 
 pub use compiler::compile;
 pub use fault::{SpecFault, SpecWhy};
-pub use on_codes::apply_code;
+pub use on_codes::{apply_code, chooses};
 pub use results::apply;
 pub use spec::Spec;

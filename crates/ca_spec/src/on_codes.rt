@@ -1,31 +1,80 @@
 //! What a specification makes of an object, by the object's code.
-ghost use Rattle.std.specs.Prelude.{◌≡◌, ◌∷◌, IfOk, OnErr};
+ghost use Rattle.std.specs.Prelude.{◌≡◌, ◌≤◌, ◌∷◌, IfOk, OnErr, is_some, length};
 ghost use Rattle.ca_term.specs.Code.{code_of};
-ghost use Rattle.ca_term.specs.Tree.{IsTerm, Nil, Tree, list_of};
-ghost use Rattle.ca_match.specs.Match.{clause_result, result_of};
+ghost use Rattle.ca_term.specs.Tree.{Cons, IsTerm, Nil, Tree, list_of};
+ghost use Rattle.ca_match.specs.Match.{clause_result, guarded, no_bindings, pass, result_of};
 ghost use Rattle.ca_order.specs.CodesView.{tree_of};
 ghost use Rattle.ca_order.specs.Languages.{IsTermCode};
 ghost use Rattle.ca_spec.specs.ClauseView.{tree_of_clause, trees_of_clauses};
+ghost use Rattle.ca_spec.specs.PartBound.{parts_of, scene_in};
+ghost use Rattle.ca_spec.specs.Places.{places};
 ghost use Rattle.ca_spec.specs.QuickView.{IsTold};
 ghost use Rattle.ca_spec.specs.Reached.{IsReached, MayFit, SomeMayFit};
 
 use crate::clause::Clause;
-use crate::quick::{Quick, quick_result};
-use crate::results::result_of_clause;
+use crate::evaluation::{pass, value};
+use crate::expression::Expression;
+use crate::fitted::Fitted;
+use crate::fitting::fit_object;
+use crate::quick::{self, Quick, quick_result};
+use crate::results::{FEW, result_of_clause};
 use crate::spec::Spec;
 use ca_order::Part;
 use ca_term::{Term, try_copy};
 use std::alloc::{AllocError, Global};
 
-/// What `apply` makes of the object whose code this is. An object is decoded only where its head may fit and more must be known of a clause than
-/// comparisons of parts and constants in its guards, and a part or a constant as its body; of a clause of this kind that holds the result alone is
-/// decoded. Memory is taken only where a head fits, for what is decoded and as by `apply`.
+/// What `apply` makes of the object whose code this is. Nothing is decoded for comparisons of parts and constants, tests of their kinds, and `andalso`,
+/// `orelse` and `not` of these; else, where the head fits, the parts that a guard or the body asks for. The whole object is decoded for `'$_'` alone, or
+/// where a constant of a head is longer than a code may be. Memory is taken only where a head may fit, for what is decoded and as by `apply`.
 pub fn apply_code(alloc: Global, spec: &Spec, code: &[u8]) -> Result<Option<Term>, AllocError>
     requires { IsTermCode code.now }
     ensures found { IfOk result (λ found. (object : Tree) → IsTerm object → code.now ≡ code_of object → found ≡ result_of spec.now object) }
     ensures lack { OnErr result ((object : Tree) → IsTerm object → code.now ≡ code_of object → SomeMayFit spec.now object) }
 {
     result_of_clauses(alloc, spec.clauses.as_slice(), Part::of(code))
+}
+
+/// Whether `apply` gives the object whose code this is a result. The result itself is made only where guards and body are more than comparisons, parts
+/// and constants; memory is taken as by `apply_code`, and none for a result that is a part of the object or a constant.
+pub fn chooses(alloc: Global, spec: &Spec, code: &[u8]) -> Result<bool, AllocError>
+    requires { IsTermCode code.now }
+    ensures chosen { IfOk result (λ chosen. (object : Tree) → IsTerm object → code.now ≡ code_of object → chosen ≡ is_some (result_of spec.now object)) }
+    ensures lack { OnErr result ((object : Tree) → IsTerm object → code.now ≡ code_of object → SomeMayFit spec.now object) }
+{
+    some_holds(alloc, spec.clauses.as_slice(), Part::of(code))
+}
+
+// Whether some clause holds.
+#[tactic(auto, using(crate::proofs::LeftClauses::holding_clauses))]
+fn some_holds<'a>(
+    alloc: Global,
+    clauses: &'a [Clause],
+    object: Part<'a>,
+) -> Result<bool, AllocError>
+    ensures chosen { IfOk result (λ chosen. chosen ≡ is_some (result_of (list_of (trees_of_clauses clauses.entry.now) Nil) (tree_of object.entry))) }
+    ensures lack { OnErr result (SomeMayFit (list_of (trees_of_clauses clauses.entry.now) Nil) (tree_of object.entry)) }
+{
+    let mut left = clauses;
+    while let Some((clause, others)) = left.split_first() {
+        if holds(alloc, clause, object)? {
+            return Ok(true);
+        }
+        left = others;
+    }
+    Ok(false)
+}
+
+// Whether a clause holds.
+fn holds<'a>(alloc: Global, clause: &'a Clause, object: Part<'a>) -> Result<bool, AllocError>
+    ensures holds { IfOk result (λ holds. holds ≡ is_some (clause_result (tree_of_clause clause.entry.now) (tree_of object.entry))) }
+    ensures lack { OnErr result (MayFit clause.entry.now.head (tree_of object.entry)) }
+{
+    match told(clause, object) {
+        Quick::None => Ok(false),
+        Quick::Part(_) => Ok(true),
+        Quick::Term(_) => Ok(true),
+        Quick::Unknown => Ok(valued_result(alloc, clause, object)?.is_some()),
+    }
 }
 
 // The result of the first clause that holds. Clauses that are told to have none are passed over here, where nothing is kept for a result.
@@ -122,7 +171,7 @@ fn result_told<'a>(
             Ok(copy) => Ok(Some(copy)),
             Err(_) => Err(AllocError),
         },
-        Quick::Unknown => decoded_result(alloc, clause, object),
+        Quick::Unknown => valued_result(alloc, clause, object),
     }
 }
 
@@ -150,6 +199,79 @@ fn told_of_many<'a>(clause: &'a Clause, object: Part<'a>) -> Quick<'a>
 {
     let mut table: [Option<Part<'a>>; 100] = [None; 100];
     quick_result(clause, object, &mut table)
+}
+
+// The result of a clause where it holds, by values of parts of the code.
+#[inline(never)]
+fn valued_result<'a>(
+    alloc: Global,
+    clause: &'a Clause,
+    object: Part<'a>,
+) -> Result<Option<Term>, AllocError>
+    ensures found { IfOk result (λ found. found ≡ clause_result (tree_of_clause clause.entry.now) (tree_of object.entry)) }
+    ensures lack { OnErr result (MayFit clause.entry.now.head (tree_of object.entry)) }
+{
+    if clause.places <= FEW {
+        let mut table: [Option<Part<'a>>; FEW] = [None; FEW];
+        return valued_with(alloc, clause, object, &mut table);
+    }
+    let mut table: [Option<Part<'a>>; 100] = [None; 100];
+    valued_with(alloc, clause, object, &mut table)
+}
+
+// The same with this table, which is empty.
+#[tactic(auto, using(crate::proofs::QuickResults::part_results, crate::proofs::Reaching::reached))]
+fn valued_with<'a>(
+    alloc: Global,
+    clause: &'a Clause,
+    object: Part<'a>,
+    table: &mut [Option<Part<'a>>],
+) -> Result<Option<Term>, AllocError>
+    requires room { places clause.now.head ≤ length table.old }
+    requires none { parts_of table.old ≡ no_bindings }
+    ensures found { IfOk result (λ found. found ≡ clause_result (tree_of_clause clause.entry.now) (tree_of object.entry)) }
+    ensures lack { OnErr result (MayFit clause.entry.now.head (tree_of object.entry)) }
+{
+    match fit_object(&clause.head, object, table) {
+        Some(true) => body_term(alloc, clause, object, table),
+        Some(false) => Ok(None),
+        None => decoded_result(alloc, clause, object),
+    }
+}
+
+// The value of a clause's body where all guards are true, as a term, with what the head bound in this table.
+#[tactic(auto, using(crate::proofs::ClauseResults::guarded_results))]
+fn body_term<'a>(
+    alloc: Global,
+    clause: &'a Clause,
+    object: Part<'a>,
+    table: &[Option<Part<'a>>],
+) -> Result<Option<Term>, AllocError>
+    ensures { let scene = scene_in object.entry table.now in
+        IfOk result (λ found. found ≡ guarded scene (list_of clause.entry.now.guards.items Nil) (Cons clause.entry.now.body Nil)) }
+{
+    if !guards_hold(alloc, clause.guards.as_slice(), object, table)? {
+        return Ok(None);
+    }
+    match value(alloc, &clause.body, &Fitted::Parts { object, table })? {
+        Some(value) => Ok(Some(value.into_term(alloc)?)),
+        None => Ok(None),
+    }
+}
+
+// Whether all guards are true. Where the code doesn't tell, their values are made of its parts.
+fn guards_hold<'a>(
+    alloc: Global,
+    guards: &'a [Expression],
+    object: Part<'a>,
+    table: &[Option<Part<'a>>],
+) -> Result<bool, AllocError>
+    ensures { IfOk result (λ passed. passed ≡ pass (scene_in object.entry table.now) (list_of guards.entry.now Nil)) }
+{
+    match quick::pass(guards, object, table) {
+        Some(told) => Ok(told),
+        None => pass(alloc, guards, &Fitted::Parts { object, table }),
+    }
 }
 
 // The result of a clause where it holds, by the object as a term.

@@ -1,18 +1,19 @@
 //! Results of objects' codes, where a head, guards and a body are told by parts of the code alone.
 ghost use Rattle.std.specs.Prelude.{◌≡◌, ◌≤◌, ◌∷◌, [], Some, IfOk, IfSome, length};
 ghost use Rattle.ca_term.specs.Tree.{Nil, list_of};
-ghost use Rattle.ca_match.specs.Match.{bound, clause_result, is_truth, no_bindings, pass, value};
+ghost use Rattle.ca_match.specs.Match.{clause_result, is_truth, no_bindings, pass, value};
 ghost use Rattle.ca_match.specs.OperatorView.{meaning_of};
 ghost use Rattle.ca_match.specs.Operators.{Short, applied, truth};
 ghost use Rattle.ca_order.specs.CodesView.{tree_of};
 ghost use Rattle.ca_spec.specs.ClauseView.{tree_of_clause};
-ghost use Rattle.ca_spec.specs.PartBound.{part_at, parts_of, scene_in};
+ghost use Rattle.ca_spec.specs.PartBound.{parts_of, scene_in};
 ghost use Rattle.ca_spec.specs.Places.{places};
 ghost use Rattle.ca_spec.specs.QuickView.{IsTold};
 ghost use Rattle.ca_spec.specs.Reached.{IsReached};
 
 use crate::clause::Clause;
 use crate::expression::{Expression, Form};
+use crate::fitted::bound_part;
 use crate::fitting::fit_object;
 use ca_match::Operator;
 use ca_order::Part;
@@ -29,25 +30,12 @@ fn operand<'a>(
     ensures { IfSome result (λ part. Some (tree_of part) ≡ value (scene_in object.entry table.now) expression.now) }
 {
     match &expression.form {
-        Form::Variable(number) => part_bound(*number as usize, table),
+        Form::Variable(number) => bound_part(*number as usize, table),
         Form::Whole => Some(object),
         Form::Literal(constant) => constant.part(),
         Form::Constant(constant) => constant.part(),
         Form::AllBound | Form::Tuple(_) | Form::List(_, _) | Form::One(_, _) | Form::Two(_, _, _) =>
             None,
-    }
-}
-
-// What is bound to a variable.
-#[tactic(auto, using(crate::proofs::PartTables::bound_in))]
-#[inline(always)]
-fn part_bound<'a>(number: usize, table: &[Option<Part<'a>>]) -> Option<Part<'a>>
-    ensures { IfSome result (λ part. Some (tree_of part) ≡ bound (parts_of table.now) number) }
-{
-    if number < table.len() {
-        table[number]
-    } else {
-        None
     }
 }
 
@@ -70,7 +58,24 @@ fn compared(operator: Operator, a: Part<'_>, b: Part<'_>) -> Option<bool>
     }
 }
 
-// The truth value that a guard's value is, where it is a comparison of parts and constants, or `andalso`, `orelse` or `not` of such guards.
+// Whether a test of a term's kind holds, by its code, or `None` for other operators.
+#[tactic(auto, using(crate::proofs::Operands::kind_tests))]
+fn tested(operator: Operator, a: Part<'_>) -> Option<bool>
+    ensures { IfSome result (λ holds. Some (truth holds) ≡ applied (meaning_of operator) (Some (tree_of a.entry) ∷ [])) }
+{
+    let rank = a.rank();
+    match operator {
+        Operator::IsInteger => Some(rank == 0),
+        Operator::IsNumber => Some(rank == 0),
+        Operator::IsAtom => Some(rank == 1),
+        Operator::IsTuple => Some(rank == 2),
+        Operator::IsList => Some(rank == 3 || rank == 4),
+        Operator::IsBinary => Some(rank == 5),
+        _ => None,
+    }
+}
+
+// The truth value that a guard's value is, where it is a comparison or a test of parts and constants, or `andalso`, `orelse` or `not` of such guards.
 #[cycle(known)]
 #[inline(always)]
 fn known<'a>(guard: &'a Expression, object: Part<'a>, table: &[Option<Part<'a>>]) -> Option<bool>
@@ -81,7 +86,7 @@ fn known<'a>(guard: &'a Expression, object: Part<'a>, table: &[Option<Part<'a>>]
             Some(stop) => known_short(stop, a, b, object, table),
             None => known_comparison(*operator, a, b, object, table),
         },
-        Form::One(operator, a) => known_negation(*operator, a, object, table),
+        Form::One(operator, a) => known_of_one(*operator, a, object, table),
         Form::Variable(_)
         | Form::Whole
         | Form::AllBound
@@ -130,11 +135,11 @@ fn known_short<'a>(
     known(b, object, table)
 }
 
-// The value of `not`.
+// The value of `not`, or of a test of a part or a constant.
 #[cycle(known)]
 #[inline(never)]
-#[tactic(auto, using(crate::proofs::Operands::negation_known))]
-fn known_negation<'a>(
+#[tactic(auto, using(crate::proofs::Operands::value_of_one_known))]
+fn known_of_one<'a>(
     operator: Operator,
     a: &'a Expression,
     object: Part<'a>,
@@ -143,11 +148,11 @@ fn known_negation<'a>(
     ensures { let scene = scene_in object.entry table.now in
         IfSome result (λ known. Some (truth known) ≡ applied (meaning_of operator) (value scene a.now ∷ [])) }
 {
-    let Operator::Not = operator else {
-        return None;
-    };
-    let holds = known(a, object, table)?;
-    Some(!holds)
+    if let Operator::Not = operator {
+        let holds = known(a, object, table)?;
+        return Some(!holds);
+    }
+    tested(operator, operand(a, object, table)?)
 }
 
 // Whether a guard is true, where that is known.
@@ -163,7 +168,11 @@ fn holds<'a>(guard: &'a Expression, object: Part<'a>, table: &[Option<Part<'a>>]
 // Whether all guards are true, where each one up to the first that isn't is known to be true or not.
 #[tactic(auto, using(crate::proofs::Values::guard_values))]
 #[inline(always)]
-fn pass<'a>(guards: &'a [Expression], object: Part<'a>, table: &[Option<Part<'a>>]) -> Option<bool>
+pub(crate) fn pass<'a>(
+    guards: &'a [Expression],
+    object: Part<'a>,
+    table: &[Option<Part<'a>>],
+) -> Option<bool>
     ensures { IfSome result (λ passed. passed ≡ pass (scene_in object.entry table.now) (list_of guards.now Nil)) }
 {
     for guard in guards {

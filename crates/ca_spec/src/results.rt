@@ -10,6 +10,7 @@ ghost use Rattle.ca_spec.specs.Reached.{MayFit, SomeMayFit};
 
 use crate::clause::Clause;
 use crate::evaluation::{Evaluated, pass, value};
+use crate::fitted::Fitted;
 use crate::matching::bind;
 use crate::spec::Spec;
 use ca_term::Term;
@@ -81,8 +82,9 @@ fn result_with<'a>(
     if !bind(&clause.head, object, table) {
         return Ok(None);
     }
-    if !pass(alloc, clause.guards.as_slice(), object, table)? {
+    let fitted = Fitted::Terms { object, table };
+    if !pass(alloc, clause.guards.as_slice(), &fitted)? {
         return Ok(None);
     }
-    value(alloc, &clause.body, object, table)
+    value(alloc, &clause.body, &fitted)
 }

@@ -1,17 +1,17 @@
 -- Collecting the results of a run, object by object.
 use Rattle.std.proofs.Common.{◌≡◌, ◌⊎◌, ℕ, zero, suc, ◌+◌, ◌≤◌, ◌<◌, Bool, true, false, List, [], ◌∷◌, ◌++◌, length, map, arith, refl, sym, ◌∙◌, ap, subst, inl, inr, append_assoc, append-nil, length-append, Option, None, Some, if◌then◌else◌}
-use Rattle.std.specs.Prelude.{nat_le, unwrap_or, Result, Err}
+use Rattle.std.specs.Prelude.{is_some, nat_le, unwrap_or, Result, Err}
 use Rattle.std.proofs.lemmas.Bool.Decides.{nat_tests}
 use Rattle.std.proofs.lemmas.List.{map-append}
 use denote.Ref.{Bor}
 use denote.Param.Members.{Shared}
-use Rattle.ca_term.specs.Tree.{Tree, IsTerm, AreTerms}
+use Rattle.ca_term.specs.Tree.{Tree, AreTerms}
 use Rattle.ca_term.specs.Code.{code_of}
 use Rattle.ca_term.specs.Object.{key_of}
 use Rattle.ca_match.specs.Match.{result_of}
 use Rattle.ca_ets.specs.Step.{keyed_results, results_in, last_found}
 use Rattle.ca_order.specs.Languages.{IsTermCode}
-use Rattle.ca_model.specs.StoreMap.{StoreMap, IsStoreMap}
+use Rattle.ca_model.specs.StoreMap.{Pair, StoreMap, IsPair, IsStoreMap}
 use Rattle.ca_model.specs.History.{after, by_pass}
 use Rattle.ca_model.specs.Edges.{Bound, is_from, is_up_to, objects_of, within}
 use Rattle.ca_model.specs.Event.{Range, effect}
@@ -20,7 +20,6 @@ use Rattle.ca_ets.specs.declared.command.Reply.{Reply}
 use Rattle.ca_model.specs.declared.outcome.Outcome.{Outcome}
 use Rattle.ca_model.specs.declared.outcome.Outcome.TheVariants as outcome
 use Rattle.ca_model.specs.Answer.{IfDone}
-use Rattle.ca_explain.proofs.Filters.{same_code}
 use Rattle.ca_table.specs.Refusals.{IsParted}
 use Rattle.ca_model.specs.Runs.{HandedOut, HasCounted, Opens, Reaches}
 use Rattle.ca_model.proofs.Edits.{map_after, map_filter}
@@ -286,9 +285,14 @@ parted_ok (outcome.Full s) parted P e none h = absurd (none _ e)
 parted_ok (outcome.Deep s) parted P e none h = absurd (none _ e)
 parted_ok (outcome.Worn s) parted P e none h = absurd (none _ e)
 
--- An object that was read has a result.
-pub counts_read : (s : Tree) (code : List ℕ) (x r : Tree) → IsTerm x → code ≡ code_of x → result_of s x ≡ Some r → CountsOnly s code true
-counts_read s code x r b e h = λ o c k. (r, ap (result_of s) (sym (same_code x o b c (sym e ∙ k))) ∙ h)
+-- Where it is told that there is a result, there is one.
+pub counts_told : (r : Option Tree) → true ≡ is_some r → (v : Tree) × (r ≡ Some v)
+counts_told None e = cc
+counts_told (Some v) e = (v, refl)
+
+-- An object that a store may show is the code of a term.
+pub shown_code : (p : ℕ) (q : Pair) (shown : List ℕ) → IsPair p q → shown ≡ q.1 → IsTermCode shown
+shown_code p q shown h e = let f = object_of_pair p q h in (f.object, f.bounded, e ∙ f.object_is)
 
 module _ {F : Type 0} (g : Shared F (Bor (List ℕ) × Unit {0}) Bool) (f : F) (a b : Known) (lo hi : Bound) (want : ℕ) where
   -- A run that wasn't refused is open.

@@ -10,8 +10,7 @@ ghost use Rattle.ca_table.specs.Collected.{AddsObject, AreCollected, AreWithin, 
 use crate::kept::Object;
 use crate::outcome::{Stop, done};
 use ca_model::{Code, Edge, OrderedStore};
-use ca_order::decode;
-use ca_spec::{Spec, apply, apply_code};
+use ca_spec::{Spec, apply_code, chooses};
 use ca_term::{Term, Terms};
 use std::alloc::{AllocError, Global};
 
@@ -114,13 +113,10 @@ fn collect<S: OrderedStore>(
 
 // Whether a specification gives the object of this code a result; also false where memory wasn't found, since a run is only longer then.
 fn gives_result(alloc: Global, spec: &Spec, code: &[u8]) -> bool
+    requires { IsTermCode code.now }
     ensures { CountsOnly spec.now code.now result }
 {
-    let Ok(object) = decode(alloc, code) else {
-        return false;
-    };
-    let _kind = object.kind();
-    matches!(apply(alloc, spec, &object), Ok(Some(_)))
+    matches!(chooses(alloc, spec, code), Ok(true))
 }
 
 // How many results a run wants that may be cut; 0 where it may not: without a limit, and where the limit is more than a run may want.
@@ -156,6 +152,7 @@ pub(crate) fn results_within<S: OrderedStore>(
     ensures closed { (S.knows store.new).run ≡ None }
 {
     let counts = |code: &[u8]| -> bool
+        requires { IsTermCode code.now }
         ensures { CountsOnly spec.entry.now code.now result }
     { gives_result(alloc, spec, code) };
     if let Err(refusal) = done(store.range(lo, hi, wanted(limit), &counts, budget)) {

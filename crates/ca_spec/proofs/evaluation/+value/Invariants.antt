@@ -2,7 +2,7 @@
 use Rattle.std.proofs.Common.{◌≡◌, ◌+◌, ◌-◌, ◌*◌}
 use Rattle.ca_term.specs.Tree.{list_of, nodes, row_nodes, row_of}
 use Rattle.ca_match.specs.Match.{all_values, values}
-use Rattle.ca_spec.specs.Bound.{scene_of}
+use Rattle.ca_spec.specs.FittedView.{scene_at}
 use Rattle.ca_spec.proofs.Values.{behind, values_from}
 use Rattle.ca_spec.proofs.evaluation.+value.Given as goal
 
@@ -29,4 +29,4 @@ decreases-short_value l = 5 * (nodes l.a.now + nodes l.b.now) + 1
 
 abbrev pub invariant-terms-loop-part : goal.invariant-terms-loop-part
 invariant-terms-loop-part l =
-    all_values (values (scene_of l.object l.table) (row_of l.parts)) ≡ behind l.terms.items (values_from (scene_of l.object l.table) l.parts l.part-index)
+    all_values (values (scene_at l.fitted) (row_of l.parts)) ≡ behind l.terms.items (values_from (scene_at l.fitted) l.parts l.part-index)

@@ -35,4 +35,4 @@ known-returns-in-One t c =
     let given : applied m (value s c.deref-in-One.result.now ∷ []) ≡ value s c.args.guard.now =
     (λ j. applied m (value s (c.deref-in-One.ensures j) ∷ []))
     ∙ one_value s c.args.guard.now c.in-One.operator c.in-One.a.value (sym (ap tree_of_form c.in-One.is) ∙ c.guard.view_is) in
-    subst (λ (x : Option Tree). IfSome c.known_negation.result (λ known. Some (truth known) ≡ x)) given c.known_negation.ensures
+    subst (λ (x : Option Tree). IfSome c.known_of_one.result (λ known. Some (truth known) ≡ x)) given c.known_of_one.ensures

@@ -9,5 +9,5 @@ decreases-known l = 2 * nodes l.guard.now
 abbrev pub decreases-known_short : goal.decreases-known_short
 decreases-known_short l = 2 * (nodes l.a.now + nodes l.b.now) + 1
 
-abbrev pub decreases-known_negation : goal.decreases-known_negation
-decreases-known_negation l = 2 * nodes l.a.now + 1
+abbrev pub decreases-known_of_one : goal.decreases-known_of_one
+decreases-known_of_one l = 2 * nodes l.a.now + 1

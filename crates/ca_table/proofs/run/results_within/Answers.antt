@@ -1,6 +1,9 @@
 use Rattle.ca_model.specs.Edges.{bound_of}
-use Rattle.ca_table.proofs.Collecting.{none_or_limit, opened_run, range_opens, run_within, run_lacks}
+use Rattle.ca_table.proofs.Collecting.{none_or_limit, opened_run, range_opens, run_within, run_lacks, shown_code}
 use Rattle.ca_table.proofs.run.results_within.Goals as goal
+
+pub range-requires-clause-function : goal.range-requires-clause-function
+range-requires-clause-function g c = λ p h shown e. shown_code _ p shown.now h e
 
 pub collect-collected-requires : goal.collect-collected-requires
 collect-collected-requires g c =
