@@ -14,7 +14,7 @@
 
 main([]) ->
     Mixes = [{lookups, even}, {mixed, even}, {'skewed-lookups', skewed}, {'skewed-mixed', skewed}, {counter, 1}, {counters, 4},
-             {'user-lookups', even}, {'user-mixed', even}],
+             {'user-lookups', even}, {'user-mixed', even}, {'ranges-10', 10}, {'ranges-100', 100}, {'ranges-1000', 1000}],
     [begin
          [line(Who, Options, Mix, 10000, Threads) || Mix <- Mixes, Threads <- [1, 2, 4]],
          [line(Who, Options, Mix, Objects, 1) || Mix <- lists:sublist(Mixes, 2), Objects <- [100, 400, 1000, 4000, 40000]],
@@ -23,9 +23,16 @@ main([]) ->
 
 line(Who, Options, {Mix, Key}, Objects, Threads) ->
     Numbers = shuffled(Objects),
-    Calls = ?CALLS div Threads,
+    Calls = calls(Mix, Key) div Threads,
     Nanos = lists:sum([run(Options, Mix, Key, Numbers, Threads, Calls) || _ <- lists:seq(1, ?RUNS)]),
     io:format("~s,~s,~b,~b,~b,0,0~n", [Who, Mix, Objects, Threads, Calls * Threads * ?RUNS * 1000000 div Nanos]).
+
+%% How many calls are played of a mix: fewer, where ranges are longer.
+calls(Mix, Most) ->
+    case kind(Mix) of
+        ranges -> 20000000 div (Most + 40);
+        _ -> ?CALLS
+    end.
 
 object(Key) -> {?BASE + Key, ?BASE + 1, ?BASE + 2, ?BASE + 3, ?BASE + 4, ?BASE + 5, ?BASE}.
 
@@ -74,7 +81,7 @@ run(Options, Mix, Key, Numbers, Threads, Calls) ->
     [receive {ready, Client} -> ok end || Client <- Clients],
     [Client ! go || Client <- Clients],
     Times = [receive {done, Client, Start, End} -> {Start, End} end || Client <- Clients],
-    true = is_atom(Key) orelse lists:sum([element(7, Object) - ?BASE || Object <- ets:tab2list(Table)]) =:= Calls * Threads,
+    true = kind(Mix) =/= counters orelse lists:sum([element(7, Object) - ?BASE || Object <- ets:tab2list(Table)]) =:= Calls * Threads,
     true = ets:delete(Table),
     erlang:convert_time_unit(lists:max([End || {_, End} <- Times]) - lists:min([Start || {Start, _} <- Times]), native, nanosecond).
 
@@ -90,6 +97,9 @@ kind('skewed-mixed') -> mixed;
 kind('user-lookups') -> lookups;
 kind('user-mixed') -> mixed;
 kind(counter) -> counters;
+kind('ranges-10') -> ranges;
+kind('ranges-100') -> ranges;
+kind('ranges-1000') -> ranges;
 kind(Mix) -> Mix.
 
 play(_, _, _, _, _, 0) -> ok;
@@ -98,6 +108,20 @@ play(counters, Count, Table, {Keys, _} = Load, Drawn, Left) ->
     Apart = Keys div Count,
     _ = ets:update_counter(Table, ?BASE + number(even, Next, Count) * Apart + Apart div 2, {7, 1}),
     play(counters, Count, Table, Load, Next, Left - 1);
+play(ranges, Most, Table, {Keys, Pairs} = Load, Drawn, Left) ->
+    Next = draw(Drawn),
+    Key = number(even, Next, Keys),
+    Kind = draw(Next),
+    Last = case number(even, Kind, 100) of
+        Percent when Percent < 55 -> ets:lookup(Table, key(Pairs, Key)), Kind;
+        Percent when Percent < 65 -> true = ets:insert(Table, object(Pairs, Key)), Kind;
+        Percent when Percent < 75 -> ets:take(Table, key(Pairs, Key)), Kind;
+        _ ->
+            Size = draw(Kind),
+            ok = range(Table, ?BASE + Key - 1, ?BASE + Key + 2 * (number(even, Size, Most) + 1)),
+            Size
+    end,
+    play(ranges, Most, Table, Load, Last, Left - 1);
 play(Mix, How, Table, {Keys, Pairs} = Load, Drawn, Left) ->
     Next = draw(Drawn),
     Key = number(How, Next, Keys),
@@ -108,3 +132,13 @@ play(Mix, How, Table, {Keys, Pairs} = Load, Drawn, Left) ->
         mixed -> ets:take(Table, key(Pairs, Key))
     end,
     play(Mix, How, Table, Load, Next, Left - 1).
+
+%% Reads the objects whose keys are above one number and not above another one, one after the other. Others may edit in between: the objects need not be
+%% those of one state.
+range(Table, Key, Last) ->
+    case ets:next(Table, Key) of
+        Next when is_integer(Next), Next =< Last ->
+            _ = ets:lookup(Table, Next),
+            range(Table, Next, Last);
+        _ -> ok
+    end.

@@ -2,6 +2,7 @@
 //! comma-separated values for each mix of calls, number of objects and number of threads, with how many thousand calls a second they carry out.
 use std::collections::BTreeMap;
 use std::hint::black_box;
+use std::ops::Bound;
 use std::sync::{Barrier, RwLock};
 use std::thread;
 use std::time::Instant;
@@ -19,22 +20,35 @@ const BYTE: u32 = 256;
 
 type Map = RwLock<BTreeMap<Vec<u8>, Vec<u8>>>;
 
-// Which calls are played: lookups, half of them beside puts and removals, and additions to so many counters; even draws of keys, or skewed ones.
+// Which calls are played: lookups, half of them beside puts and removals, additions to so many counters, and lookups, puts, removals and ranges of up to
+// so many objects; even draws of keys, or skewed ones.
 #[derive(Clone, Copy)]
 enum Mix {
     Lookups(fn(u32, u32) -> u32),
     Mixed(fn(u32, u32) -> u32),
     Counters(u32),
+    Ranges(u32),
 }
 
-const MIXES: [(&str, Mix); 6] = [
+const MIXES: [(&str, Mix); 9] = [
     ("lookups", Mix::Lookups(even)),
     ("mixed", Mix::Mixed(even)),
     ("skewed-lookups", Mix::Lookups(skewed)),
     ("skewed-mixed", Mix::Mixed(skewed)),
     ("counter", Mix::Counters(1)),
     ("counters", Mix::Counters(4)),
+    ("ranges-10", Mix::Ranges(10)),
+    ("ranges-100", Mix::Ranges(100)),
+    ("ranges-1000", Mix::Ranges(1_000)),
 ];
+
+// How many calls are played of a mix: fewer, where ranges are longer.
+fn calls_of(mix: Mix) -> u32 {
+    match mix {
+        Mix::Ranges(most) => 20_000_000 / (most + 40),
+        _ => CALLS,
+    }
+}
 
 // The code of 2 ^ 24 + number, of which the lower 24 bits count.
 fn number_code(number: u32) -> [u8; 5] {
@@ -148,6 +162,7 @@ impl Client<'_> {
                 let apart = self.load.keys / count;
                 self.raise(even(drawn, count) * apart + apart / 2)
             }
+            Mix::Ranges(most) => self.look_or_range(even(drawn, self.load.keys), most),
         }
     }
 
@@ -156,18 +171,51 @@ impl Client<'_> {
             0 | 1 => {
                 self.get(key);
             }
-            2 => {
-                let (code, object) = self.load.pair(key);
-                self.map.write().unwrap().insert(code, object);
+            2 => self.put(key),
+            _ => self.remove(key),
+        }
+        true
+    }
+
+    fn look_or_range(&mut self, key: u32, most: u32) -> bool {
+        match even(draw(&mut self.drawn), 100) {
+            0..55 => {
+                self.get(key);
             }
+            55..65 => self.put(key),
+            65..75 => self.remove(key),
             _ => {
-                let removed = self.load.by_key(key, |code| self.map.write().unwrap().remove(code));
-                if let Some(object) = removed {
-                    self.into = object;
-                }
+                let width = 2 * (even(draw(&mut self.drawn), most) + 1);
+                return self.range(key, width) <= width + 1;
             }
         }
         true
+    }
+
+    fn put(&mut self, key: u32) {
+        let (code, object) = self.load.pair(key);
+        self.map.write().unwrap().insert(code, object);
+    }
+
+    fn remove(&mut self, key: u32) {
+        let removed = self.load.by_key(key, |code| self.map.write().unwrap().remove(code));
+        if let Some(object) = removed {
+            self.into = object;
+        }
+    }
+
+    // Copies the objects of a range of keys into a buffer, one after the other, all of one state: the lock is held.
+    fn range(&mut self, from: u32, width: u32) -> u32 {
+        let (lo, hi) = (number_code(from), number_code(from + width));
+        let bounds = (Bound::Included(lo.as_slice()), Bound::Included(hi.as_slice()));
+        let (map, mut count) = (self.map.read().unwrap(), 0);
+        for (_, object) in map.range::<[u8], _>(bounds) {
+            self.into.clear();
+            self.into.extend_from_slice(object);
+            black_box(&self.into);
+            count += 1;
+        }
+        count
     }
 
     // Copies the key's object into a buffer.
@@ -234,7 +282,7 @@ fn run(mix: Mix, load: &Load, numbers: &[u32], threads: u32, calls: u32) -> u128
 
 fn line((name, mix): (&str, Mix), load: &Load, threads: u32) {
     let objects = load.keys / 2;
-    let (numbers, calls) = (shuffled(objects), CALLS / threads);
+    let (numbers, calls) = (shuffled(objects), calls_of(mix) / threads);
     let nanos: u128 = (0..RUNS).map(|_| run(mix, load, &numbers, threads, calls)).sum();
     println!("map,{name},{objects},{threads},{},0,0", u128::from(calls * threads * RUNS) * 1_000_000 / nanos);
 }

@@ -5,7 +5,7 @@ ghost use Rattle.ca_term.specs.Tree.{IsTerm};
 ghost use Rattle.ca_replace.specs.Resting.{knows};
 
 use crate::player::BUDGET;
-use ca_model::{Code, Outcome};
+use ca_model::{Code, OrderedStore, Outcome};
 use ca_order::{encode, object_parts};
 use ca_replace::TreeStore;
 use ca_term::{Kind, Term};

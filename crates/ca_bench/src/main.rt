@@ -13,6 +13,7 @@ mod load;
 mod numbers;
 mod player;
 mod point_calls;
+mod ranges;
 mod rows;
 mod selections;
 mod threads;

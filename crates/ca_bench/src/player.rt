@@ -8,7 +8,8 @@ ghost use Rattle.ca_replace.specs.Resting.{knows};
 use crate::coded::Coded;
 use crate::draws::{Draws, even, skewed};
 use crate::numbers::{counter_of, key_code, object, write_next};
-use ca_model::{Changed, Code, Outcome};
+use crate::ranges::count_range;
+use ca_model::{Changed, Code, OrderedStore, Outcome};
 use ca_replace::TreeStore;
 use std::thread::yield_now;
 
@@ -31,6 +32,8 @@ pub enum Mix {
     SkewedMixed,
     /// Changes that add one to one of so many counters.
     Counters(u32),
+    /// Of a hundred calls 55 lookups, ten puts, ten removals, and 25 ranges of about one object up to so many.
+    Ranges(u32),
     /// Lookups of keys that are there.
     Present,
     /// Puts of keys that are there.
@@ -180,6 +183,7 @@ impl<'t> Player<'t> {
             Mix::SkewedLookups => self.look_up(skewed(drawn, keys)),
             Mix::SkewedMixed => self.come_or_go(drawn, skewed(drawn, keys)),
             Mix::Counters(count) => self.raise(counter_key(drawn, count, keys)),
+            Mix::Ranges(most) => self.look_or_range(even(drawn, keys), most),
             Mix::Present => self.get(even(drawn, present)),
             Mix::Puts => self.put(even(drawn, present)),
             Mix::ComeAndGo => self.use_present(drawn, present, keys),
@@ -213,6 +217,22 @@ impl<'t> Player<'t> {
         }
     }
 
+    // Half of the keys that a range is of are there, or about that many.
+    fn look_or_range(&mut self, key: u32, most: u32) -> bool {
+        match even(self.draws.draw(), 100) {
+            0..55 => {
+                let _found = self.get(key);
+                true
+            }
+            55..65 => self.put(key),
+            65..75 => self.remove(key),
+            _ => {
+                let objects = even(self.draws.draw(), most).wrapping_add(1);
+                self.range(key, objects.wrapping_mul(2))
+            }
+        }
+    }
+
     fn get(&mut self, key: u32) -> bool {
         match self.load.coded.get(key as usize) {
             Some(coded) => coded.is_in(&mut self.store, &mut self.into),
@@ -236,6 +256,18 @@ impl<'t> Player<'t> {
             let outcome = self.try_remove(key);
             if matches!(outcome, Outcome::Done(_)) {
                 return true;
+            }
+            self.refuse(&outcome);
+        }
+        false
+    }
+
+    // Reads the objects whose keys are this one or one of so many behind it.
+    fn range(&mut self, key: u32, width: u32) -> bool {
+        for _ in 0..TRIES {
+            let (outcome, count) = count_range(&mut self.store, key, width, &mut self.into);
+            if matches!(outcome, Outcome::Done(_)) {
+                return count <= width.saturating_add(1);
             }
             self.refuse(&outcome);
         }

@@ -23,18 +23,29 @@ const RUNS: u32 = 3;
 // How many calls all clients together play in a run.
 const CALLS: u32 = 400_000;
 
+// How many calls they play of a mix: fewer, where ranges are longer.
+fn calls_of(mix: Mix) -> u32 {
+    match mix {
+        Mix::Ranges(most) => 20_000_000 / most.saturating_add(40),
+        _ => CALLS,
+    }
+}
+
 // How many objects there are where the number of threads grows.
 const OBJECTS: u32 = 10_000;
 
 const THREADS: [u32; 3] = [1, 2, 4];
 
-const MIXES: [(&str, Mix); 6] = [
+const MIXES: [(&str, Mix); 9] = [
     ("lookups", Mix::Lookups),
     ("mixed", Mix::Mixed),
     ("skewed-lookups", Mix::SkewedLookups),
     ("skewed-mixed", Mix::SkewedMixed),
     ("counter", Mix::Counters(1)),
     ("counters", Mix::Counters(4)),
+    ("ranges-10", Mix::Ranges(10)),
+    ("ranges-100", Mix::Ranges(100)),
+    ("ranges-1000", Mix::Ranges(1_000)),
 ];
 
 // The trees that all mixes are played on, and how many objects a leaf of each may have. The first one plays on other numbers of objects, too.
@@ -249,7 +260,7 @@ fn time_line<R: Clock + Print + Threads + Sync + Alloc<A = Global>>(
 ) -> io::Result<()> {
     let objects = first.len();
     let tuning = Tuning { leaf, ..TUNING };
-    match rate_of(rt, tuning, (load, first), (mix, CALLS), threads)? {
+    match rate_of(rt, tuning, (load, first), (mix, calls_of(mix)), threads)? {
         Some((rate, Taken { full, busy, .. })) => {
             println!(rt; "{who},{name},{objects},{threads},{rate},{full},{busy}")
         }

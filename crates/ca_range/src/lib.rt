@@ -33,6 +33,7 @@ pub use filling::range_in_use;
 pub use helped::Helped;
 pub use helping::help_ranges;
 pub use marks::{MarkedBase, range_of};
+pub use reaching::copy_key;
 pub use snapping::snapshot;
 pub use sought::{Run, Snapped, Sought};
 pub use watching::{finish, watch};

@@ -62,7 +62,7 @@ pub(crate) fn begin_range<F: Fn(&[u8]) -> bool>(
     requires number { pass.old.number ≡ (tree_of pass.old).number }
     requires quiet { (tree_of pass.old).ranges.own ≡ Quiet }
     requires tuned { IsTuned (sizes space.now) search.now.tuning.now }
-    requires edges { IsProperBound (bound_of search.now.sought.now.lo) × IsProperBound (bound_of search.now.sought.now.hi) }
+    requires edge { IsProperBound (bound_of search.now.sought.now.hi) }
     requires function { MayBeAskedForAll F.Fn search.now.sought.now.counts.now (sizes space.now).keypos }
     requires met { AreMet account.old.met.numbers (tree_of pass.old).ranges.unfinished }
     requires first { IsFirst (sizes space.now) (bound_of search.now.sought.now.lo) (tree_of pass.old) first }
@@ -128,7 +128,7 @@ fn begin_with<F: Fn(&[u8]) -> bool>(
     requires number { IsNumberOf (tree_of pass.old) rows.own.number }
     requires quiet { (tree_of pass.old).ranges.own ≡ Quiet }
     requires tuned { IsTuned (sizes space.now) search.now.tuning.now }
-    requires edges { IsProperBound (bound_of search.now.sought.now.lo) × IsProperBound (bound_of search.now.sought.now.hi) }
+    requires edge { IsProperBound (bound_of search.now.sought.now.hi) }
     requires function { MayBeAskedForAll F.Fn search.now.sought.now.counts.now (sizes space.now).keypos }
     requires met { AreMet account.old.met.numbers (tree_of pass.old).ranges.unfinished }
     requires first { IsFirst (sizes space.now) (bound_of search.now.sought.now.lo) (tree_of pass.old) first }

@@ -46,7 +46,7 @@ pub(crate) fn reaches(space: &TreeSpace, pass: &mut TreePass, border: u32, key: 
 }
 
 /// Copies the key of a route, or of a row that says up to where a range goes, eight bytes at a time.
-pub(crate) fn copy_key(space: &TreeSpace, pass: &mut TreePass, row: u32, into: &mut Code)
+pub fn copy_key(space: &TreeSpace, pass: &mut TreePass, row: u32, into: &mut Code)
     requires reading { IsReading space.now pass.old }
     requires inside { row ≤ (sizes space.now).rows }
     requires shown { (its : List ℕ) × IsKeyShown (tree_of pass.old) row its }

@@ -40,7 +40,7 @@ pub fn snapshot<F: Fn(&[u8]) -> bool>(
     requires number { pass.old.number ≡ (tree_of pass.old).number }
     requires quiet { (tree_of pass.old).ranges.own ≡ Quiet }
     requires tuned { IsTuned (sizes space.now) tuning.now }
-    requires edges { IsProperBound (bound_of sought.now.lo) × IsProperBound (bound_of sought.now.hi) }
+    requires edge { IsProperBound (bound_of sought.now.hi) }
     requires function { MayBeAskedForAll F.Fn sought.now.counts.now (sizes space.now).keypos }
     requires met { AreMet account.old.met.numbers (tree_of pass.old).ranges.unfinished }
     requires unspent { turns_of account.old.spent < budget }

@@ -6,7 +6,8 @@ use Rattle.ca_replace.specs.declared.attempting.Halt.TheVariants as halt
 use Rattle.ca_model.specs.declared.outcome.Spent.{Spent}
 use Rattle.ca_base.specs.Counting.{losses, HasMet, IsSpent}
 use Rattle.ca_base.proofs.Counts.{met_both}
-use Rattle.ca_node.specs.Told.{MyTree}
+use Rattle.ca_model.specs.Event.{Event}
+use Rattle.ca_node.specs.Told.{MyTree, IsEntered}
 use Rattle.ca_node.specs.TreeView.{TreeView, Turns}
 use Rattle.ca_range.specs.Clearing.{turns_at}
 use Rattle.ca_replace.specs.Attempting.{helps, passes, total, HasHalted, HasNext, HasStopped, IsPaid, IsQuiet, MayFollow}
@@ -75,6 +76,10 @@ none_paid a m m' same turns = let pass = ap (λ (t : Turns). t.passed) turns in
       more_passed = omega arith;
       passed = λ fits. omega arith;
     }
+
+-- An entry in the log costs nothing.
+pub paid_entered : (a : Spent) (m m' : MyTree) (event : Event) → IsEntered event m m' → IsPaid a a m m'
+paid_entered a m m' event e = none_paid a m m' (ap losses e.now) (ap (λ (x : MyTree). x.0.upper.turns) e.now)
 
 -- Exchanges alone were lost, and no other turn was taken.
 pub paid_of : (a b : Spent) (m m' : MyTree) → IsSpent a b m m'

@@ -1,7 +1,6 @@
 -- What a map has up to an edge, by a base that has all keys right below it.
 use Rattle.std.proofs.Common.{◌≡◌, ◌≢◌, ℕ, zero, suc, ◌<◌, ◌≤◌, Bool, true, false, List, [], ◌∷◌, ◌++◌, if◌then◌else◌, length, Option, None, Some, refl, sym, ap, subst, inl, ◌∙◌, arith}
-use Rattle.std.specs.Prelude.{cond, filter, map, not}
-use Rattle.std.specs.Option.{is_some}
+use Rattle.std.specs.Prelude.{cond, map, not}
 use Rattle.std.specs.declared.cmp.Ordering.{Ordering}
 use Rattle.std.specs.declared.cmp.Ordering.TheVariants.{Less, Equal, Greater}
 use Rattle.std.specs.Ordering.{is_lt, is_gt, ordering_reverse}
@@ -182,7 +181,3 @@ walked_last z hi m m' cursor found object w none last first = let u = m'.0.upper
         z.keypos object (state_map z.keypos w.has.at m'.0.upper.seen w.known.edits) own
     by false own low ends = ap last_object (sym (last_first w.note.place.span.low w.note.place.span.high (bound_of hi)
         (state m'.0.upper.seen w.has.at) ends (low refl))) ∙ own
-
-pub no_low : (route : Option ℕ) → is_some route ≡ false → route ≡ None
-no_low None e = refl
-no_low (Some j) e = absurd cc

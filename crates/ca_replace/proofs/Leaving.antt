@@ -1,7 +1,7 @@
 -- What a call that read a range tells once its pass rests.
-use Rattle.std.proofs.Common.{◌≡◌, ◌≤◌, ℕ, Vec, sym, refl, ap, ◌∙◌, subst, arith}
+use Rattle.std.proofs.Common.{◌≡◌, ◌≤◌, Vec, sym, ap, ◌∙◌, subst, arith}
 use Rattle.std.specs.Global.{Global}
-use Rattle.ca_base.specs.Progress.{HasDone, IsRefused}
+use Rattle.ca_base.specs.Progress.{IsRefused}
 use Rattle.ca_model.specs.Answer.{IfDone, IfRefused}
 use Rattle.ca_model.specs.Event.{Event}
 use Rattle.ca_model.specs.Known.{one_more}

@@ -13,7 +13,9 @@ pub mod FullBases
 pub mod GoingOn
 pub mod Growing
 pub mod Helping
+pub mod LastRuns
 pub mod Leaving
+pub mod LooksLeft
 pub mod Marking
 pub mod Meeting
 pub mod Misses

@@ -1,5 +1,5 @@
 -- Attempts of calls that read ranges, one behind another: what they met and learnt, and why such a call is refused.
-use Rattle.std.proofs.Common.{◌≡◌, ℕ, ◌+◌, ◌<◌, ◌≤◌, [], Vec, vec_len, Result, Ok, Err, IfErr, IfOk, sym, refl, ap, ◌∙◌, subst, arith}
+use Rattle.std.proofs.Common.{◌≡◌, ℕ, ◌≤◌, [], Vec, vec_len, Result, Ok, Err, IfErr, IfOk, sym, refl, ap, ◌∙◌, subst, arith}
 use Rattle.std.specs.declared.option.Option.TheVariants.{None as Nothing}
 use Rattle.std.specs.Global.{Global}
 use Rattle.ca_base.proofs.Counts.{met_both}
@@ -13,12 +13,11 @@ use Rattle.ca_model.specs.declared.outcome.Cause.TheVariants as cause
 use Rattle.ca_model.specs.declared.outcome.Counter.TheVariants as counter
 use Rattle.ca_model.specs.declared.outcome.Outcome.{Outcome}
 use Rattle.ca_model.specs.declared.outcome.Spent.{Spent}
-use Rattle.ca_node.specs.Laws.{starts_whole}
 use Rattle.ca_node.specs.Told.{IsKnown, MyTree, with_upper}
-use Rattle.ca_node.specs.TreeView.{TreeView, pinned, unpinned}
+use Rattle.ca_node.specs.TreeView.{TreeView, unpinned}
 use Rattle.ca_replace.specs.declared.missing.Miss.{Miss}
 use Rattle.ca_replace.specs.declared.missing.Miss.TheVariants as miss
-use Rattle.ca_replace.specs.Attempting.{helps, passes, total, HasDoneSuch, IsPaid}
+use Rattle.ca_replace.specs.Attempting.{helps, passes, total, IsPaid}
 use Rattle.ca_replace.specs.Causes.{GaveBack, HasBegun, HasPinned, IfCaused, IsCaused, IsRefill}
 use Rattle.ca_replace.specs.Ranging.{HasMissed, HasMissedBy, HasRangedTo, IsRangeCaused, cause_of}
 use Rattle.ca_replace.specs.Refusals.{outcome_by}

@@ -1,5 +1,5 @@
 -- Stores that open a run.
-use Rattle.std.proofs.Common.{◌≡◌, Bool, List, [], ℕ, Option, None, Some, ◌∙◌, ⊎_elim, refl, subst, sym}
+use Rattle.std.proofs.Common.{◌≡◌, Bool, List, ℕ, Option, Some, ◌∙◌, refl, subst, sym}
 use denote.Ref.{Bor}
 use denote.Param.Members.{Shared}
 use Rattle.ca_base.specs.Progress.{HasDone}

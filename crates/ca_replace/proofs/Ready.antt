@@ -74,3 +74,15 @@ module _ {R : Type 0} {space : Space R TreeView} {pass mid new : Pass R TreeView
     own_range = t.own_range ∙ s.own_range;
     none = t.none;
   }
+
+  -- Loads behind an operation.
+  pub stays_then_read : StaysReady space pass mid → OnlyReads mid new → StaysReady space pass new
+  stays_then_read s f = record {
+    same = (f.same.0 ∙ s.same.0, f.same.1 ∙ s.same.1);
+    number = f.number ∙ s.number;
+    tally = λ h. tallied_as mid.tally new.tally mid.seat.me.0.upper new.seat.me.0.upper f.tally (ap (λ (m : MyTree). m.0.upper) f.still) (s.tally h);
+    pin = (ap (λ (m : MyTree). m.0.sizes) f.still ∙ s.pin.0, ap (λ (m : MyTree). m.0.pin) f.still ∙ s.pin.1);
+    own_range = ap (λ (m : MyTree). m.0.upper.ranges.own) f.still ∙ s.own_range;
+    none = held_looked space.table.shared.key.rows mid.kept new.kept mid.seat.me new.seat.me [] s.none f.kept
+        (ap (λ (m : MyTree). m.0.claims) f.still) (ap (λ (m : MyTree). m.0.most) f.still) (ap (λ (m : MyTree). m.0.upper.ranges.own) f.still);
+  }

@@ -1,7 +1,6 @@
 -- What maps have within edges, and what a run of bases has of a state.
-use Rattle.std.proofs.Common.{◌≡◌, ℕ, zero, suc, ◌+◌, ◌<◌, ◌≤◌, Bool, true, false, List, [], ◌∷◌, ◌++◌, if◌then◌else◌, length, refl, sym, ap, subst, ◌∙◌, inl, inr, arith}
-use Rattle.std.specs.Prelude.{Option, None, Some, cond, filter, map}
-use Rattle.std.proofs.lemmas.List.Elements.{filter-append}
+use Rattle.std.proofs.Common.{◌≡◌, ℕ, ◌<◌, ◌≤◌, Bool, true, false, List, [], ◌∷◌, ◌++◌, if◌then◌else◌, length, refl, sym, ap, subst, ◌∙◌, inl, inr, arith}
+use Rattle.std.specs.Prelude.{None, Some, cond, filter}
 use denote.Ref.{Bor}
 use denote.Param.Members.{Shared}
 use Rattle.ca_base.specs.Putting.{first_note}
@@ -200,29 +199,6 @@ module _ {F : Type 0} (g : Shared F (Bor (List ℕ) × Unit {0}) Bool) (sought :
     (h.later, h.seen),
     sym (run_first wide one),
   )
-
--- Where all up to the upper edge is wanted, from the first key on, the last object is that of the state.
-module _ {F : Type 0} (g : Shared F (Bor (List ℕ) × Unit {0}) Bool) (sought : Sought F) {z : Sizes} {u : TreeView} {run : Run}
-    (h : HasRun g sought z u run) where
-  pub run_last : bound_of sought.lo ≡ Unbounded → sought.want ≡ 0
-      → up_to (bound_of sought.hi) (all_of run u) ≡ up_to (bound_of sought.hi) (state u.seen h.at)
-  run_last wide none = by run.whole h.reaches
-    where
-      by : (whole : Bool) → Reaches g sought.counts.now (bound_of sought.hi) h.cut sought.want
-          (objects_of (within (bound_of sought.lo) h.cut (all_of run u))) whole
-          → up_to (bound_of sought.hi) (all_of run u) ≡ up_to (bound_of sought.hi) (state u.seen h.at)
-      by true r = let same = subst (λ (x : Bound × Bound). within x.0 x.1 (all_of run u) ≡ within x.0 x.1 (state u.seen h.at))
-          (λ i. (wide i, r i)) (run_objects g sought h) in
-          ap (up_to (bound_of sought.hi)) (sym (all_pairs (all_of run u)))
-          ∙ (same ∙ ap (up_to (bound_of sought.hi)) (all_pairs (state u.seen h.at)))
-      by false r = let some = r.1 in absurd (omega (arith, some, none))
-
-  -- So the read of it answers by a state since the pin.
-  pub last_read : (found : Bool) (object : List ℕ) → bound_of sought.lo ≡ Unbounded → sought.want ≡ 0 → IsUnanswered u
-      → last_object (up_to (bound_of sought.hi) (all_of run u)) ≡ cond found (Some object) None
-      → IsReadSince (below_event (bound_of sought.hi) found object) u
-  last_read found object wide none unanswered last = by_last u (bound_of sought.hi) h.at (h.later, h.seen) unanswered found object
-      (sym (ap last_object (run_last wide none)) ∙ last)
 
 -- The first base of some is one of them.
 first_in : (notes : List Note) → 0 < length notes → IsIn (first_note notes) notes

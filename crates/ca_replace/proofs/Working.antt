@@ -1,6 +1,6 @@
 -- Passes at work in a call that reads a range: from when they rested until they rest again.
-use Rattle.std.proofs.Common.{◌≡◌, ◌⊎◌, ◌≤◌, ℕ, ◌<◌, le_refl, [], Bool, false, List, Option, sym, refl, ap, ◌∙◌, subst, ⊎_elim}
-use Rattle.ca_base.specs.Readiness.{IsReady, StaysReady}
+use Rattle.std.proofs.Common.{◌≡◌, ◌⊎◌, ◌≤◌, ℕ, ◌<◌, le_refl, [], Bool, List, Option, sym, refl, ap, ◌∙◌, subst, ⊎_elim}
+use Rattle.ca_base.specs.Readiness.{StaysReady}
 use Rattle.ca_base.specs.Taking.{HoldsFew, lent_of}
 use Rattle.ca_node.specs.Laws.{in_nothing}
 use Rattle.ca_node.specs.Links.{IsIn}
@@ -9,8 +9,8 @@ use Rattle.ca_node.specs.TreeView.{Quiet, Ranging, TreeView, left_over}
 use Rattle.ca_node.proofs.Tallies.{tallied_still}
 use Rattle.ca_node.specs.declared.cursor.Cursor.{Cursor}
 use Rattle.ca_replace.specs.Between.{MayBegin}
-use Rattle.ca_replace.specs.Ranging.{GetsToWork, IsAtWork}
-use Rattle.ca_replace.specs.Resting.{IsAtRest, StaysAtRest}
+use Rattle.ca_replace.specs.Ranging.{IsAtWork}
+use Rattle.ca_replace.specs.Resting.{IsAtRest}
 use Rattle.ca_replace.proofs.Between.{announced, left, may_first}
 use Rattle.ca_replace.proofs.Numbering.{numbered_as}
 use Rattle.ca_replace.proofs.Ready.{ready_after}
@@ -20,8 +20,6 @@ use Rattle.ca_rows.specs.declared.space.Pass.{Pass}
 use Rattle.ca_rows.specs.declared.space.Space.{Space}
 use Rattle.ca_rows.specs.declared.view.Claim.{Claim}
 use Rattle.ca_rows.specs.declared.view.Claim.TheVariants.{Keeps}
-use Rattle.ca_rows.specs.declared.view.Pin.{Pin}
-use Rattle.ca_rows.specs.Calls.{IsSame}
 use Rattle.ca_rows.specs.Claims.{claim_of}
 use Rattle.ca_rows.specs.Kept.{AreKept}
 use Rattle.ca_rows.specs.Passes.{KeepsList}

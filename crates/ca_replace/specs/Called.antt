@@ -18,6 +18,7 @@ pub record StaysStore (s t : StoreView) : Type 0 where
 
 -- A call with this budget, which edits by these answers and may add this key, if any.
 pub record HasTold {T : Type 0} (edits : T → Bool) (adds : Option (List ℕ)) (budget : ℕ) (s t : StoreView) (o : Outcome T) : Type 0 where
+  pub same : StaysStore s t
   -- why it was refused, and how few rows its pass keeps and held
   pub caused : HasCause budget adds s t o
   pub sparing : IsSparing s t

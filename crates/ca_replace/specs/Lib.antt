@@ -1,4 +1,5 @@
 pub mod Adapting
+pub mod Aside
 pub mod Attempting
 pub mod Between
 pub mod Called
@@ -16,6 +17,7 @@ pub mod Running
 pub mod Seen
 pub mod StoreView
 pub mod Tells
+pub mod TreePromises
 pub mod Turning
 pub mod Winning
 pub mod Within

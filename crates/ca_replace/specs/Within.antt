@@ -1,11 +1,12 @@
 -- Calls that read what is within edges, as events.
-use Rattle.std.specs.Prelude.{◌≡◌, ℕ, Bool, true, false, cond, List, [], None, Some}
+use Rattle.std.specs.Prelude.{◌≡◌, ℕ, ◌≤◌, Bool, true, false, cond, List, [], None, Some, length}
 use denote.Ref.{Bor}
 use denote.Param.Members.{Shared}
 use Rattle.ca_base.specs.Progress.{IsFurther}
 use Rattle.ca_base.specs.Putting.{first_note}
 use Rattle.ca_model.specs.Edges.{Bound, bound_of, objects_of, within}
 use Rattle.ca_model.specs.Event.{Event, Above, Below, Range}
+use Rattle.ca_model.specs.History.{state}
 use Rattle.ca_model.specs.Runs.{Reaches}
 use Rattle.ca_node.specs.Told.{IsKnown}
 use Rattle.ca_model.specs.declared.edge.Edge.{Edge}
@@ -13,12 +14,14 @@ use Rattle.ca_model.specs.declared.edge.Edge.TheVariants as edge
 use Rattle.ca_node.specs.declared.cursor.Spot.{Spot}
 use Rattle.ca_node.specs.declared.cursor.Spot.TheVariants as spot
 use Rattle.ca_node.specs.TreeView.{TreeView}
-use Rattle.ca_range.specs.Snapshots.{bases_of}
+use Rattle.ca_range.specs.Edged.{EndsBefore}
+use Rattle.ca_range.specs.Snapshots.{IsRemembered, bases_of}
 use Rattle.ca_range.specs.declared.sought.Run.{Run}
 use Rattle.ca_range.specs.declared.sought.Sought.{Sought}
 use Rattle.ca_replace.specs.Running.{IsOpenRun, all_of, left_of}
 use Rattle.ca_replace.specs.declared.opened.OpenRun.{OpenRun}
 use Rattle.ca_rows.specs.declared.sizes.Sizes.{Sizes}
+use Rattle.ca_runs.specs.Runs.{BeginsBefore}
 
 -- where a run is cut: at the upper edge, where it is whole, and else where its last base ends
 abbrev pub cut_of : Run → TreeView → Bound → Bound
@@ -53,6 +56,18 @@ module _ {F : Type 0} (g : Shared F (Bor (List ℕ) × Unit {0}) Bool) (sought :
     pub cut : Bound
     pub event_is : event ≡ Range (bound_of sought.lo) (bound_of sought.hi) cut (left_of u run)
     pub reaches : Reaches g sought.counts.now (bound_of sought.hi) cut sought.want (left_of u run) whole
+
+-- The bases of a run have what a state since the pin has up to an upper edge, from a lower edge on, or from before it.
+pub record HasAllUpTo (lo hi : Bound) (z : Sizes) (u : TreeView) (run : Run) : Type 0 where
+  pub remembered : IsRemembered z u run
+  pub at : ℕ
+  pub later : length u.since ≤ at
+  pub seen : at ≤ length u.seen
+  pub low : Bound
+  pub before : BeginsBefore low lo
+  pub shown : all_of run u ≡ within low (first_note (bases_of run u)).place.span.high (state u.seen at)
+  pub ends : EndsBefore hi (first_note (bases_of run u)).place.span.high
+  pub known : IsKnown z u
 
 -- It has seen more of the history, at most, and answered no call and was refused none. Behind that its history is known, and it has been pinned no less long.
 pub record HasLearnt (z : Sizes) (u v : TreeView) : Type 0 where

@@ -1,15 +1,20 @@
 //! Attempts of the call that reads the last object within an upper edge.
-ghost use Rattle.std.specs.Prelude.{◌≡◌, ◌≤◌, [], None, Some, cond, false, map};
-ghost use Rattle.ca_model.specs.Edges.{bound_of, last_object, up_to, IsProperBound};
+ghost use Rattle.std.specs.Prelude.{◌≡◌, ◌<◌, ◌≤◌, [], IfOk, None, Some, cond, false, map};
+ghost use Rattle.ca_model.specs.Edges.{Included, Unbounded, bound_of, last_object, up_to, IsProperBound};
+ghost use Rattle.ca_base.specs.Counting.{HasMet};
 ghost use Rattle.ca_base.specs.Putting.{first_note};
+ghost use Rattle.ca_base.specs.Readiness.{StaysReady};
 ghost use Rattle.ca_node.specs.Row.{pair};
 ghost use Rattle.ca_node.specs.States.{IsReadSince};
 ghost use Rattle.ca_node.specs.Told.{IsEntered};
 ghost use Rattle.ca_node.specs.TreePasses.{tree_of};
 ghost use Rattle.ca_node.specs.Walking.{IsWalked};
-ghost use Rattle.ca_replace.specs.Within.{FindsBelow, below_event, spot_at};
+ghost use Rattle.ca_replace.specs.Attempting.{IsPaid, total};
+ghost use Rattle.ca_replace.specs.Ranging.{HasMissedBy, IsAtWork};
+ghost use Rattle.ca_replace.specs.Within.{FindsBelow, HasAllUpTo, HasLearnt, below_event, spot_at};
 ghost use Rattle.ca_rows.specs.Passes.{KeepsList, IsReading, sizes, known};
 
+use crate::aside::look_left;
 use crate::ending::{Read, enter};
 use crate::missing::Miss;
 use crate::ranging::Look;
@@ -43,31 +48,72 @@ impl Look for BelowCall<'_> {
         budget: u32,
         spent: &mut Spent,
     ) -> Result<bool, Miss> {
-        let (cursor, near) = look_near(&tree.space, pass, self.hi, into);
+        let (space, hi) = (&tree.space, self.hi);
+        let (cursor, near) = look_near(space, pass, hi, into);
         if near {
-            enter_last(&tree.space, pass, cursor.base, self.hi, true, into);
+            enter_last(space, pass, cursor.base, hi, true, into);
             return Ok(true);
         }
-        if cursor.low.is_none() {
-            enter_last(&tree.space, pass, cursor.base, self.hi, false, into);
+        let Some(route) = cursor.low else {
+            enter_last(space, pass, cursor.base, hi, false, into);
             return Ok(false);
-        }
-        let counts = |_object: &[u8]| true;
-        let sought = Sought {
-            lo: Edge::Open,
-            hi: self.hi,
-            want: 0,
-            counts: &counts,
         };
-        match snap(tree, pass, &sought, budget, spent) {
+        let mut low = Code::new();
+        let Some(bounded) = look_left(space, pass, route, budget, spent, &mut low) else {
+            return Err(Miss::Busy);
+        };
+        let lo = edge_at(bounded, &low);
+        match take_run(tree, pass, (lo, hi), budget, spent) {
             Ok(run) => {
-                let space = &tree.space;
-                let found = last_within(space, pass, run, self.hi, into);
-                enter_last(space, pass, run.last, self.hi, found, into);
+                let found = last_within(space, pass, run, hi, into);
+                if bounded && !found {
+                    return Err(Miss::Again);
+                }
+                enter_last(space, pass, run.last, hi, found, into);
                 Ok(found)
             }
             Err(why) => Err(why),
         }
+    }
+}
+
+// The edge from this key on, where there is a bound.
+fn edge_at(bounded: bool, low: &[u8]) -> Edge<'_>
+    ensures { bound_of result ≡ cond bounded (Included low.now) Unbounded }
+{
+    if bounded { Edge::At(low) } else { Edge::Open }
+}
+
+// Bases that have together what one state of the history has within a lower edge and an upper one, one since the pin.
+fn take_run(
+    tree: &Tree,
+    pass: &mut TreePass,
+    edges: (Edge<'_>, Edge<'_>),
+    budget: u32,
+    spent: &mut Spent,
+) -> Result<Run, Miss>
+    requires work { IsAtWork tree.now.space pass.old }
+    requires edge { IsProperBound (bound_of edges.1) }
+    requires none_met { (tree_of pass.old).ranges.unfinished ≡ [] }
+    requires unspent { total spent.old < budget }
+    ensures frame { StaysReady tree.now.space pass.old pass.new }
+    ensures learnt { HasLearnt (sizes tree.now.space) (tree_of pass.old) (tree_of pass.new) }
+    ensures run { IfOk result (λ run. HasAllUpTo (bound_of edges.entry.0) (bound_of edges.entry.1) (sizes tree.now.space) (tree_of pass.new) run) }
+    ensures met { IfOk result (λ _. HasMet 0 0 (known pass.old) (known pass.new)) }
+    ensures counted { IsPaid spent.old spent.new (known pass.old) (known pass.new) }
+    ensures missed { HasMissedBy budget spent.new result (known pass.old) (known pass.new) }
+{
+    let counts = |_object: &[u8]| true;
+    let (lo, hi) = edges;
+    let sought = Sought {
+        lo,
+        hi,
+        want: 0,
+        counts: &counts,
+    };
+    match snap(tree, pass, &sought, budget, spent) {
+        Ok(run) => Ok(run),
+        Err(why) => Err(why),
     }
 }
 

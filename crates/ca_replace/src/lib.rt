@@ -2,6 +2,7 @@
 #![tactic(auto)]
 
 mod adapting;
+mod aside;
 mod attempting;
 mod calls;
 mod changing;

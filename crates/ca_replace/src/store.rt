@@ -1,21 +1,11 @@
 //! A pass as a store.
-ghost use Rattle.std.specs.Prelude.{◌≡◌, ◌≤◌, [], None, OnErr, OnOk, Some, length, min, pos, slice_range, true, vec_len};
+ghost use Rattle.std.specs.Prelude.{◌≡◌, ◌≤◌, None, length, min, pos, vec_len};
 ghost use Rattle.ca_adapt.specs.declared.adapted.Adapted.TheVariants.{Stay as IsStay};
-ghost use Rattle.ca_model.specs.Answer.{Altered, FoundAbove, FoundBelow, Got, IfBusy, IfDone, IfRefused, IsDone, IsNeverDeep, Removed, RemovedIf};
-ghost use Rattle.ca_model.specs.Edges.{bound_of, IsProperBound};
-ghost use Rattle.ca_model.specs.Event.{Write, WriteNew};
-ghost use Rattle.ca_model.specs.Function.{KeepsKey, MayBeAskedFor, MayBeAskedForAll};
-ghost use Rattle.ca_model.specs.Known.{Declines, Meets, Stays, StaysBesideRun};
-ghost use Rattle.ca_model.specs.Runs.{HandedOut, IsOpen, Opens};
-ghost use Rattle.ca_model.specs.StoreMap.{IsPair};
-ghost use Rattle.ca_replace.specs.Adapting.{is_put};
-ghost use Rattle.ca_replace.specs.Called.{HasTold, StaysStore};
+ghost use Rattle.ca_replace.specs.Called.{StaysStore};
 ghost use Rattle.ca_replace.specs.Causes.{IsSparing};
 ghost use Rattle.ca_replace.specs.Growing.{IsUntouched};
-ghost use Rattle.ca_replace.specs.Ranging.{HasRangeCause};
 ghost use Rattle.ca_replace.specs.Resting.{IsResting, knows};
 ghost use Rattle.ca_replace.specs.Seen.{store_of};
-ghost use Rattle.ca_term.specs.declared.bounds.TheConstants.{MOST_CODE_BYTES};
 ghost use Rattle.ca_rows.specs.Passes.{sizes};
 
 use crate::adapting::Last;
@@ -33,7 +23,7 @@ use crate::tree::Tree;
 use crate::within::RangeCall;
 use ca_adapt::Adapted;
 use ca_base::Keyed;
-use ca_model::{Changed, Code, Edge, Outcome};
+use ca_model::{Changed, Code, Edge, OrderedStore, Outcome};
 use ca_node::{Front, Link, Spot, TreePass, adapted, front, learn, load_link, walk};
 use ca_range::Sought;
 use std::alloc::AllocError;
@@ -41,6 +31,12 @@ use std::marker::Model;
 
 /// A pass on a tree, as a store of the tree's map. Between two calls it isn't pinned, but where a run is open. Contracts see the tree's table, the pass, what
 /// is kept of its last update, and the run.
+///
+/// No call takes memory: each finds its own room among the tree's rows. `get` is never refused, and loses no turn. A call that edits is refused where no row is
+/// free (`Full`), where the base at the last level that must take a new key has as many objects as it may (`Deep`), and where its attempts lost as many turns to
+/// other passes as the budget (`Busy`); each attempt asks a function that it was handed anew, of the object that it finds. A read of what is within edges is
+/// refused where no row is free, where the budget is spent, and where the number of its pass's ranges is the last one (`Worn`). Behind each call but an open run
+/// the pass keeps few rows, or there is a cause.
 ///
 /// A call that may add a key splits each full base that it meets, and then looks anew; behind its update it splits the new base, where its statistic
 /// says so. On a tree for one pass a call splits at most one base before its update and one behind it, so the tree grows by at most five linked rows,
@@ -139,220 +135,6 @@ impl TreeStore<'_> {
         (i64::from(self.last.statistic), self.last.adapted)
     }
 
-    /// Each call finds its own room among the tree's rows, so this takes no memory and does nothing.
-    pub fn reserve(&mut self) -> Result<(), AllocError>
-        requires closed { (knows self.old).run ≡ None }
-        ensures room { OnOk result (1 ≤ (knows self.new).spare) }
-        ensures lack { OnErr result ((knows self.old).spare ≡ 0) }
-        ensures spared { 1 ≤ (knows self.old).spare → knows self.new ≡ knows self.old }
-        ensures stays { Stays (knows self.old) (knows self.new) }
-        ensures same { self.new ≡ self.old }
-    {
-        Ok(())
-    }
-
-    /// Whether an object has the key; then `into` is the object, else it is empty. It is never refused, and it loses no turn.
-    pub fn get(&mut self, key: &[u8], into: &mut Code, budget: u32) -> Outcome<bool>
-        requires budget { 1 ≤ budget }
-        requires closed { (knows self.old).run ≡ None }
-        requires key { (1 ≤ length key.now) × (length key.now ≤ MOST_CODE_BYTES) }
-        ensures done { IsDone result }
-        ensures got { IfDone result (λ found. Got (knows self.old) (knows self.new) key.now found into.new.items) }
-        ensures closed { (knows self.new).run ≡ None }
-        ensures frame { StaysStore self.old.store self.new.store }
-        ensures last { (self.new.store.last ≡ self.old.store.last) × IsUntouched self.old.store.seat.me.0.upper self.new.store.seat.me.0.upper }
-        ensures sparing { IsSparing self.old.store self.new.store }
-    {
-        let _budget = budget;
-        let space = &self.tree.space;
-        space.pin(&mut self.pass);
-        let cursor = walk(space, &mut self.pass, Spot::At(key));
-        let found = look_up(space, &mut self.pass, cursor, key, into);
-        space.unpin(&mut self.pass);
-        keep_few(self.tree, &mut self.pass);
-        Outcome::Done(found)
-    }
-
-    /// Puts the object, in the place of its key's object where there is one. Its key stands in it from `key_at` to `key_end`. It is refused
-    /// where no row is free, where the base that must take a new key has as many objects as it may, and where each of its attempts, as
-    /// many as the budget, was lost to another pass.
-    pub fn put(&mut self, object: &[u8], key_at: usize, key_end: usize, budget: u32) -> Outcome<()>
-        requires budget { 1 ≤ budget }
-        requires closed { (knows self.old).run ≡ None }
-        requires room { 1 ≤ (knows self.old).spare }
-        requires place { (key_at ≤ key_end) × (key_end ≤ length object.now) }
-        requires pair { IsPair (knows self.old).keypos (slice_range object.now key_at key_end, object.now) }
-        ensures put { IfDone result (λ _. Meets (knows self.old) (knows self.new) (Write (slice_range object.now key_at key_end) object.now)) }
-        ensures refused { IfRefused result (λ rise. Declines (knows self.old) (knows self.new) (rise (knows self.old).counts)) }
-        ensures busy { IfBusy result (λ spent. budget ≤ spent) }
-        ensures told { HasTold (λ _. true) (Some (slice_range object.now key_at key_end)) budget self.old.store self.new.store result }
-        ensures closed { (knows self.new).run ≡ None }
-        ensures frame { StaysStore self.old.store self.new.store }
-    {
-        let keyed = Keyed {
-            object,
-            key_at,
-            key_end,
-        };
-        let what = &PutCall { keyed };
-        let order = Order { what, budget };
-        let (pass, last) = (&mut self.pass, &mut self.last);
-        call(self.tree, pass, &order, &mut (), &mut (), last)
-    }
-
-    /// Puts the object where no object has its key, and answers whether it did. Its key stands in it from `key_at` to `key_end`. It is
-    /// refused where no row is free, where the base that must take it has as many objects as it may, and where each of its attempts, as
-    /// many as the budget, was lost to another pass.
-    pub fn put_new(
-        &mut self,
-        object: &[u8],
-        key_at: usize,
-        key_end: usize,
-        budget: u32,
-    ) -> Outcome<bool>
-        requires budget { 1 ≤ budget }
-        requires closed { (knows self.old).run ≡ None }
-        requires room { 1 ≤ (knows self.old).spare }
-        requires place { (key_at ≤ key_end) × (key_end ≤ length object.now) }
-        requires pair { IsPair (knows self.old).keypos (slice_range object.now key_at key_end, object.now) }
-        ensures put { IfDone result (λ new. Meets (knows self.old) (knows self.new) (WriteNew (slice_range object.now key_at key_end) object.now new)) }
-        ensures refused { IfRefused result (λ rise. Declines (knows self.old) (knows self.new) (rise (knows self.old).counts)) }
-        ensures busy { IfBusy result (λ spent. budget ≤ spent) }
-        ensures told { HasTold (λ new. new) (Some (slice_range object.now key_at key_end)) budget self.old.store self.new.store result }
-        ensures closed { (knows self.new).run ≡ None }
-        ensures frame { StaysStore self.old.store self.new.store }
-    {
-        let keyed = Keyed {
-            object,
-            key_at,
-            key_end,
-        };
-        let what = &PutNewCall { keyed };
-        let order = Order { what, budget };
-        let (pass, last) = (&mut self.pass, &mut self.last);
-        call(self.tree, pass, &order, &mut (), &mut (), last)
-    }
-
-    /// Removes the key's object, and answers whether there was one; then `old` is the object, else it is empty. It is refused where no row
-    /// is free, and where each of its attempts, as many as the budget, was lost to another pass.
-    pub fn remove(&mut self, key: &[u8], old: &mut Code, budget: u32) -> Outcome<bool>
-        requires budget { 1 ≤ budget }
-        requires closed { (knows self.old).run ≡ None }
-        requires key { (1 ≤ length key.now) × (length key.now ≤ MOST_CODE_BYTES) }
-        ensures removed { IfDone result (λ was. Removed (knows self.old) (knows self.new) key.now was old.new.items) }
-        ensures refused { IfRefused result (λ rise. Declines (knows self.old) (knows self.new) (rise (knows self.old).counts)) }
-        ensures emptied { IfRefused result (λ _. old.new.items ≡ []) }
-        ensures never_deep { IsNeverDeep result }
-        ensures busy { IfBusy result (λ spent. budget ≤ spent) }
-        ensures told { HasTold (λ was. was) None budget self.old.store self.new.store result }
-        ensures closed { (knows self.new).run ≡ None }
-        ensures frame { StaysStore self.old.store self.new.store }
-    {
-        let what = &RemoveCall { key };
-        let order = Order { what, budget };
-        let (pass, last) = (&mut self.pass, &mut self.last);
-        let outcome = call(self.tree, pass, &order, &mut *old, &mut (), last);
-        empty_if_refused(&outcome, old);
-        outcome
-    }
-
-    /// Removes the key's object where `f` answers true on it: `Put`. Where it answers false the object stays: `Kept`. In both cases `old`
-    /// is the object; it is empty where no object has the key: `Absent`. It is refused where no row is free, and where each of its attempts,
-    /// as many as the budget, was lost to another pass; each attempt asks `f` anew, of the object that it finds.
-    pub fn remove_if<F: Fn(&[u8]) -> bool>(
-        &mut self,
-        key: &[u8],
-        f: &F,
-        old: &mut Code,
-        budget: u32,
-    ) -> Outcome<Changed>
-        requires budget { 1 ≤ budget }
-        requires closed { (knows self.old).run ≡ None }
-        requires key { (1 ≤ length key.now) × (length key.now ≤ MOST_CODE_BYTES) }
-        requires function { MayBeAskedFor F.Fn f.now (knows self.old).keypos key.now }
-        ensures removed { IfDone result (λ changed. RemovedIf F.Fn f.now (knows self.old) (knows self.new) key.now changed old.new.items) }
-        ensures refused { IfRefused result (λ rise. Declines (knows self.old) (knows self.new) (rise (knows self.old).counts)) }
-        ensures emptied { IfRefused result (λ _. old.new.items ≡ []) }
-        ensures never_deep { IsNeverDeep result }
-        ensures busy { IfBusy result (λ spent. budget ≤ spent) }
-        ensures told { HasTold is_put None budget self.old.store self.new.store result }
-        ensures closed { (knows self.new).run ≡ None }
-        ensures frame { StaysStore self.old.store self.new.store }
-    {
-        let what = &RemoveIfCall { key, f };
-        let order = Order { what, budget };
-        let (pass, last) = (&mut self.pass, &mut self.last);
-        let outcome = call(self.tree, pass, &order, &mut *old, &mut (), last);
-        empty_if_refused(&outcome, old);
-        outcome
-    }
-
-    /// Hands the key's object to `f`, with an empty Code and a number. Where it answers true, what it wrote into the Code replaces the
-    /// object: `Put`; it must be an object with the same key, and the number that it wrote the byte at which the key begins there. Where
-    /// it answers false the object stays: `Kept`. In both cases `old` is the object that was found; it is empty where no object has the
-    /// key: `Absent`. It is refused where no row is free, and where each of its attempts, as many as the budget, was lost to another pass;
-    /// each attempt asks `f` anew, of the object that it finds.
-    pub fn change<F: Fn(&[u8], &mut Code, &mut usize) -> bool>(
-        &mut self,
-        key: &[u8],
-        f: &F,
-        old: &mut Code,
-        budget: u32,
-    ) -> Outcome<Changed>
-        requires budget { 1 ≤ budget }
-        requires closed { (knows self.old).run ≡ None }
-        requires key { (1 ≤ length key.now) × (length key.now ≤ MOST_CODE_BYTES) }
-        requires function { KeepsKey F.Fn f.now (knows self.old).keypos key.now }
-        ensures changed { IfDone result (λ changed. Altered F.Fn f.now (knows self.old) (knows self.new) key.now changed old.new.items) }
-        ensures refused { IfRefused result (λ rise. Declines (knows self.old) (knows self.new) (rise (knows self.old).counts)) }
-        ensures emptied { IfRefused result (λ _. old.new.items ≡ []) }
-        ensures never_deep { IsNeverDeep result }
-        ensures busy { IfBusy result (λ spent. budget ≤ spent) }
-        ensures told { HasTold is_put None budget self.old.store self.new.store result }
-        ensures closed { (knows self.new).run ≡ None }
-        ensures frame { StaysStore self.old.store self.new.store }
-    {
-        let what = &ChangeCall { key, f };
-        let order = Order { what, budget };
-        let (pass, last) = (&mut self.pass, &mut self.last);
-        let outcome = call(self.tree, pass, &order, &mut *old, &mut self.room, last);
-        empty_if_refused(&outcome, old);
-        outcome
-    }
-
-    /// Hands out the next object of the open run, in key order: true, and `into` is the object. At the end of the run it answers false, and
-    /// `into` is empty. The store learns of no edit by it.
-    pub fn found(&mut self, into: &mut Code) -> bool
-        requires open { IsOpen (knows self.old) }
-        ensures handed_out { HandedOut (knows self.old) (knows self.new) result into.new.items }
-        ensures stays { StaysBesideRun (knows self.old) (knows self.new) }
-        ensures frame { StaysStore self.old.store self.new.store }
-        ensures pass { (self.new.store.kept ≡ self.old.store.kept) × (self.new.store.seat.me ≡ self.old.store.seat.me) }
-        ensures last { self.new.store.last ≡ self.old.store.last }
-    {
-        let Some(run) = &mut self.run else {
-            into.clear();
-            return false;
-        };
-        found_next(&self.tree.space, &mut self.pass, run, into)
-    }
-
-    /// Ends the open run, and does nothing where none is open. Behind a run the pass keeps few rows, or there is a cause.
-    pub fn close_run(&mut self)
-        ensures closed { (knows self.new).run ≡ None }
-        ensures stays { StaysBesideRun (knows self.old) (knows self.new) }
-        ensures frame { StaysStore self.old.store self.new.store }
-        ensures last { (self.new.store.last ≡ self.old.store.last) × IsUntouched self.old.store.seat.me.0.upper self.new.store.seat.me.0.upper }
-        ensures sparing { IsOpen (knows self.old) → IsSparing self.old.store self.new.store }
-    {
-        let Some(_) = self.run else {
-            return;
-        };
-        self.run = None;
-        self.tree.space.unpin(&mut self.pass);
-        keep_few(self.tree, &mut self.pass);
-    }
-
     /// A copy of what the pass has seen of the tree's history.
     pub fn front(&mut self) -> Front
         ensures frame { StaysStore self.old.store self.new.store }
@@ -388,70 +170,113 @@ impl TreeStore<'_> {
     }
 }
 
-impl TreeStore<'_> {
-    /// Whether an object is within the lower edge; then `into` is the first one, else it is empty.
-    pub fn above(&mut self, lo: Edge<'_>, into: &mut Code, budget: u32) -> Outcome<bool>
-        requires budget { 1 ≤ budget }
-        requires closed { (knows self.old).run ≡ None }
-        requires edge { IsProperBound (bound_of lo) }
-        ensures found { IfDone result (λ found. FoundAbove (knows self.old) (knows self.new) (bound_of lo.entry) found into.new.items) }
-        ensures refused { IfRefused result (λ rise. Declines (knows self.old) (knows self.new) (rise (knows self.old).counts)) }
-        ensures emptied { IfRefused result (λ _. into.new.items ≡ []) }
-        ensures never_deep { IsNeverDeep result }
-        ensures busy { IfBusy result (λ spent. budget ≤ spent) }
-        ensures closed { (knows self.new).run ≡ None }
-        ensures frame { StaysStore self.old.store self.new.store }
-        ensures caused { HasRangeCause budget self.old.store self.new.store result }
-        ensures sparing { IsSparing self.old.store self.new.store }
-        ensures last { self.new.store.last ≡ self.old.store.last }
-    {
+impl OrderedStore for TreeStore<'_> {
+    ghost knows = { knows };
+
+    ghost use Rattle.ca_replace.specs.TreePromises.{tree_promises};
+
+    ghost promises = { tree_promises };
+
+    fn reserve(&mut self) -> Result<(), AllocError> {
+        Ok(())
+    }
+
+    fn get(&mut self, key: &[u8], into: &mut Code, budget: u32) -> Outcome<bool> {
+        let _budget = budget;
+        let space = &self.tree.space;
+        space.pin(&mut self.pass);
+        let cursor = walk(space, &mut self.pass, Spot::At(key));
+        let found = look_up(space, &mut self.pass, cursor, key, into);
+        space.unpin(&mut self.pass);
+        keep_few(self.tree, &mut self.pass);
+        Outcome::Done(found)
+    }
+
+    fn put(&mut self, object: &[u8], key_at: usize, key_end: usize, budget: u32) -> Outcome<()> {
+        let keyed = Keyed {
+            object,
+            key_at,
+            key_end,
+        };
+        let what = &PutCall { keyed };
+        let order = Order { what, budget };
+        let (pass, last) = (&mut self.pass, &mut self.last);
+        call(self.tree, pass, &order, &mut (), &mut (), last)
+    }
+
+    fn put_new(
+        &mut self,
+        object: &[u8],
+        key_at: usize,
+        key_end: usize,
+        budget: u32,
+    ) -> Outcome<bool> {
+        let keyed = Keyed {
+            object,
+            key_at,
+            key_end,
+        };
+        let what = &PutNewCall { keyed };
+        let order = Order { what, budget };
+        let (pass, last) = (&mut self.pass, &mut self.last);
+        call(self.tree, pass, &order, &mut (), &mut (), last)
+    }
+
+    fn remove(&mut self, key: &[u8], old: &mut Code, budget: u32) -> Outcome<bool> {
+        let what = &RemoveCall { key };
+        let order = Order { what, budget };
+        let (pass, last) = (&mut self.pass, &mut self.last);
+        let outcome = call(self.tree, pass, &order, &mut *old, &mut (), last);
+        empty_if_refused(&outcome, old);
+        outcome
+    }
+
+    fn remove_if<F: Fn(&[u8]) -> bool>(
+        &mut self,
+        key: &[u8],
+        f: &F,
+        old: &mut Code,
+        budget: u32,
+    ) -> Outcome<Changed> {
+        let what = &RemoveIfCall { key, f };
+        let order = Order { what, budget };
+        let (pass, last) = (&mut self.pass, &mut self.last);
+        let outcome = call(self.tree, pass, &order, &mut *old, &mut (), last);
+        empty_if_refused(&outcome, old);
+        outcome
+    }
+
+    fn change<F: Fn(&[u8], &mut Code, &mut usize) -> bool>(
+        &mut self,
+        key: &[u8],
+        f: &F,
+        old: &mut Code,
+        budget: u32,
+    ) -> Outcome<Changed> {
+        let what = &ChangeCall { key, f };
+        let order = Order { what, budget };
+        let (pass, last) = (&mut self.pass, &mut self.last);
+        let outcome = call(self.tree, pass, &order, &mut *old, &mut self.room, last);
+        empty_if_refused(&outcome, old);
+        outcome
+    }
+
+    fn above(&mut self, lo: Edge<'_>, into: &mut Code, budget: u32) -> Outcome<bool> {
         above(self.tree, &mut self.pass, lo, into, budget)
     }
 
-    /// Whether an object is within the upper edge; then `into` is the last one, else it is empty.
-    pub fn below(&mut self, hi: Edge<'_>, into: &mut Code, budget: u32) -> Outcome<bool>
-        requires budget { 1 ≤ budget }
-        requires closed { (knows self.old).run ≡ None }
-        requires edge { IsProperBound (bound_of hi) }
-        ensures found { IfDone result (λ found. FoundBelow (knows self.old) (knows self.new) (bound_of hi.entry) found into.new.items) }
-        ensures refused { IfRefused result (λ rise. Declines (knows self.old) (knows self.new) (rise (knows self.old).counts)) }
-        ensures emptied { IfRefused result (λ _. into.new.items ≡ []) }
-        ensures never_deep { IsNeverDeep result }
-        ensures busy { IfBusy result (λ spent. budget ≤ spent) }
-        ensures closed { (knows self.new).run ≡ None }
-        ensures frame { StaysStore self.old.store self.new.store }
-        ensures caused { HasRangeCause budget self.old.store self.new.store result }
-        ensures sparing { IsSparing self.old.store self.new.store }
-        ensures last { self.new.store.last ≡ self.old.store.last }
-    {
+    fn below(&mut self, hi: Edge<'_>, into: &mut Code, budget: u32) -> Outcome<bool> {
         below(self.tree, &mut self.pass, hi, into, budget)
     }
 
-    /// Opens a run of the objects within both edges, or from the lower edge up to a cut: true where it reaches the upper edge. It may be cut
-    /// where `want` isn't 0, and `counts` answered true on at least `want` objects of the run.
-    pub fn range<F: Fn(&[u8]) -> bool>(
+    fn range<F: Fn(&[u8]) -> bool>(
         &mut self,
         lo: Edge<'_>,
         hi: Edge<'_>,
         want: u32,
         counts: &F,
         budget: u32,
-    ) -> Outcome<bool>
-        requires budget { 1 ≤ budget }
-        requires closed { (knows self.old).run ≡ None }
-        requires lower_edge { IsProperBound (bound_of lo) }
-        requires upper_edge { IsProperBound (bound_of hi) }
-        requires function { MayBeAskedForAll F.Fn counts.now (knows self.old).keypos }
-        ensures opens { IfDone result (λ whole. Opens F.Fn counts.now (knows self.old) (knows self.new) (bound_of lo.entry) (bound_of hi.entry) want whole) }
-        ensures refused { IfRefused result (λ rise. Declines (knows self.old) (knows self.new) (rise (knows self.old).counts)) }
-        ensures closed { IfRefused result (λ _. (knows self.new).run ≡ None) }
-        ensures never_deep { IsNeverDeep result }
-        ensures busy { IfBusy result (λ spent. budget ≤ spent) }
-        ensures frame { StaysStore self.old.store self.new.store }
-        ensures caused { HasRangeCause budget self.old.store self.new.store result }
-        ensures sparing { IfRefused result (λ _. IsSparing self.old.store self.new.store) }
-        ensures last { self.new.store.last ≡ self.old.store.last }
-    {
+    ) -> Outcome<bool> {
         let sought = Sought {
             lo,
             hi,
@@ -466,5 +291,22 @@ impl TreeStore<'_> {
             }
             Err(why) => outcome_by(why),
         }
+    }
+
+    fn found(&mut self, into: &mut Code) -> bool {
+        let Some(run) = &mut self.run else {
+            into.clear();
+            return false;
+        };
+        found_next(&self.tree.space, &mut self.pass, run, into)
+    }
+
+    fn close_run(&mut self) {
+        let Some(_) = self.run else {
+            return;
+        };
+        self.run = None;
+        self.tree.space.unpin(&mut self.pass);
+        keep_few(self.tree, &mut self.pass);
     }
 }

@@ -1,5 +1,6 @@
 //! Attempts of calls that read what is within edges: a run, and the first object within a lower edge.
 ghost use Rattle.std.specs.Prelude.{◌≡◌, ◌<◌, [], IfErr, IfOk, None, Some, cond, false};
+ghost use Rattle.ca_base.specs.Counting.{HasMet};
 ghost use Rattle.ca_base.specs.Readiness.{StaysReady};
 ghost use Rattle.ca_model.specs.Edges.{bound_of, first_object, from, IsProperBound};
 ghost use Rattle.ca_model.specs.Event.{Above};
@@ -160,13 +161,14 @@ pub(crate) fn snap<F: Fn(&[u8]) -> bool>(
     spent: &mut Spent,
 ) -> Result<Run, Miss>
     requires work { IsAtWork tree.now.space pass.old }
-    requires edges { IsProperBound (bound_of sought.now.lo) × IsProperBound (bound_of sought.now.hi) }
+    requires edge { IsProperBound (bound_of sought.now.hi) }
     requires function { MayBeAskedForAll F.Fn sought.now.counts.now (sizes tree.now.space).keypos }
     requires none_met { (tree_of pass.old).ranges.unfinished ≡ [] }
     requires unspent { total spent.old < budget }
     ensures frame { StaysReady tree.now.space pass.old pass.new }
     ensures learnt { HasLearnt (sizes tree.now.space) (tree_of pass.old) (tree_of pass.new) }
     ensures run { IfOk result (λ run. HasRun F.Fn sought.now (sizes tree.now.space) (tree_of pass.new) run) }
+    ensures met { IfOk result (λ _. HasMet 0 0 (known pass.old) (known pass.new)) }
     ensures counted { IsPaid spent.old spent.new (known pass.old) (known pass.new) }
     ensures missed { HasMissedBy budget spent.new result (known pass.old) (known pass.new) }
 {

@@ -6,7 +6,7 @@ ghost use Rattle.ca_tree_tests.specs.Objects.{number_code};
 ghost use Rattle.ca_replace.specs.Resting.{knows};
 
 use crate::objects::{key_code, object, write_next};
-use ca_model::{Changed, Code, Outcome};
+use ca_model::{Changed, Code, OrderedStore, Outcome};
 use ca_replace::TreeStore;
 
 /// Puts the object.

@@ -18,7 +18,7 @@ const DRAWING: &str =
 
 const ONE: Answer = Many(1, Outcome::Done(()));
 
-const PUTS: [Row; 8] = [
+pub(crate) const PUTS: [Row; 8] = [
     (PutRising(2, 3), ONE),
     (PutRising(4, 5), ONE),
     (PutRising(6, 7), ONE),

@@ -16,6 +16,8 @@ mod events;
 #[cfg(test)]
 mod leaves;
 #[cfg(test)]
+mod marked;
+#[cfg(test)]
 mod merges;
 #[cfg(test)]
 mod nodes;

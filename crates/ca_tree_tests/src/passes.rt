@@ -4,7 +4,7 @@ ghost use Rattle.ca_replace.specs.Resting.{knows};
 
 use crate::trees::{ZERO, tree_of, tuning_of};
 use ca_adapt::{Due, Tuning};
-use ca_model::{Code, Outcome};
+use ca_model::{Code, OrderedStore, Outcome};
 use ca_node::TreeSpace;
 use ca_replace::{Tree, TreeFault, TreeStore};
 use ca_rows::{RowsFault, Starts};

@@ -4,7 +4,7 @@ ghost use Rattle.ca_model.specs.StoreMap.{IsPair};
 ghost use Rattle.ca_replace.specs.Resting.{knows};
 
 use crate::trees::{Few, ZERO, tree_of, tuning_of};
-use ca_model::{Code, Outcome};
+use ca_model::{Code, OrderedStore, Outcome};
 use ca_replace::TreeStore;
 use std::alloc::Global;
 

@@ -7,7 +7,7 @@ use crate::calls::put;
 use crate::objects::value_of;
 use crate::ranges::{next, open_all};
 use crate::trees::{ZERO, tree_of, tuning_of};
-use ca_model::{Code, Outcome};
+use ca_model::{Code, OrderedStore, Outcome};
 use ca_replace::TreeStore;
 use std::thread::{Threads, for_each_mut, sleep};
 use std::time::{Clock, Duration};

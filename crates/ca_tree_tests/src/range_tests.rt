@@ -5,10 +5,10 @@ ghost use Rattle.ca_replace.specs.Resting.{knows};
 use crate::calls::{get, put};
 use crate::ranges::{End, Handed, above, below, open_all, range};
 use crate::scripts::Answer::{Finds, Many};
-use crate::scripts::Call::{PutFalling, PutOften, PutRising, PutSparing, Remove, RemoveEven};
+use crate::scripts::Call::{Put, PutFalling, PutOften, PutRising, PutSparing, Remove, RemoveEven};
 use crate::scripts::{Answer, Row, wrong_row};
 use crate::trees::{Few, ZERO, tree_of, tuning_of};
-use ca_model::{Changed, Code, FullCause, Outcome, Spent};
+use ca_model::{Changed, Code, FullCause, OrderedStore, Outcome, Spent};
 use ca_replace::TreeStore;
 
 // A call: a range of all that may be cut behind so many objects, or not if that is 0, or a call that looks for one object.
@@ -119,6 +119,91 @@ fn a_range_takes_a_turn_for_each_base_that_it_passes(rt: HostRuntime) {
     let mut store = TreeStore::new(&tree, pass);
     assert_eq!(rt; wrong_row(&mut store, &TEN), None);
     assert_eq!(rt; wrong_read(&mut store, &TURNS), None);
+}
+
+const REMOVED: Answer = Finds(Outcome::Done(Changed::Put), Some(0));
+
+// Three bases in the middle have no object any more.
+const MIDDLE: [Row; 3] = [
+    (Remove(5), REMOVED),
+    (Remove(6), REMOVED),
+    (Remove(7), REMOVED),
+];
+
+// Each base that is looked at to the left is a turn, and then each that the run passes, from the last one that was looked at on: with as many turns a call gives
+// up, and with one more it is done. The base right below the edge costs none, nor does a call that ends there.
+const BEHIND_THREE: [Turn; 14] = [
+    (Reads::Below(End::Past(5)), 1, Comes::Whole(4)),
+    (Reads::Below(End::At(8)), 1, Comes::Whole(8)),
+    // one look, and two bases
+    (Reads::Below(End::At(5)), 1, Comes::Passes(1)),
+    (Reads::Below(End::At(5)), 2, Comes::Passes(2)),
+    (Reads::Below(End::At(5)), 3, Comes::Passes(3)),
+    (Reads::Below(End::At(5)), 4, Comes::Whole(4)),
+    // two looks, and three bases
+    (Reads::Below(End::Past(7)), 5, Comes::Passes(5)),
+    (Reads::Below(End::Past(7)), 6, Comes::Whole(4)),
+    // three looks, and four bases
+    (Reads::Below(End::At(7)), 3, Comes::Passes(3)),
+    (Reads::Below(End::At(7)), 7, Comes::Passes(7)),
+    (Reads::Below(End::At(7)), 8, Comes::Whole(4)),
+    (Reads::Below(End::Past(8)), 4, Comes::Passes(4)),
+    (Reads::Below(End::Past(8)), 7, Comes::Passes(7)),
+    (Reads::Below(End::Past(8)), 8, Comes::Whole(4)),
+];
+
+// Nor have all on the left of them, and the last one.
+const LEFT: [Row; 6] = [
+    (Remove(1), REMOVED),
+    (Remove(2), REMOVED),
+    (Remove(3), REMOVED),
+    (Remove(4), REMOVED),
+    (Remove(9), REMOVED),
+    (Remove(10), REMOVED),
+];
+
+const BEHIND_ALL: [Turn; 8] = [
+    // the first base
+    (Reads::Below(End::At(1)), 1, Comes::Nothing),
+    // one look, and two bases
+    (Reads::Below(End::At(2)), 3, Comes::Passes(3)),
+    (Reads::Below(End::At(2)), 4, Comes::Nothing),
+    (Reads::Below(End::Open), 3, Comes::Passes(3)),
+    (Reads::Below(End::Open), 4, Comes::Whole(8)),
+    // six looks, and seven bases
+    (Reads::Below(End::Past(8)), 6, Comes::Passes(6)),
+    (Reads::Below(End::Past(8)), 13, Comes::Passes(13)),
+    (Reads::Below(End::Past(8)), 14, Comes::Nothing),
+];
+
+// The first one has its object again.
+const FIRST: [Row; 1] = [(Put(1), Answer::Puts(Outcome::Done(Changed::Put)))];
+
+const BEHIND_FIRST: [Turn; 4] = [
+    // two looks, and three bases
+    (Reads::Below(End::At(3)), 5, Comes::Passes(5)),
+    (Reads::Below(End::At(3)), 6, Comes::Whole(1)),
+    // six looks, and seven bases
+    (Reads::Below(End::Past(8)), 13, Comes::Passes(13)),
+    (Reads::Below(End::Past(8)), 14, Comes::Whole(1)),
+];
+
+#[test]
+fn the_last_object_takes_a_turn_for_each_base_on_the_left(rt: HostRuntime) {
+    let Ok(mut tree) = tree_of(rt.alloc(), 384, 1, tuning_of(STAIRS), ZERO) else {
+        panic!(rt; "no memory")
+    };
+    let Ok(pass) = tree.enroll(rt.alloc()) else {
+        panic!(rt; "no pass")
+    };
+    let mut store = TreeStore::new(&tree, pass);
+    assert_eq!(rt; wrong_row(&mut store, &TEN), None);
+    assert_eq!(rt; wrong_row(&mut store, &MIDDLE), None);
+    assert_eq!(rt; wrong_read(&mut store, &BEHIND_THREE), None);
+    assert_eq!(rt; wrong_row(&mut store, &LEFT), None);
+    assert_eq!(rt; wrong_read(&mut store, &BEHIND_ALL), None);
+    assert_eq!(rt; wrong_row(&mut store, &FIRST), None);
+    assert_eq!(rt; wrong_read(&mut store, &BEHIND_FIRST), None);
 }
 
 // Whether a key is from a lower edge on.
@@ -258,8 +343,6 @@ fn wrong_edges(store: &mut TreeStore<'_>, keys: u64) -> Option<(u32, Option<u32>
     }
     None
 }
-
-const REMOVED: Answer = Finds(Outcome::Done(Changed::Put), Some(0));
 
 const ODD: [Row; 2] = [
     (PutRising(0, 32), Many(32, Outcome::Done(()))),

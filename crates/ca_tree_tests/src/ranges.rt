@@ -6,7 +6,7 @@ ghost use Rattle.ca_replace.specs.Resting.{knows};
 ghost use Rattle.ca_term.specs.declared.bounds.TheConstants.{MOST_CODE_BYTES};
 
 use crate::objects::{key_code, value_of};
-use ca_model::{Code, Edge, Outcome};
+use ca_model::{Code, Edge, OrderedStore, Outcome};
 use ca_replace::TreeStore;
 
 /// An edge, by the number of its key.

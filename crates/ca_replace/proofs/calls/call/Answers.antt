@@ -27,6 +27,7 @@ pub returns-in-Ok-clause-told : goal.returns-in-Ok-clause-told
 returns-in-Ok-clause-told g c = let space = c.args.tree.now.space.table.shared in
     let pass = c.args.pass.now in let last = c.attempts.new.pass in
     let turns = c.in-Ok.ensures.turns in record {
+      same = record { table = refl; sizes = refl; tuning = refl; number = c.attempts.ensures.frame.number };
       caused = tt;
       sparing = (
         c.attempts.ensures.few,
@@ -65,6 +66,7 @@ returns-in-Err-clause-told g c = let space = c.args.tree.now.space.table.shared 
     let kept = ap (λ (k : KeptRows). k.rows) c.give_up.ensures.kept in
     let here = λ (one : space.key.passes ≡ 1). alone space.table_id space.key pass.number pass.tally
     pass.kept pass.seat c.requires.resting one in record {
+      same = record { table = refl; sizes = refl; tuning = refl; number = c.give_up.ensures.frame.number ∙ c.attempts.ensures.frame.number };
       caused = caused_still pass.seat.me last.seat.me behind.seat.me counts pass.kept.rows
           last.kept.rows behind.kept.rows c.give_up.ensures.counted kept space.key pass.number
           c.args.order.now.budget adds c.in-Err.why c.outcome_by.result c.outcome_by.ensures

@@ -1,4 +1,3 @@
-use Rattle.ca_replace.specs.Within.{spot_at}
 use Rattle.ca_replace.proofs.Ends.{walked_remembered}
 use Rattle.ca_replace.proofs.lasts.look_near.Goals as goal
 

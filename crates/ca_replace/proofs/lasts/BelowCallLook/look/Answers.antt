@@ -1,14 +1,21 @@
-use Rattle.std.proofs.Common.{◌≡◌, Bool, None, Some, false, refl, subst, sym, true}
+use Rattle.std.proofs.Common.{◌≡◌, ◌∙◌, Bool, None, Option, Some, ap, false, refl, subst, sym, true, ℕ}
 use Rattle.std.specs.Prelude.{cond, map}
 use Rattle.ca_base.specs.Putting.{first_note}
-use Rattle.ca_model.specs.Edges.{bound_of, last_object, up_to}
+use Rattle.ca_model.specs.Edges.{Included, Unbounded, bound_of, last_object, up_to}
 use Rattle.ca_node.specs.Row.{pair}
 use Rattle.ca_node.specs.States.{IsReadSince}
-use Rattle.ca_node.specs.Told.{MyTree}
+use Rattle.ca_node.specs.Told.{IsKnown, MyTree}
+use Rattle.ca_node.specs.Walking.{IsLowRoute}
+use Rattle.ca_base.specs.Progress.{IsFurther}
+use Rattle.ca_replace.specs.Attempting.{IsPaid}
 use Rattle.ca_replace.specs.Within.{HasLearnt, below_event, spot_at}
-use Rattle.ca_replace.proofs.Ends.{learnt_both, no_low, walked_last, walked_learnt}
-use Rattle.ca_replace.proofs.Meeting.{further_on}
-use Rattle.ca_replace.proofs.Runs.{finds_below, last_inside, last_read, learnt_done, learnt_unanswered}
+use Rattle.ca_replace.proofs.Counted.{paid_both, paid_entered}
+use Rattle.ca_replace.proofs.Ends.{learnt_both, walked_last, walked_learnt}
+use Rattle.ca_replace.proofs.LastRuns.{last_read}
+use Rattle.ca_replace.proofs.LooksLeft.{keeps_both, left_behind, left_learnt, left_stays}
+use Rattle.ca_replace.proofs.Ready.{stays_both, stays_then_read}
+use Rattle.ca_replace.proofs.Runs.{finds_below, last_inside, learnt_done, learnt_unanswered, ready_entered}
+use Rattle.ca_replace.proofs.lasts.BelowCallLook.look.Goals.{else-bounded-via-then-bounded+else-not-found, else-bounded-via-else-bounded}
 use Rattle.ca_replace.proofs.lasts.BelowCallLook.look.Goals as goal
 
 pub enter_last-requires-clause-answer : goal.enter_last-requires-clause-answer
@@ -28,46 +35,97 @@ returns-then-near-clause-tried c = let z = c.args.tree.now.space.table.shared.ke
     (walked_learnt z (spot_at hi) m n c.look_near-near.result.0 c.look_near-near.ensures.walked) c.enter_last.ensures.entered in
     ((event, refl, done.0), done.1)
 
-pub enter_last-requires-then-is_none-clause-answer : goal.enter_last-requires-then-is_none-clause-answer
-enter_last-requires-then-is_none-clause-answer c = let z = c.args.tree.now.space.table.shared.key in let m = c.args.pass.now.seat.me in
+pub enter_last-requires-in_default-clause-answer : goal.enter_last-requires-in_default-clause-answer
+enter_last-requires-in_default-clause-answer c = let z = c.args.tree.now.space.table.shared.key in let m = c.args.pass.now.seat.me in
     let n = c.look_near-near.new.pass.seat.me in let hi = c.args.self.now.hi in let object = c.look_near-near.new.into.items in
     let walk = c.look_near-near.ensures.walked in let cursor = c.look_near-near.result.0 in
     walked_last z hi m n cursor false object walk (learnt_unanswered z m.0.upper n.0.upper c.requires.at_pin c.requires.work.known
     (walked_learnt z (spot_at hi) m n cursor walk))
     (subst (λ (b : Bool). last_object (up_to (bound_of hi) (map pair (first_note n.0.upper.notes).objects)) ≡ cond b (Some object) None)
-    c.if-near.false c.look_near-near.ensures.last) (λ _. no_low cursor.low c.if-is_none.ensures)
+    c.if-near.false c.look_near-near.ensures.last) (λ _. c.in_default.is)
 
-pub returns-then-is_none-clause-tried : goal.returns-then-is_none-clause-tried
-returns-then-is_none-clause-tried c = let z = c.args.tree.now.space.table.shared.key in let m = c.args.pass.now.seat.me in
+pub returns-in_default-clause-tried : goal.returns-in_default-clause-tried
+returns-in_default-clause-tried c = let z = c.args.tree.now.space.table.shared.key in let m = c.args.pass.now.seat.me in
     let n = c.look_near-near.new.pass.seat.me in let hi = c.args.self.now.hi in let object = c.look_near-near.new.into.items in
     let event = below_event (bound_of hi) false object in
-    let done = learnt_done z m.0.upper n c.enter_last-then-is_none.new.pass.seat.me event c.requires.at_pin
+    let done = learnt_done z m.0.upper n c.enter_last-in_default.new.pass.seat.me event c.requires.at_pin
     (walked_learnt z (spot_at hi) m n c.look_near-near.result.0 c.look_near-near.ensures.walked)
-    c.enter_last-then-is_none.ensures.entered in
+    c.enter_last-in_default.ensures.entered in
     ((event, (refl, c.look_near-near.ensures.emptied c.if-near.false), done.0), done.1)
 
+pub look_left-requires-clause-from : goal.look_left-requires-clause-from
+look_left-requires-clause-from c = let z = c.args.tree.now.space.table.shared.key in let u = c.look_near-near.new.pass.seat.me.0.upper in
+    let walk = c.look_near-near.ensures.walked in let low = walk.note.place.span.low in
+    (low, subst (λ (r : Option ℕ). IsLowRoute z u.ways r low) c.in-Some.is walk.cursor_is.low)
+
+pub returns-in_default-look_left-clause-tried : goal.returns-in_default-look_left-clause-tried
+returns-in_default-look_left-clause-tried c = let z = c.args.tree.now.space.table.shared.key in let m = c.args.pass.now.seat.me in
+    let k = c.look_left.new.pass.seat.me in let a = c.args.spent.now in let b = c.look_left.new.spent in
+    let learnt = left_learnt z a b m k (left_behind z a b (spot_at c.args.self.now.hi) m c.look_near-near.new.pass.seat.me k c.look_near-near.result.0
+    c.look_near-near.ensures.walked c.look_left.ensures.looked) c.requires.work.known in
+    (learnt.further, learnt.known)
+
+pub returns-then-not-found-clause-frame : goal.returns-then-not-found-clause-frame
+returns-then-not-found-clause-frame c = let z = c.args.tree.now.space.table.shared.key in let m = c.args.pass.now.seat.me in
+    let k = c.look_left.new.pass.seat.me in let a = c.args.spent.now in let b = c.look_left.new.spent in
+    let looked = left_behind z a b (spot_at c.args.self.now.hi) m c.look_near-near.new.pass.seat.me k c.look_near-near.result.0
+    c.look_near-near.ensures.walked c.look_left.ensures.looked in
+    stays_both (left_stays c.requires.work.ready (keeps_both c.look_near-near.ensures.frame c.look_left.ensures.frame) looked)
+    (stays_then_read c.take_run.ensures.frame c.last_within-found.ensures.frame)
+
+pub returns-then-not-found-clause-tried : goal.returns-then-not-found-clause-tried
+returns-then-not-found-clause-tried c = let z = c.args.tree.now.space.table.shared.key in let m = c.args.pass.now.seat.me in
+    let k = c.look_left.new.pass.seat.me in let a = c.args.spent.now in let b = c.look_left.new.spent in let v = c.take_run.new.pass.seat.me in
+    let looked = left_behind z a b (spot_at c.args.self.now.hi) m c.look_near-near.new.pass.seat.me k c.look_near-near.result.0
+    c.look_near-near.ensures.walked c.look_left.ensures.looked in
+    let learnt = learnt_both z m.0.upper k.0.upper v.0.upper (left_learnt z a b m k looked c.requires.work.known) c.take_run.ensures.learnt in
+    subst (λ (x : MyTree). IsFurther m.0.upper x.0.upper × IsKnown z x.0.upper) (sym c.last_within-found.ensures.frame.still) (learnt.further, learnt.known)
+
+pub returns-then-not-found-clause-counted : goal.returns-then-not-found-clause-counted
+returns-then-not-found-clause-counted c = let z = c.args.tree.now.space.table.shared.key in let m = c.args.pass.now.seat.me in
+    let k = c.look_left.new.pass.seat.me in let a = c.args.spent.now in let b = c.look_left.new.spent in let v = c.take_run.new.pass.seat.me in
+    let looked = left_behind z a b (spot_at c.args.self.now.hi) m c.look_near-near.new.pass.seat.me k c.look_near-near.result.0
+    c.look_near-near.ensures.walked c.look_left.ensures.looked in
+    subst (λ (x : MyTree). IsPaid a c.take_run.new.spent m x) (sym c.last_within-found.ensures.frame.still)
+    (paid_both a b c.take_run.new.spent m k v looked.paid c.take_run.ensures.counted)
+
 pub enter_last-requires-in-Ok-clause-inside : goal.enter_last-requires-in-Ok-clause-inside
-enter_last-requires-in-Ok-clause-inside c = last_inside c.args.tree.now.space.table.shared.key c.snap.new.pass.seat.me.0.upper
+enter_last-requires-in-Ok-clause-inside c = last_inside c.args.tree.now.space.table.shared.key c.take_run.new.pass.seat.me.0.upper
     c.in-Ok.run' c.in-Ok.ensures.run.remembered
 
 pub enter_last-requires-in-Ok-clause-answer : goal.enter_last-requires-in-Ok-clause-answer
 enter_last-requires-in-Ok-clause-answer c = let z = c.args.tree.now.space.table.shared.key in let m = c.args.pass.now.seat.me in
-    let n = c.look_near-near.new.pass.seat.me in let hi = c.args.self.now.hi in let v = c.snap.new.pass.seat.me.0.upper in
-    let found = c.last_within-found.result in let object = c.last_within-found.new.into.items in
-    let learnt = learnt_both z m.0.upper n.0.upper v
-    (walked_learnt z (spot_at hi) m n c.look_near-near.result.0 c.look_near-near.ensures.walked) c.in-Ok.ensures.learnt in
+    let k = c.look_left.new.pass.seat.me in let a = c.args.spent.now in let b = c.look_left.new.spent in let v = c.take_run.new.pass.seat.me in
+    let hi = c.args.self.now.hi in let found = c.last_within-found.result in let object = c.last_within-found.new.into.items in
+    let looked = left_behind z a b (spot_at hi) m c.look_near-near.new.pass.seat.me k c.look_near-near.result.0
+    c.look_near-near.ensures.walked c.look_left.ensures.looked in
+    let learnt = learnt_both z m.0.upper k.0.upper v.0.upper (left_learnt z a b m k looked c.requires.work.known) c.take_run.ensures.learnt in
+    let first : found ≡ false → bound_of c.edge_at-lo.result ≡ Unbounded = elim c.else-bounded.branch [
+      | else-bounded-via-then-bounded+else-not-found w ↦ λ none. let some = w.if-not-found.false in cc
+      | else-bounded-via-else-bounded w ↦ λ none. c.edge_at-lo.ensures
+          ∙ ap (λ (x : Bool). cond x (Included c.deref.result.now) Unbounded) w.if-bounded.false
+    ] in
     subst (λ (x : MyTree). IsReadSince (below_event (bound_of hi) found object) x.0.upper)
     (sym c.last_within-found.ensures.frame.still)
-    (last_read _ _ c.in-Ok.ensures.run found object refl refl
-    (learnt_unanswered z m.0.upper v c.requires.at_pin c.requires.work.known learnt) c.last_within-found.ensures.last)
+    (last_read _ _ c.in-Ok.ensures.run found object first
+    (learnt_unanswered z m.0.upper v.0.upper c.requires.at_pin c.requires.work.known learnt) c.last_within-found.ensures.last)
 
-pub returns-in-Ok-clause-tried : goal.returns-in-Ok-clause-tried
-returns-in-Ok-clause-tried c = let hi = c.args.self.now.hi in let z = c.args.tree.now.space.table.shared.key in
-    let m = c.args.pass.now.seat.me in let n = c.look_near-near.new.pass.seat.me in
-    let found = c.last_within-found.result in let object = c.last_within-found.new.into.items in
+pub returns-else-bounded-clause-frame : goal.returns-else-bounded-clause-frame
+returns-else-bounded-clause-frame c = let z = c.args.tree.now.space.table.shared.key in let m = c.args.pass.now.seat.me in
+    let k = c.look_left.new.pass.seat.me in let a = c.args.spent.now in let b = c.look_left.new.spent in
+    let looked = left_behind z a b (spot_at c.args.self.now.hi) m c.look_near-near.new.pass.seat.me k c.look_near-near.result.0
+    c.look_near-near.ensures.walked c.look_left.ensures.looked in
+    ready_entered _ (stays_both (left_stays c.requires.work.ready (keeps_both c.look_near-near.ensures.frame c.look_left.ensures.frame) looked)
+    (stays_then_read c.take_run.ensures.frame c.last_within-found.ensures.frame)) c.enter_last-in-Ok.ensures.frame c.enter_last-in-Ok.ensures.entered
+
+pub returns-else-bounded-clause-tried : goal.returns-else-bounded-clause-tried
+returns-else-bounded-clause-tried c = let z = c.args.tree.now.space.table.shared.key in let m = c.args.pass.now.seat.me in
+    let k = c.look_left.new.pass.seat.me in let a = c.args.spent.now in let b = c.look_left.new.spent in let v = c.take_run.new.pass.seat.me in
+    let hi = c.args.self.now.hi in let found = c.last_within-found.result in let object = c.last_within-found.new.into.items in
     let event = below_event (bound_of hi) found object in let u = m.0.upper in
-    let learnt = learnt_both z u n.0.upper c.snap.new.pass.seat.me.0.upper
-    (walked_learnt z (spot_at hi) m n c.look_near-near.result.0 c.look_near-near.ensures.walked) c.in-Ok.ensures.learnt in
+    let looked = left_behind z a b (spot_at hi) m c.look_near-near.new.pass.seat.me k c.look_near-near.result.0
+    c.look_near-near.ensures.walked c.look_left.ensures.looked in
+    let learnt = learnt_both z u k.0.upper v.0.upper (left_learnt z a b m k looked c.requires.work.known) c.take_run.ensures.learnt in
     let behind = subst (λ (x : MyTree). HasLearnt z u x.0.upper) (sym c.last_within-found.ensures.frame.still) learnt in
     let done = learnt_done z u c.last_within-found.new.pass.seat.me c.enter_last-in-Ok.new.pass.seat.me event c.requires.at_pin behind
     c.enter_last-in-Ok.ensures.entered in (
@@ -75,9 +133,35 @@ returns-in-Ok-clause-tried c = let hi = c.args.self.now.hi in let z = c.args.tre
       done.1,
     )
 
+pub returns-else-bounded-clause-counted : goal.returns-else-bounded-clause-counted
+returns-else-bounded-clause-counted c = let z = c.args.tree.now.space.table.shared.key in let m = c.args.pass.now.seat.me in
+    let k = c.look_left.new.pass.seat.me in let a = c.args.spent.now in let b = c.look_left.new.spent in let v = c.take_run.new.pass.seat.me in
+    let s = c.take_run.new.spent in let n = c.enter_last-in-Ok.new.pass.seat.me in
+    let looked = left_behind z a b (spot_at c.args.self.now.hi) m c.look_near-near.new.pass.seat.me k c.look_near-near.result.0
+    c.look_near-near.ensures.walked c.look_left.ensures.looked in
+    let read = subst (λ (x : MyTree). IsPaid a s m x) (sym c.last_within-found.ensures.frame.still)
+    (paid_both a b s m k v looked.paid c.take_run.ensures.counted) in
+    paid_both a s s m c.last_within-found.new.pass.seat.me n read (paid_entered s c.last_within-found.new.pass.seat.me n _ c.enter_last-in-Ok.ensures.entered)
+
+pub returns-in-Err-clause-frame : goal.returns-in-Err-clause-frame
+returns-in-Err-clause-frame c = let z = c.args.tree.now.space.table.shared.key in let m = c.args.pass.now.seat.me in
+    let k = c.look_left.new.pass.seat.me in let a = c.args.spent.now in let b = c.look_left.new.spent in
+    let looked = left_behind z a b (spot_at c.args.self.now.hi) m c.look_near-near.new.pass.seat.me k c.look_near-near.result.0
+    c.look_near-near.ensures.walked c.look_left.ensures.looked in
+    stays_both (left_stays c.requires.work.ready (keeps_both c.look_near-near.ensures.frame c.look_left.ensures.frame) looked) c.take_run.ensures.frame
+
 pub returns-in-Err-clause-tried : goal.returns-in-Err-clause-tried
-returns-in-Err-clause-tried c = let hi = c.args.self.now.hi in let z = c.args.tree.now.space.table.shared.key in
-    let m = c.args.pass.now.seat.me in let n = c.look_near-near.new.pass.seat.me in
-    let learnt = learnt_both z m.0.upper n.0.upper c.snap.new.pass.seat.me.0.upper
-    (walked_learnt z (spot_at hi) m n c.look_near-near.result.0 c.look_near-near.ensures.walked) c.in-Err.ensures.learnt in
+returns-in-Err-clause-tried c = let z = c.args.tree.now.space.table.shared.key in let m = c.args.pass.now.seat.me in
+    let k = c.look_left.new.pass.seat.me in let a = c.args.spent.now in let b = c.look_left.new.spent in
+    let looked = left_behind z a b (spot_at c.args.self.now.hi) m c.look_near-near.new.pass.seat.me k c.look_near-near.result.0
+    c.look_near-near.ensures.walked c.look_left.ensures.looked in
+    let learnt = learnt_both z m.0.upper k.0.upper c.take_run.new.pass.seat.me.0.upper (left_learnt z a b m k looked c.requires.work.known)
+    c.take_run.ensures.learnt in
     (learnt.further, learnt.known)
+
+pub returns-in-Err-clause-counted : goal.returns-in-Err-clause-counted
+returns-in-Err-clause-counted c = let z = c.args.tree.now.space.table.shared.key in let m = c.args.pass.now.seat.me in
+    let k = c.look_left.new.pass.seat.me in let a = c.args.spent.now in let b = c.look_left.new.spent in
+    let looked = left_behind z a b (spot_at c.args.self.now.hi) m c.look_near-near.new.pass.seat.me k c.look_near-near.result.0
+    c.look_near-near.ensures.walked c.look_left.ensures.looked in
+    paid_both a b c.take_run.new.spent m k c.take_run.new.pass.seat.me looked.paid c.take_run.ensures.counted

@@ -1,0 +1,5 @@
+use Rattle.ca_ets.specs.Command.{IsContinuation, continuation_of}
+use Rattle.ca_command_tests.proofs.clients.Client.play.Given as goal
+
+abbrev pub invariant-loop-line : goal.invariant-loop-line
+invariant-loop-line g l = record { continuation : IsContinuation (continuation_of l.cont) }

@@ -1,0 +1,64 @@
+use Rattle.std.proofs.Common.{◌∙◌, ◌≡◌, None, Some, ap, refl, subst, sym}
+use Rattle.ca_base.specs.Progress.{IsRefused}
+use Rattle.ca_model.specs.Answer.{IfRefused}
+use Rattle.ca_model.specs.Edges.{bound_of}
+use Rattle.ca_model.specs.Function.{MayBeAskedForAll}
+use Rattle.ca_model.specs.Known.{Declines, Known}
+use Rattle.ca_model.specs.Runs.{Opens}
+use Rattle.ca_range.specs.declared.sought.Sought.{Sought}
+use Rattle.ca_replace.specs.Ranging.{IsRangeCaused}
+use Rattle.ca_replace.specs.Resting.{StoreAndRun, known_of, knows, run_left}
+use Rattle.ca_replace.specs.Running.{left_of}
+use Rattle.ca_replace.specs.Seen.{store_of}
+use Rattle.ca_replace.specs.Causes.{IsSparing}
+use Rattle.ca_replace.specs.TreePromises.{HasRead}
+use Rattle.ca_replace.proofs.Misses.{if_caused_by, if_refused_by}
+use Rattle.ca_replace.proofs.OpenStores.{knows_closed, of_both, rests_of}
+use Rattle.ca_replace.proofs.Opening.{opens}
+use Rattle.ca_replace.proofs.Turns.{if_declined}
+use Rattle.ca_replace.proofs.store.TreeStoreOrderedStore.range.Goals as goal
+
+pub range-requires-clause-function : goal.range-requires-clause-function
+range-requires-clause-function g c = subst (λ (s : StoreAndRun). MayBeAskedForAll g.F.Fn c.args.counts.now (knows s).keypos)
+    (sym c.self.view_is) c.requires.function
+
+pub returns-in-Ok-clause-opens : goal.returns-in-Ok-clause-opens
+returns-in-Ok-clause-opens g c = let table = c.self.inside.tree.now.space.table.shared.table_id in
+    let z = c.self.inside.tree.now.space.table.shared.key in let u = c.self.inside.pass.seat.me.0.upper in
+    let v = c.range.new.pass.seat.me.0.upper in let run = c.in-Ok.run' in
+    let closed : run_left u c.self.inside.run ≡ None = subst (λ (s : StoreAndRun). (knows s).run ≡ None) (sym c.self.view_is) c.requires.closed in
+    let before = store_of c.self.inside.tree.now c.self.inside.pass c.self.inside.last in
+    let rests = rests_of before c.self.inside.run c.self.invariant closed in
+    let sought : Sought g.row.F.Denot = record { lo = c.args.lo; hi = c.args.hi; want = c.args.want; counts = c.args.counts } in
+    of_both (λ (k l : Known). Opens g.F.Fn c.args.counts.now k l (bound_of c.args.lo) (bound_of c.args.hi) c.args.want c.in-Ok.whole) _ _
+    (known_of table z u) (record (known_of table z v) { run = Some (left_of v run) })
+    (ap knows (sym c.self.view_is) ∙ knows_closed before u c.self.inside.run closed) refl
+    (opens g.F.Fn sought table z u v c.in-Ok.whole run rests.known c.in-Ok.ensures.works.at_work.known c.in-Ok.ensures.done)
+
+pub returns-in-Err-clause-refused : goal.returns-in-Err-clause-refused
+returns-in-Err-clause-refused g c = let table = c.self.inside.tree.now.space.table.shared.table_id in
+    let z = c.self.inside.tree.now.space.table.shared.key in let u = c.self.inside.pass.seat.me.0.upper in
+    let v = c.range.new.pass.seat.me.0.upper in
+    let closed : run_left u c.self.inside.run ≡ None = subst (λ (s : StoreAndRun). (knows s).run ≡ None) (sym c.self.view_is) c.requires.closed in
+    let before = store_of c.self.inside.tree.now c.self.inside.pass c.self.inside.last in
+    let rests = rests_of before c.self.inside.run c.self.invariant closed in
+    of_both (λ (k l : Known). IfRefused c.outcome_by.result (λ rise. Declines k l (rise k.counts))) _ _ (known_of table z u)
+    (known_of table z v) (ap knows (sym c.self.view_is) ∙ knows_closed before u c.self.inside.run closed)
+    (knows_closed (store_of c.self.inside.tree.now c.range.new.pass c.self.inside.last) u c.self.inside.run closed)
+    (if_declined table z c.outcome_by.result u v rests.known c.in-Err.ensures.rests.resting.known
+    (if_refused_by (λ rise. IsRefused rise u v) c.in-Err.why c.outcome_by.result c.outcome_by.ensures c.in-Err.ensures.refused))
+
+pub returns-in-Err-clause-promised : goal.returns-in-Err-clause-promised
+returns-in-Err-clause-promised g c = let tree = c.self.inside.tree.now in let last = c.self.inside.last in
+    let pass = c.self.inside.pass in let new = c.range.new.pass in let done = c.in-Err.ensures in
+    let before = store_of tree pass last in let behind = store_of tree new last in
+    subst (λ (s : StoreAndRun). HasRead c.args.budget s.store behind c.outcome_by.result
+    × IfRefused c.outcome_by.result (λ _. IsSparing s.store behind)) c.self.view_is (
+      record {
+        unchanged = record { same = record { table = refl; sizes = refl; tuning = refl; number = done.rests.number }; last = refl };
+        caused = if_caused_by (λ why. IsRangeCaused tree.space.table.shared.key pass.number c.args.budget why pass.seat.me
+            pass.kept.rows new.seat.me new.kept.rows) c.in-Err.why c.outcome_by.result c.outcome_by.ensures done.caused;
+      },
+      if_refused_by (λ _. IsSparing before behind) c.in-Err.why c.outcome_by.result c.outcome_by.ensures
+          (done.few, done.rests.resting.few.ever, c.range.ensures.lags),
+    )

@@ -1,0 +1,57 @@
+-- What the store on the tree promises of its calls beyond what every store does.
+use Rattle.std.specs.Prelude.{◌≡◌, ℕ, true}
+use Rattle.std.specs.declared.option.Option.TheVariants.{None, Some}
+use Rattle.ca_model.specs.declared.outcome.Outcome.{Outcome}
+use Rattle.ca_model.specs.Answer.{IfRefused}
+use Rattle.ca_model.specs.Promises.{Promises}
+use Rattle.ca_model.specs.Runs.{IsOpen}
+use Rattle.ca_replace.specs.Adapting.{is_put}
+use Rattle.ca_replace.specs.Called.{HasTold, StaysStore}
+use Rattle.ca_replace.specs.Causes.{IsSparing}
+use Rattle.ca_replace.specs.Growing.{IsUntouched}
+use Rattle.ca_replace.specs.Ranging.{HasRangeCause}
+use Rattle.ca_replace.specs.Resting.{StoreAndRun, StoreView, knows}
+
+-- It is a store of the same pass, on the same tree, and no update was made.
+pub record MakesNoUpdate (s t : StoreView) : Type 0 where
+  pub same : StaysStore s t
+  pub last : t.last ≡ s.last
+
+-- Nothing was changed in the tree, and no turn was lost.
+pub record OnlyLooks (s t : StoreView) : Type 0 where
+  pub unchanged : MakesNoUpdate s t
+  pub untouched : IsUntouched s.seat.me.0.upper t.seat.me.0.upper
+
+-- A call with this budget that reads what is within edges.
+pub record HasRead {T : Type 0} (budget : ℕ) (s t : StoreView) (o : Outcome T) : Type 0 where
+  pub unchanged : MakesNoUpdate s t
+  -- why it was refused
+  pub caused : HasRangeCause budget s t o
+
+-- An object of the open run was read: the pass keeps the same rows, and knows what it knew.
+pub record HasHandedOn (s t : StoreView) : Type 0 where
+  pub unchanged : MakesNoUpdate s t
+  pub kept : t.kept ≡ s.kept
+  pub known : t.seat.me ≡ s.seat.me
+
+-- The open run was ended, and the pass keeps few rows, or there is a cause. Where none was open nothing was done.
+pub record HasEnded (s t : StoreAndRun) : Type 0 where
+  pub looks : OnlyLooks s.store t.store
+  pub sparing : IsOpen (knows s) → IsSparing s.store t.store
+  pub none : (knows s).run ≡ None → t ≡ s
+
+abbrev pub tree_promises : Promises StoreAndRun
+tree_promises = record {
+  reserve = λ s t. t ≡ s;
+  get = λ budget s t key found into. OnlyLooks s.store t.store × IsSparing s.store t.store;
+  put = λ budget s t pair outcome. HasTold (λ _. true) (Some pair.0) budget s.store t.store outcome;
+  put_new = λ budget s t pair outcome. HasTold (λ new. new) (Some pair.0) budget s.store t.store outcome;
+  remove = λ budget s t key outcome old. HasTold (λ was. was) None budget s.store t.store outcome;
+  remove_if = λ g f budget s t key outcome old. HasTold is_put None budget s.store t.store outcome;
+  change = λ g f budget s t key outcome old. HasTold is_put None budget s.store t.store outcome;
+  above = λ budget s t lo outcome into. HasRead budget s.store t.store outcome × IsSparing s.store t.store;
+  below = λ budget s t hi outcome into. HasRead budget s.store t.store outcome × IsSparing s.store t.store;
+  range = λ budget s t lo hi want outcome. HasRead budget s.store t.store outcome × IfRefused outcome (λ _. IsSparing s.store t.store);
+  found = λ s t. HasHandedOn s.store t.store;
+  close_run = λ s t. HasEnded s t;
+}
