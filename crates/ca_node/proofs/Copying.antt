@@ -19,6 +19,7 @@ use Rattle.ca_rows.specs.declared.view.View.{View}
 use Rattle.ca_runs.specs.Runs.{AreRuns}
 use Rattle.ca_runs.specs.Scenes.{IsFirst, IsNext, Replaces}
 use Rattle.ca_runs.proofs.Marking.{marks}
+use Rattle.ca_node.specs.Attempts.{IsUnderWay}
 use Rattle.ca_node.specs.Copies.{Copy, update_of, copy_note, IsCopy, copied, IsCopied}
 use Rattle.ca_node.specs.Inventory.{AreOnce, row_itself}
 use Rattle.ca_node.specs.Joining.{IsJoining}
@@ -28,12 +29,13 @@ use Rattle.ca_node.specs.Links.{IsIn, IsActive, HasBegun, IsBoundOf, IsLinked, b
 use Rattle.ca_node.specs.Marks.{IsMarkIn, IsBorder}
 use Rattle.ca_node.specs.Place.{part, Place}
 use Rattle.ca_node.specs.Ranging.{IsRanging}
-use Rattle.ca_node.specs.Row.{row_at, items, mark_owner, IsMarkedBy, pair}
+use Rattle.ca_node.specs.Row.{row_at, items, mark_owner, IsMarkedBy, IsMarkedFor, pair}
 use Rattle.ca_node.specs.Scenes.{IsBase, scene_of}
 use Rattle.ca_node.specs.Shape.{Role, Base}
 use Rattle.ca_node.specs.Told.{MyTree, taken_out, given, lent_out}
 use Rattle.ca_node.specs.Tree.{IsTrue, IsLinkOfView, Knows, IsTree}
 use Rattle.ca_node.specs.TreeView.{Note, Border, KnownRanges, TreeView}
+use Rattle.ca_node.proofs.Joined.{unjoined_over}
 use Rattle.ca_node.proofs.Exchanging.{IsExchange, settled_over, old_map, new_its, out_linked, out_unlent, note_keeps, shown_keeps, way_keeps, ranging_keeps, replaced, served_lent, new_true, own_notes, exchange_step, joining_keep, joining_more}
 use Rattle.ca_node.proofs.Holding.{unclaimed_row}
 use Rattle.ca_node.proofs.Looking.{R, of_map, knows_upper, in_more}
@@ -101,11 +103,14 @@ module _ (z : Sizes) (s : State (Unit {0}) (View TreeView)) (r : R z s) (id : �
   }
 
   pub over : (pass number : ℕ) → IsMarkedBy x.old.its pass number → ¬ IsActive s.words pass number
-  over = settled_over z s r id me.0 at x.old.its c.settled
+  over = settled_over z s r id me.0 at x.old.its c.settled.0
+
+  pub free : (route attempt : ℕ) → IsMarkedFor x.old.its route attempt → ¬ IsUnderWay s.words route attempt
+  free = unjoined_over z s r id me.0 at x.old.its c.settled.1
 
   -- The copy has what the base had.
   has_now : map pair x.old.objects ≡ part x.old.place.span (after r.above.history [])
-  has_now = old_map z s r id me at new (update_of x) ex hit over
+  has_now = old_map z s r id me at new (update_of x) ex hit over free
 
   others_have : (b : ℕ) (p : Place) → r.above.role b ≡ Base p → b ≢ x.old.row
       → part p.span (after r.above.history []) ≡ part p.span (after r.above.history [])
@@ -142,16 +147,16 @@ module _ (z : Sizes) (s : State (Unit {0}) (View TreeView)) (r : R z s) (id : �
 
     -- A row that is lent to the range is linked.
     pub serve_linked : (row : ℕ) → IsIn row served → IsLinked (set s.words x.old.place.link new) row
-    serve_linked row i = let l = served_lent z s r id me at new (update_of x) ex hit over r.above.history
+    serve_linked row i = let l = served_lent z s r id me at new (update_of x) ex hit over free r.above.history
         mark bounded has_now others_have served serve served_once new_end row i in
         by_range l.0 row l.1 l.2 l.3
 
     replaced_now : Replaces (scene_of s.words r.above.role) (scene_of words' role') x.old.row new
-    replaced_now = replaced z s r id me at new (update_of x) ex hit over r.above.history mark bounded
+    replaced_now = replaced z s r id me at new (update_of x) ex hit over free r.above.history mark bounded
         has_now others_have served serve served_once new_end
 
     pub new_words : row_at words' new ≡ x.its
-    new_words = new_its z s r id me at new (update_of x) ex hit over r.above.history mark bounded
+    new_words = new_its z s r id me at new (update_of x) ex hit over free r.above.history mark bounded
         has_now others_have served serve served_once new_end
 
     -- Runs are runs: the range's has one base more, or is over.
@@ -173,14 +178,14 @@ module _ (z : Sizes) (s : State (Unit {0}) (View TreeView)) (r : R z s) (id : �
         → ¬ IsMarkedBy x.its y.upper.number number)
         → IsRanging z words' role' (r.above.ranged.ends y.upper.number) y.upper.since
         r.above.history y.upper.number y.upper.ranges
-    ranging_still j y here unmarked = ranging_keeps z s r id me at new (update_of x) ex hit over
+    ranging_still j y here unmarked = ranging_keeps z s r id me at new (update_of x) ex hit over free
         r.above.history mark bounded has_now others_have served serve served_once new_end j y here longer
         unmarked
 
     -- What it was shown of a run says what is so still.
     pub run_keeps : (note : Note) → IsIn note me.0.upper.ranges.run
         → IsTrue z.rows words' role' note
-    run_keeps = shown_keeps z s r id me at new (update_of x) ex hit over r.above.history mark bounded
+    run_keeps = shown_keeps z s r id me at new (update_of x) ex hit over free r.above.history mark bounded
         has_now others_have served serve served_once new_end id me.0 at
 
     -- The seat knows this of ranges then.
@@ -214,7 +219,7 @@ module _ (z : Sizes) (s : State (Unit {0}) (View TreeView)) (r : R z s) (id : �
 
       note_stays : (j : ℕ) (y : View TreeView) → get_elem? s.views j ≡ some y → (note : Note)
           → IsIn note y.upper.notes → IsTrue z.rows words' role' note
-      note_stays = note_keeps z s r id me at new (update_of x) ex hit over r.above.history mark bounded
+      note_stays = note_keeps z s r id me at new (update_of x) ex hit over free r.above.history mark bounded
           has_now others_have served serve served_once new_end
 
       own_knows : Knows z.rows r.made words' role' (set (map upper_of s.views) id u') r.above.history
@@ -230,7 +235,7 @@ module _ (z : Sizes) (s : State (Unit {0}) (View TreeView)) (r : R z s) (id : �
             past = k.past;
             notes = λ note i. ⊎_elim
                 (λ (e : copy_note new x ≡ note). subst (IsTrue z.rows words' role') e
-                (new_true z s r id me at new (update_of x) ex hit over r.above.history mark bounded
+                (new_true z s r id me at new (update_of x) ex hit over free r.above.history mark bounded
                 has_now others_have served serve served_once new_end))
                 (λ (o : IsIn note me.0.upper.notes). note_stays id me.0 at note o)
                 (in_more (copy_note new x) note me.0.upper.notes i);
@@ -239,10 +244,10 @@ module _ (z : Sizes) (s : State (Unit {0}) (View TreeView)) (r : R z s) (id : �
                 (λ (y : Note). IsLinkOfView me.0.upper y.place.link) e (knows.links x.old old_shown))
                 (λ (o : IsIn note me.0.upper.notes). knows.links note o)
                 (in_more (copy_note new x) note me.0.upper.notes i);
-            ways = way_keeps z s r id me at new (update_of x) ex hit over r.above.history mark bounded
+            ways = way_keeps z s r id me at new (update_of x) ex hit over free r.above.history mark bounded
                 has_now others_have served serve served_once new_end id me.0 at;
             joining = subst (λ js. IsJoining words' (copy_note new x ∷ me.0.upper.notes) me.0.upper.ways js) (sym joins)
-                (joining_more z s r id me at new (update_of x) ex hit over r.above.history mark bounded
+                (joining_more z s r id me at new (update_of x) ex hit over free r.above.history mark bounded
                 has_now others_have served serve served_once new_end);
             ended = k.ended;
           }
@@ -266,11 +271,11 @@ module _ (z : Sizes) (s : State (Unit {0}) (View TreeView)) (r : R z s) (id : �
               notes = λ note i. note_stays j y.0 y.1 note
                   (subst (λ (w : TreeView). IsIn note w.notes) (sym y.2) i);
               links = k.links;
-              ways = λ way i. way_keeps z s r id me at new (update_of x) ex hit over r.above.history mark
+              ways = λ way i. way_keeps z s r id me at new (update_of x) ex hit over free r.above.history mark
                   bounded has_now others_have served serve served_once new_end j y.0 y.1 way
                   (subst (λ (w : TreeView). IsIn way w.ways) (sym y.2) i);
               joining = subst (λ (w : TreeView). IsJoining words' w.notes w.ways w.ranges.joins) y.2
-                  (joining_keep z s r id me at new (update_of x) ex hit over r.above.history mark bounded
+                  (joining_keep z s r id me at new (update_of x) ex hit over free r.above.history mark bounded
                   has_now others_have served serve served_once new_end j y.0 y.1);
               ended = k.ended;
             },
@@ -281,9 +286,9 @@ module _ (z : Sizes) (s : State (Unit {0}) (View TreeView)) (r : R z s) (id : �
 
       -- Where the link names the old base, the exchange puts the copy in its place.
       pub copy_step : R z record { words = words'; homes = s.homes; views = set s.views id d' }
-      copy_step = exchange_step z s r id me at new (update_of x) ex hit over r.above.history mark bounded
+      copy_step = exchange_step z s r id me at new (update_of x) ex hit over free r.above.history mark bounded
           has_now others_have served serve served_once new_end u'
-          (own_notes z s r id me at new (update_of x) ex hit over r.above.history mark bounded has_now
+          (own_notes z s r id me at new (update_of x) ex hit over free r.above.history mark bounded has_now
           others_have served serve served_once new_end u' refl refl borders run shown)
           refl f.edits f.by_passes (runs_now fits) own_knows own others_know
 
@@ -291,8 +296,8 @@ module _ (z : Sizes) (s : State (Unit {0}) (View TreeView)) (r : R z s) (id : �
       copied_now = record {
         now = refl;
         unclaimed = unclaimed_row z s r id me.0 at x.old.row
-            (out_linked z s r id me at new (update_of x) ex hit over r.above.history mark bounded has_now
+            (out_linked z s r id me at new (update_of x) ex hit over free r.above.history mark bounded has_now
             others_have served serve served_once new_end x.old.row (0, refl))
-            (out_unlent z s r id me at new (update_of x) ex hit over r.above.history mark bounded has_now
+            (out_unlent z s r id me at new (update_of x) ex hit over free r.above.history mark bounded has_now
             others_have served serve served_once new_end x.old.row (0, refl));
       }

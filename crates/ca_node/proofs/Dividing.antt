@@ -25,7 +25,7 @@ use Rattle.ca_rows.proofs.Relinking.{Change, Stays, Comes, Goes, IsChange, relin
 use Rattle.ca_rows.proofs.Rules.{all_seats}
 use Rattle.ca_node.specs.Inventory.{IsInventory}
 use Rattle.ca_node.specs.Attempts.{join_of, IsJoinWord, IsSecured, IsUnderWay}
-use Rattle.ca_node.specs.JoinsStay.{joining_unnoted}
+use Rattle.ca_node.specs.JoinsStay.{joining_unnoted, unsecured_still}
 use Rattle.ca_node.specs.Laws.{noted_alike, tree_lends, in_nothing, numbered, relisted}
 use Rattle.ca_node.specs.Links.{IsIn, IsActive, IsBoundOf, IsLinked, by_range, IsLent, IsNoted, by_note}
 use Rattle.ca_node.specs.Place.{Place, left_place, right_place}
@@ -44,7 +44,7 @@ use Rattle.ca_node.specs.TreeView.{Note, Way, TreeView, Division}
 use Rattle.ca_node.proofs.Divided.{IsNewRoute, AreDivided, with_route, with_route_route, with_route_left, with_route_right, with_route_old, with_route_else, route_was, shape_divided}
 use Rattle.ca_node.proofs.Exchanging.{settled_over}
 use Rattle.ca_node.proofs.Holding.{held_row, unclaimed_row}
-use Rattle.ca_node.proofs.Joined.{idle_over, joined_keeps, states_keep, idle_keeps, joining_keeps}
+use Rattle.ca_node.proofs.Joined.{unjoined_over, joined_keeps, states_keep, joining_keeps}
 use Rattle.ca_node.proofs.Listing.{in_either, in_front, in_back, Relists, listed_again, known_by_one}
 use Rattle.ca_node.proofs.Looking.{R, loses, hangs_still, of_map, knows_upper, in_more}
 use Rattle.ca_node.proofs.Members.{in_notes, has, given_here, given_else, taken_here, taken_else}
@@ -404,7 +404,7 @@ module _ (z : Sizes) (s : State (Unit {0}) (View TreeView)) (r : R z s) (id : �
   -- The range that marked the old base is over.
   old_over : (pass number : ℕ) → IsMarkedBy (row_at s.words x.old.row) pass number
       → ¬ IsActive s.words pass number
-  old_over pass number m = settled_over z s r id me.0 at x.old.its u.settled pass number
+  old_over pass number m = settled_over z s r id me.0 at x.old.its u.settled.0 pass number
       (subst (λ its. IsMarkedBy its pass number) old_true.spells m)
 
   -- What is marked in the new tree was a base of the old one: no range has a base that comes.
@@ -676,7 +676,8 @@ module _ (z : Sizes) (s : State (Unit {0}) (View TreeView)) (r : R z s) (id : �
 
   -- No join under way has the old base, and none the new route.
   old_free : (route attempt : ℕ) → IsMarkedFor (row_at s.words x.old.row) route attempt → ¬ IsUnderWay s.words route attempt
-  old_free = idle_over z s.words role last shape f.idle x.old.row x.old.place is_old
+  old_free route attempt m = unjoined_over z s r id me.0 at x.old.its u.settled.1 route attempt
+      (subst (λ its. IsMarkedFor its route attempt) old_true.spells m)
 
   route_word : join_of words' x.route % 4 ≡ 0
   route_word = let w = held x.route x.route_its u.held_route in
@@ -872,11 +873,10 @@ module _ (z : Sizes) (s : State (Unit {0}) (View TreeView)) (r : R z s) (id : �
           (λ (was : role c ≡ Route p key). states_keep z s.words role last shape x.old.row place is_old x.route old_free f.joined c p key was)
           (routes_back c p key e);
     };
-    idle = λ c p key attempt e now. ⊎_elim
-        (λ (new : c ≡ x.route). route_idle attempt (subst (λ t. IsUnderWay words' t attempt) new now))
-        (λ (was : role c ≡ Route p key).
-        idle_keeps z s.words role last shape x.old.row place is_old x.route old_free f.idle c p key attempt was now)
-        (routes_back c p key e);
+    unsecured = unsecured_still z s.words words' role role' (λ c p key e. ⊎_elim
+        (λ (new : c ≡ x.route). inl (subst (λ t. join_of words' t % 4 ≡ 0) (sym new) route_word))
+        (λ (was : role c ≡ Route p key). inr (p, key, was, relinked_joins z s.words role last shape x.old.row place is_old x.route c))
+        (routes_back c p key e)) f.unsecured;
     each_seat =
         all_seats (Knows z.rows r.made words' role' (set (map upper_of s.views) id u') f.history)
         (map upper_of s.views) id u' own_knows

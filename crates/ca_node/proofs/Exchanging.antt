@@ -26,7 +26,7 @@ use Rattle.ca_rows.proofs.Rules.{all_seats}
 use Rattle.ca_node.specs.Inventory.{AreOnce, row_itself, IsInventory}
 use Rattle.ca_node.specs.Attempts.{HasAttempt, IsUnderWay}
 use Rattle.ca_node.specs.Joining.{IsJoining}
-use Rattle.ca_node.specs.JoinsStay.{joining_noted}
+use Rattle.ca_node.specs.JoinsStay.{joining_noted, unsecured_still}
 use Rattle.ca_node.specs.Laws.{tree_lends, in_nothing}
 use Rattle.ca_node.specs.Links.{IsIn, IsActive, HasBegun, IsBoundOf, IsLinked, by_range, IsLent, IsOfOwnRun, IsNoted, by_note, by_item, by_way, by_link, by_link_item, by_border, by_run, by_run_item, by_shown, by_shown_item}
 use Rattle.ca_node.specs.Marks.{IsOfRange, IsOfJoin, IsMarkIn, IsBorder}
@@ -39,16 +39,16 @@ use Rattle.ca_node.specs.Scenes.{IsBase, span_of, mark_of, scene_of}
 use Rattle.ca_node.specs.Shape.{Role, Out, Base, Route, place_of, IsBaseAt, IsShape}
 use Rattle.ca_node.specs.Stays.{map_same}
 use Rattle.ca_rows.specs.Told.{relinked}
-use Rattle.ca_node.specs.Told.{MyTree, IsSettled, Update, IsObjectOf, IsNotFrom, IsLastThere, given, lent_out, taken_out, exchanged_inventory}
+use Rattle.ca_node.specs.Told.{MyTree, IsUnranged, Update, IsObjectOf, IsNotFrom, IsLastThere, given, lent_out, taken_out, exchanged_inventory}
 use Rattle.ca_node.specs.Tree.{IsTrue, IsTrueWay, Knows, IsTree}
 use Rattle.ca_node.specs.TreeView.{Note, Way, Over, Border, TreeView}
 use Rattle.ca_node.proofs.Holding.{held_row}
-use Rattle.ca_node.proofs.Joined.{idle_over, joined_keeps, states_keep, idle_keeps, joining_keeps, new_hangs}
+use Rattle.ca_node.proofs.Joined.{joined_keeps, states_keep, joining_keeps, new_hangs}
 use Rattle.ca_node.proofs.Listing.{in_either, in_front, in_back, Relists, listed_again, known_by_one}
 use Rattle.ca_node.proofs.Looking.{R, knows_upper, in_turn, in_more}
 use Rattle.ca_node.proofs.Members.{in_notes, in_rest, has, given_here, given_else, lent_here, lent_else, taken_here, taken_else, other_has, map_is_list}
 use Rattle.ca_node.proofs.Named.{named_once}
-use Rattle.ca_node.proofs.Rebased.{IsNewBase, relinked_wide, relinked_else, relinked_ranges, relinked_told, relinked_row, relinked_object, base_no_route, out_no_route, relinked_keeps, with_base, with_base_new, with_base_old, with_base_else, shape_rebased}
+use Rattle.ca_node.proofs.Rebased.{IsNewBase, relinked_wide, relinked_else, relinked_ranges, relinked_told, relinked_joins, relinked_row, relinked_object, base_no_route, out_no_route, relinked_keeps, with_base, with_base_new, with_base_old, with_base_else, shape_rebased}
 use Rattle.ca_node.proofs.Remembering.{remembered_leads, unlinked_out, note_stays, way_stays, ranges_stay, notes_stay}
 use Rattle.ca_rows.specs.Layout.{row_words}
 use Rattle.ca_node.specs.Layout.{root_word, sequence_unit}
@@ -86,21 +86,22 @@ own_ranging z s r id d at = r.above.ranged.each id d.upper (at_map upper_of s.vi
 
 -- A range is over that marked a base which no range has.
 pub settled_over : (z : Sizes) (s : State (Unit {0}) (View TreeView)) (r : R z s) (id : ℕ)
-    (d : View TreeView) → get_elem? s.views id ≡ some d → (its : List ℕ) → IsSettled d.upper its
+    (d : View TreeView) → get_elem? s.views id ≡ some d → (its : List ℕ) → IsUnranged d.upper its
     → (pass number : ℕ) → IsMarkedBy its pass number → ¬ IsActive s.words pass number
-settled_over z s r id d at its settled pass number m now = ⊎_elim
+settled_over z s r id d at its unranged pass number m now = ⊎_elim
     (λ (n : mark_kind its ≢ 1). n m.0)
     (λ (t : (y : Over) × IsIn y d.upper.ranges.over × (mark_owner its ≡ y.pass)
     × (mark_number its < y.below)). let less = t.3 in let same = m.2 in
     ((own_ranging z s r id d at).over t.0 t.1 number (omega arith)).1 (subst
     (λ (p : ℕ). IsActive s.words p number) (sym m.1 ∙ t.2) now))
-    settled
+    unranged
 
--- The link names the old base, and the range is over that marked it.
+-- The link names the old base, and the range is over that marked it, or the attempt is finished.
 module _ (z : Sizes) (s : State (Unit {0}) (View TreeView)) (r : R z s) (id : ℕ) (me : MyTree)
     (at : get_elem? s.views id ≡ some me.0) (new : ℕ) (x : Update)
     (u : IsExchange z me new x) (hit : get_or s.words x.old.place.link 0 ≡ x.old.row)
-    (over : (pass number : ℕ) → IsMarkedBy x.old.its pass number → ¬ IsActive s.words pass number) where
+    (over : (pass number : ℕ) → IsMarkedBy x.old.its pass number → ¬ IsActive s.words pass number)
+    (free : (route attempt : ℕ) → IsMarkedFor x.old.its route attempt → ¬ IsUnderWay s.words route attempt) where
   abbrev d : View TreeView
   d = me.0
 
@@ -214,7 +215,7 @@ module _ (z : Sizes) (s : State (Unit {0}) (View TreeView)) (r : R z s) (id : �
 
   -- No join under way has the old base.
   old_free : (route attempt : ℕ) → IsMarkedFor (row_at s.words x.old.row) route attempt → ¬ IsUnderWay s.words route attempt
-  old_free = idle_over z s.words role last shape r.above.idle x.old.row x.old.place is_old
+  old_free route attempt m = free route attempt (subst (λ its. IsMarkedFor its route attempt) old_true.spells m)
 
   -- The objects that come are none of the bases.
   comes_object : (row : ℕ) → IsIn row x.comes → form (row_at s.words row) ≡ 1
@@ -923,8 +924,9 @@ module _ (z : Sizes) (s : State (Unit {0}) (View TreeView)) (r : R z s) (id : �
             states = λ route p key e. states_keep z s.words role last shape x.old.row place is_old new old_free
                 f.joined route p key (routes_back route p key e);
           };
-          idle = λ route p key attempt e. idle_keeps z s.words role last shape x.old.row place is_old new old_free
-              f.idle route p key attempt (routes_back route p key e);
+          unsecured = unsecured_still z s.words words' role role'
+              (λ route p key e. inr (p, key, routes_back route p key e, relinked_joins z s.words role last shape x.old.row place is_old new route))
+              f.unsecured;
           each_seat =
               all_seats (Knows z.rows r.made words' role' (set (map upper_of s.views) id u') next)
               (map upper_of s.views) id u' own_knows (λ j v ne here. (others_know j v ne here).0);

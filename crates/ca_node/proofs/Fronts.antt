@@ -124,7 +124,7 @@ front_more z made words uppers id u f at = let next : List TreeView = uppers ++ 
             (at_place uppers (front_of u) v j here);
       };
       joined = f.joined;
-      idle = f.idle;
+      unsecured = f.unsecured;
       each_seat = λ j v here. ⊎_elim
           (λ (was : get_elem? uppers j ≡ some v). let k = f.each_seat j v was in record {
             made_before = k.made_before;

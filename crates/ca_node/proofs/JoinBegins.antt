@@ -1,29 +1,33 @@
--- A pass begins an attempt to join, behind one that is finished: all that the rule says of joins holds then, but what it says so far, that none is under way.
-use Rattle.std.proofs.Common.{◌≡◌, ◌≢◌, ℕ, ◌+◌, ◌*◌, ◌%◌, ◌<◌, List, set, sym, ap, ◌∙◌, subst, inr, ⊎_elim, arith, max}
+-- A pass begins an attempt to join, behind one that is finished.
+use Rattle.std.proofs.Common.{◌≡◌, ◌≢◌, ℕ, ◌+◌, ◌*◌, ◌%◌, ◌<◌, Bool, eqb, List, map, get_or, set, sym, refl, ap, ◌∙◌, subst, inl, inr, ⊎_elim, arith, max, eq-eqb, ne_eqb}
 use mathlib.Core.Logic.{dite}
-use mathlib.Core.Option.{some}
+use mathlib.Core.Option.{some, none}
 use native.Mathlib.Decide.{ℕ_discrete}
 use lib.ListN.{get_elem?}
-use Rattle.atomic_table.specs.Table.{State}
-use Rattle.atomic_table.proofs.Lists.{at_map}
+use prog.Atomic.{either}
+use Rattle.atomic_table.specs.Table.{State, step, keeps, stepped, Allows}
+use Rattle.atomic_table.proofs.Lists.{at_map, set_again}
+use Rattle.ca_rows.specs.Calls.{Relinks}
 use Rattle.ca_rows.specs.Claims.{held_count}
 use Rattle.ca_rows.specs.Rule.{upper_of}
 use Rattle.ca_rows.specs.Told.{relinked}
 use Rattle.ca_rows.specs.declared.sizes.Sizes.{Sizes}
 use Rattle.ca_rows.specs.declared.view.View.{View}
 use Rattle.ca_node.specs.Attempts.{join_of, HasAttempt, JoinGoesOn}
-use Rattle.ca_node.specs.Joining.{AreIdle, AreJoining, IsRemembered, AreFinished, IsJoining}
+use Rattle.ca_node.specs.Joining.{AreJoining, AreUnsecured, IsRemembered, AreFinished, IsJoining}
 use Rattle.ca_node.specs.JoinsStay.{joined_still}
-use Rattle.ca_node.specs.JoinSteps.{before, with_joins, joins_begun}
+use Rattle.ca_node.specs.JoinSteps.{join_place, attempt_of, before, with_joins, joins_begun, IsBeginning, BeginsJoin, HasBegunJoin, BeginsSome}
 use Rattle.ca_node.specs.Links.{IsIn}
+use Rattle.ca_node.specs.May.{MaySwap}
 use Rattle.ca_node.specs.Place.{Place}
 use Rattle.ca_node.specs.Row.{route_key}
 use Rattle.ca_node.specs.Told.{MyTree}
+use Rattle.ca_node.specs.Tree.{IsTree}
 use Rattle.ca_node.specs.TreeView.{Note, Way, Attempt, Finished, KnownJoins, TreeView}
 use Rattle.ca_node.proofs.JoinEnds.{is_route}
 use Rattle.ca_node.proofs.JoinTurns.{begun_goes_on}
 use Rattle.ca_node.proofs.JoinWord.{join_else, join_here, child_stays, joining_then, join_step}
-use Rattle.ca_node.proofs.Looking.{R, in_more}
+use Rattle.ca_node.proofs.Looking.{R, looked, in_more}
 use Rattle.ca_rows.specs.Layout.{row_words}
 
 -- What a seat knows of joins that began this attempt.
@@ -80,11 +84,69 @@ module _ (z : Sizes) (s : State (Unit {0}) (View TreeView)) (r : R z s) (id : �
   begun_joining = begun_more words' me.0.upper.notes me.0.upper.ways me.0.upper.ranges.joins x known here
       (joining_then z s r x.route place key (is_route z s r id me at x known) (4 * x.number + 1) on id me.0.upper (at_map upper_of s.views id me.0 at))
 
-  -- So the whole rule holds again, once it says no more that no join is under way.
-  pub begin_step : AreIdle (set s.words (row_words * x.route + 3) (4 * x.number + 1)) r.above.role → R z record {
+  unsecured_then : 1 < z.passes → AreUnsecured z words' r.above.role
+  unsecured_then several = record {
+    none = λ t p k attempt e now. dite (ℕ_discrete t x.route)
+        (λ (w : t ≡ x.route). let word : join_of words' t ≡ 4 * x.number + 1 = ap (join_of words') w ∙ here in absurd (omega (arith, word, now)))
+        (λ (ne : t ≢ x.route). r.above.unsecured.none t p k attempt e (sym (same t ne) ∙ now));
+    idle = λ few. absurd (omega (arith, several, few));
+  }
+
+  -- So the whole rule holds again.
+  pub begin_step : 1 < z.passes → R z record {
     words = set s.words (row_words * x.route + 3) (4 * x.number + 1);
     homes = s.homes;
     views = set s.views id (relinked me me.0.claims (with_joins me.0.upper (joins_begun x me.0.upper.ranges.joins))).0;
   }
-  begin_step idle = join_step z s r x.route place key (is_route z s r id me at x known) (4 * x.number + 1) on id me.0 at
-      (joins_begun x me.0.upper.ranges.joins) (max me.0.most (held_count me.0.claims)) begun_joined idle begun_joining
+  begin_step several = join_step z s r x.route place key (is_route z s r id me at x known) (4 * x.number + 1) on id me.0 at
+      (joins_begun x me.0.upper.ranges.joins) me.0.upper.turns (max me.0.most (held_count me.0.claims)) begun_joined (unsecured_then several) begun_joining
+
+module _ (z : Sizes) where
+  -- The exchange that begins an attempt.
+  begins_join : (slots id : ℕ) (me : MyTree) (x : Attempt) (last : ℕ) → x.number ≡ last + 1 → me.0.sizes ≡ z → IsBeginning me x
+      → Allows (R z) slots id me (row_words * x.route + 3) (λ n. either (eqb n (4 * last)) (4 * x.number + 1) n)
+      (Relinks MaySwap BeginsSome (step slots (row_words * x.route + 3) (4 * last) (4 * x.number + 1) none) me)
+  begins_join slots id me x last next sized k s r _ at _ = let n : ℕ = get_or s.words (row_words * x.route + 3) 0 in
+      let first : 4 * last + 4 ≡ 4 * x.number = omega (arith, next) in
+      dite (ℕ_discrete n (4 * last))
+      (λ (hit : n ≡ 4 * last). let d' : View TreeView = (relinked me me.0.claims (with_joins me.0.upper (joins_begun x me.0.upper.ranges.joins))).0 in
+      let told : BeginsSome (step slots (row_words * x.route + 3) (4 * last) (4 * x.number + 1) none) me n (d', me.1) =
+      (x, (refl, first), ((λ _. refl), λ miss. absurd (miss hit))) in (
+        d',
+        keeps,
+        tt,
+        subst (λ (y : ℕ). R z (stepped s (row_words * x.route + 3) y id me.1 d' keeps))
+            (sym (ap (λ b. either b (4 * x.number + 1) n) (eq-eqb n (4 * last) hit)))
+            (begin_step z s r id me at x k.remembered last next hit (subst (λ (y : Sizes). 1 < y.passes) sized k.not_alone)),
+        ((λ _. refl), (λ miss. absurd (miss hit)), inr (inr (inr (inr (inr (inl told))))), told),
+      ))
+      (λ miss. let told : BeginsSome (step slots (row_words * x.route + 3) (4 * last) (4 * x.number + 1) none) me n me =
+      (x, (refl, first), ((λ hit. absurd (miss hit)), λ _. refl)) in (
+        me.0,
+        keeps,
+        tt,
+        subst (λ (y : ℕ). R z (stepped s (row_words * x.route + 3) y id me.1 me.0 keeps))
+            (sym (ap (λ b. either b (4 * x.number + 1) n) (ne_eqb n (4 * last) miss)))
+            (looked z s r (row_words * x.route + 3) id me.0 me.0.upper at (λ row m. inl m)
+            (subst (IsTree z r.made s.words) (sym (set_again (map upper_of s.views) id me.0.upper (at_map upper_of s.views id me.0 at))) r.above)),
+        ((λ hit. absurd (miss hit)), (λ _. refl), inr (inr (inr (inr (inr (inl told))))), told),
+      ))
+
+  -- The same, where the word has another name.
+  pub begins_join_at : (slots id : ℕ) (me : MyTree) (word : ℕ) (x : Attempt) (last : ℕ) → word ≡ join_place x.route → x.number ≡ last + 1 → me.0.sizes ≡ z
+      → IsBeginning me x → Allows (R z) slots id me word (λ n. either (eqb n (4 * last)) (4 * x.number + 1) n)
+      (Relinks MaySwap BeginsSome (step slots word (4 * last) (4 * x.number + 1) none) me)
+  begins_join_at slots id me word x last here next sized k = subst
+      (λ (i : ℕ). Allows (R z) slots id me i (λ n. either (eqb n (4 * last)) (4 * x.number + 1) n)
+      (Relinks MaySwap BeginsSome (step slots i (4 * last) (4 * x.number + 1) none) me)) (sym here) (begins_join slots id me x last next sized k)
+
+-- The two ways that it goes.
+pub has_begun_join : (n slots word route number last : ℕ) (m m' : MyTree) → word ≡ join_place route → number ≡ last + 1
+    → BeginsSome (step slots word (4 * last) (4 * number + 1) none) m n m' → HasBegunJoin (eqb n (4 * last)) (attempt_of route number) m m'
+has_begun_join n slots word route number last m m' at next t = let there : word ≡ join_place t.0.route = t.1.0 in
+    let here : 4 * last + 4 ≡ 4 * t.0.number = t.1.1 in let r : t.0.route ≡ route = omega (arith, there, at) in
+    let i : t.0.number ≡ number = omega (arith, here, next) in
+    let told = subst (λ (x : Attempt). BeginsJoin x (step slots word (4 * last) (4 * number + 1) none) m n m') (λ k. attempt_of (r k) (i k)) t.2 in
+    dite (ℕ_discrete n (4 * last))
+    (λ hit. subst (λ (b : Bool). HasBegunJoin b (attempt_of route number) m m') (sym (eq-eqb n (4 * last) hit)) (told.0 hit))
+    (λ miss. subst (λ (b : Bool). HasBegunJoin b (attempt_of route number) m m') (sym (ne_eqb n (4 * last) miss)) (told.1 miss))

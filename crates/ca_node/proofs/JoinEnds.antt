@@ -1,4 +1,4 @@
--- Exchanges of the join word of a route that a seat remembers: a prepared attempt is given up, or secured.
+-- Exchanges of the join word of a route that a seat remembers: a prepared attempt is given up; and what is so once it is secured.
 use Rattle.std.proofs.Common.{◌≡◌, ◌≢◌, ℕ, ◌+◌, ◌*◌, ◌%◌, ◌<◌, Bool, eqb, List, map, get_or, set, sym, refl, ap, ◌∙◌, subst, inl, inr, ⊎_elim, arith, eq-eqb, ne_eqb, max}
 use mathlib.Core.Logic.{dite}
 use mathlib.Core.Option.{some, none}
@@ -14,9 +14,9 @@ use Rattle.ca_rows.specs.Told.{relinked}
 use Rattle.ca_rows.specs.declared.sizes.Sizes.{Sizes}
 use Rattle.ca_rows.specs.declared.view.View.{View}
 use Rattle.ca_node.specs.Attempts.{join_of, HasAttempt, IsPrepared, IsSecured, IsUnderWay, JoinGoesOn}
-use Rattle.ca_node.specs.Joining.{AreIdle, AreJoining, IsRemembered, AreFinished, IsJoining}
-use Rattle.ca_node.specs.JoinsStay.{joined_there, joined_still, under_way_same}
-use Rattle.ca_node.specs.JoinSteps.{join_place, attempt_of, before, with_joins, joins_aborted, joins_secured, joins_too_late, IsSecuring, SecuresJoin, HasSecured, IsAborting, AbortsJoin, HasAbortedJoin, IsJoinStep, SecuresSome, AbortsSome}
+use Rattle.ca_node.specs.Joining.{AreJoining, AreUnsecured, IsRemembered, AreFinished, IsJoining}
+use Rattle.ca_node.specs.JoinsStay.{joined_there, joined_still, under_way_same, unsecured_still}
+use Rattle.ca_node.specs.JoinSteps.{join_place, attempt_of, before, with_joins, aborted, too_late, joins_aborted, joins_secured, joins_too_late, IsSecuring, IsAborting, AbortsJoin, HasAbortedJoin, IsJoinStep, AbortsSome}
 use Rattle.ca_node.specs.Laws.{alive, noted_alike}
 use Rattle.ca_node.specs.Links.{IsIn}
 use Rattle.ca_node.specs.Marks.{AreJoined}
@@ -25,7 +25,7 @@ use Rattle.ca_node.specs.Row.{row_at, IsBaseRow, count, IsMarkedFor, route_key}
 use Rattle.ca_node.specs.Shape.{Role, Route}
 use Rattle.ca_node.specs.May.{MaySwap}
 use Rattle.ca_node.specs.Told.{MyTree}
-use Rattle.ca_node.specs.TreeView.{Note, Way, Attempt, Finished, KnownJoins, TreeView}
+use Rattle.ca_node.specs.TreeView.{Note, Way, Attempt, Finished, KnownJoins, TreeView, one_helped}
 use Rattle.ca_node.proofs.JoinTurns.{aborted_goes_on, secured_goes_on}
 use Rattle.ca_node.proofs.JoinWord.{join_else, join_here, child_stays, joining_then, join_step}
 use Rattle.ca_node.proofs.Looking.{R, knows_upper, knows_ranges, in_more}
@@ -114,7 +114,7 @@ module _ (z : Sizes) (s : State (Unit {0}) (View TreeView)) (r : R z s) (id : �
     same : (t : ℕ) → t ≢ x.route → join_of words' t ≡ join_of s.words t
     same t ne = join_else z s r x.route place key is_route (4 * x.number) (row_words * t + 3) (λ e. ne (omega arith))
 
-    -- No other one is under way then.
+    -- Another one that is under way then was so.
     before_it : (t : ℕ) (attempt : ℕ) → IsUnderWay words' t attempt → IsUnderWay s.words t attempt × (t ≢ x.route)
     before_it t attempt now = dite (ℕ_discrete t x.route)
         (λ (e : t ≡ x.route). let w : join_of words' t ≡ 4 * x.number = ap (join_of words') e ∙ here in
@@ -129,16 +129,18 @@ module _ (z : Sizes) (s : State (Unit {0}) (View TreeView)) (r : R z s) (id : �
         (λ (ne : t ≢ x.route). subst (λ n. n % 4 < 3) (sym (same t ne)) state))
         (child_stays z s r x.route place key is_route (4 * x.number)) r.above.joined
 
-    idle_now : AreIdle words' r.above.role
-    idle_now t p k attempt e now = r.above.idle t p k attempt e (before_it t attempt now).0
+    unsecured_now : AreUnsecured z words' r.above.role
+    unsecured_now = unsecured_still z s.words words' role role (λ t p k e. dite (ℕ_discrete t x.route)
+        (λ (w : t ≡ x.route). inl (subst (λ n. n % 4 ≡ 0) (sym (ap (join_of words') w ∙ here)) (omega arith)))
+        (λ (ne : t ≢ x.route). inr (p, k, e, same t ne))) r.above.unsecured
 
     pub abort_step : R z record {
       words = set s.words (row_words * x.route + 3) (4 * x.number);
       homes = s.homes;
-      views = set s.views id (relinked me me.0.claims (with_joins me.0.upper (joins_aborted x me.0.upper.ranges.joins))).0;
+      views = set s.views id (relinked me me.0.claims (aborted x me.0.upper)).0;
     }
-    abort_step = join_step z s r x.route place key is_route (4 * x.number) on id me.0 at (joins_aborted x u.ranges.joins)
-        (max me.0.most (held_count me.0.claims)) joined_now idle_now
+    abort_step = join_step z s r x.route place key is_route (4 * x.number) on id me.0 at (joins_aborted x u.ranges.joins) (one_helped u.turns)
+        (max me.0.most (held_count me.0.claims)) joined_now unsecured_now
         (finished_more words' u.notes u.ways u.ranges.joins x known here
         (joining_then z s r x.route place key is_route (4 * x.number) on id u first))
 
@@ -186,13 +188,14 @@ module _ (z : Sizes) (s : State (Unit {0}) (View TreeView)) (r : R z s) (id : �
           (λ (ne : t ≢ x.route). subst (λ n. n % 4 < 3) (sym (same_too t ne)) (r.above.joined.states t p key' e));
     }
 
-    pub secure_step : AreIdle (set s.words (row_words * x.route + 3) (4 * x.number + 2)) r.above.role → R z record {
+    -- So the whole rule holds again, once it says no more that none is secured.
+    pub secure_step : AreUnsecured z (set s.words (row_words * x.route + 3) (4 * x.number + 2)) r.above.role → R z record {
       words = set s.words (row_words * x.route + 3) (4 * x.number + 2);
       homes = s.homes;
       views = set s.views id (relinked me me.0.claims (with_joins me.0.upper (joins_secured x me.0.upper.ranges.joins))).0;
     }
-    secure_step idle = join_step z s r x.route place key is_route (4 * x.number + 2) on_too id me.0 at (joins_secured x u.ranges.joins)
-        (max me.0.most (held_count me.0.claims)) joined_too idle
+    secure_step unsecured = join_step z s r x.route place key is_route (4 * x.number + 2) on_too id me.0 at (joins_secured x u.ranges.joins) u.turns
+        (max me.0.most (held_count me.0.claims)) joined_too unsecured
         (secured_more words'' u.notes u.ways u.ranges.joins x known there
         (joining_then z s r x.route place key is_route (4 * x.number + 2) on_too id u first))
 
@@ -200,10 +203,10 @@ module _ (z : Sizes) (s : State (Unit {0}) (View TreeView)) (r : R z s) (id : �
   pub late_step : HasAttempt s.words x.route x.number → ¬ IsPrepared s.words x.route x.number → (i : ℕ) → R z record {
     words = set s.words i (get_or s.words i 0);
     homes = s.homes;
-    views = set s.views id (record me.0 { upper = with_joins me.0.upper (joins_too_late x me.0.upper.ranges.joins) });
+    views = set s.views id (record me.0 { upper = too_late x me.0.upper });
   }
-  late_step begun miss i = let u' : TreeView = with_joins u (joins_too_late x u.ranges.joins) in let ranging = r.above.ranged.each id u first in
-      knows_ranges z s r i id me.0 at u'.ranges u.turns
+  late_step begun miss i = let u' : TreeView = too_late x u in let ranging = r.above.ranged.each id u first in
+      knows_ranges z s r i id me.0 at u'.ranges u'.turns
       (decided_more s.words u.notes u.ways u.ranges.joins x known begun miss known_joins)
       (λ row n. inl (noted_alike s.words u u' (λ y m. m) (λ y m. m) (λ y m. m) (λ y m. m) (λ y m. m) row n)) record {
         over = ranging.over;
@@ -220,7 +223,7 @@ module _ (z : Sizes) where
       (Relinks MaySwap AbortsSome (step slots (row_words * x.route + 3) (4 * x.number + 1) (4 * x.number) none) me)
   aborts_join slots id me x k s r _ at _ = let n : ℕ = get_or s.words (row_words * x.route + 3) 0 in
       dite (ℕ_discrete n (4 * x.number + 1))
-      (λ (hit : n ≡ 4 * x.number + 1). let d' : View TreeView = (relinked me me.0.claims (with_joins me.0.upper (joins_aborted x me.0.upper.ranges.joins))).0 in
+      (λ (hit : n ≡ 4 * x.number + 1). let d' : View TreeView = (relinked me me.0.claims (aborted x me.0.upper)).0 in
       let told : AbortsSome (step slots (row_words * x.route + 3) (4 * x.number + 1) (4 * x.number) none) me n (d', me.1) =
       (x, (refl, refl), ((λ _. refl), λ miss. absurd (miss hit))) in (
         d',
@@ -231,7 +234,7 @@ module _ (z : Sizes) where
             (abort_step z s r id me at x k.remembered hit),
         ((λ _. refl), (λ miss. absurd (miss hit)), inr (inr (inr (inr (inr (inr told))))), told),
       ))
-      (λ miss. let late : View TreeView = record me.0 { upper = with_joins me.0.upper (joins_too_late x me.0.upper.ranges.joins) } in
+      (λ miss. let late : View TreeView = record me.0 { upper = too_late x me.0.upper } in
       let told : AbortsSome (step slots (row_words * x.route + 3) (4 * x.number + 1) (4 * x.number) none) me n (late, me.1) =
       (x, (refl, refl), ((λ hit. absurd (miss hit)), λ _. refl)) in (
         late,
@@ -243,38 +246,6 @@ module _ (z : Sizes) where
         ((λ hit. absurd (miss hit)), (λ _. refl), inr (inr (inr (inr (inr (inr told))))), told),
       ))
 
-  -- The one that secures it.
-  secures_join : (slots id : ℕ) (me : MyTree) (x : Attempt) (left right : Note) → IsSecuring z.leaf me x left right
-      → Allows (R z) slots id me (row_words * x.route + 3) (λ n. either (eqb n (4 * x.number + 1)) (4 * x.number + 2) n)
-      (Relinks MaySwap SecuresSome (step slots (row_words * x.route + 3) (4 * x.number + 1) (4 * x.number + 2) none) me)
-  secures_join slots id me x left right k s r _ at _ = let n : ℕ = get_or s.words (row_words * x.route + 3) 0 in
-      let begun = ((knows_upper z s r id me.0 at).joining.hung left k.left_shown x.route x.number k.left_marked).begun in
-      dite (ℕ_discrete n (4 * x.number + 1))
-      (λ (hit : n ≡ 4 * x.number + 1). let d' : View TreeView = (relinked me me.0.claims (with_joins me.0.upper (joins_secured x me.0.upper.ranges.joins))).0 in
-      let told : SecuresSome (step slots (row_words * x.route + 3) (4 * x.number + 1) (4 * x.number + 2) none) me n (d', me.1) =
-      (x, (refl, refl), ((λ _. refl), λ miss. absurd (miss hit))) in (
-        d',
-        keeps,
-        tt,
-        subst (λ (y : ℕ). R z (stepped s (row_words * x.route + 3) y id me.1 d' keeps))
-            (sym (ap (λ b. either b (4 * x.number + 2) n) (eq-eqb n (4 * x.number + 1) hit)))
-            (secure_step z s r id me at x k.remembered left right k hit
-            (λ _ _ _ _ _ _. r.above.idle x.route k.remembered.0.place (route_key k.remembered.0.its) x.number
-            (is_route z s r id me at x k.remembered) (inl hit))),
-        ((λ _. refl), (λ miss. absurd (miss hit)), inr (inr (inr (inr (inr (inl told))))), told),
-      ))
-      (λ miss. let late : View TreeView = record me.0 { upper = with_joins me.0.upper (joins_too_late x me.0.upper.ranges.joins) } in
-      let told : SecuresSome (step slots (row_words * x.route + 3) (4 * x.number + 1) (4 * x.number + 2) none) me n (late, me.1) =
-      (x, (refl, refl), ((λ hit. absurd (miss hit)), λ _. refl)) in (
-        late,
-        keeps,
-        tt,
-        subst (λ (y : ℕ). R z (stepped s (row_words * x.route + 3) y id me.1 late keeps))
-            (sym (ap (λ b. either b (4 * x.number + 2) n) (ne_eqb n (4 * x.number + 1) miss)))
-            (late_step z s r id me at x k.remembered begun miss (row_words * x.route + 3)),
-        ((λ hit. absurd (miss hit)), (λ _. refl), inr (inr (inr (inr (inr (inl told))))), told),
-      ))
-
   -- The same, where the word has another name.
   pub aborts_join_at : (slots id : ℕ) (me : MyTree) (word : ℕ) (x : Attempt) → word ≡ join_place x.route → IsAborting me x
       → Allows (R z) slots id me word (λ n. either (eqb n (4 * x.number + 1)) (4 * x.number) n)
@@ -283,20 +254,13 @@ module _ (z : Sizes) where
       (λ (i : ℕ). Allows (R z) slots id me i (λ n. either (eqb n (4 * x.number + 1)) (4 * x.number) n)
       (Relinks MaySwap AbortsSome (step slots i (4 * x.number + 1) (4 * x.number) none) me)) (sym here) (aborts_join slots id me x k)
 
-  pub secures_join_at : (slots id : ℕ) (me : MyTree) (word : ℕ) (x : Attempt) (left right : Note) → word ≡ join_place x.route
-      → IsSecuring z.leaf me x left right → Allows (R z) slots id me word (λ n. either (eqb n (4 * x.number + 1)) (4 * x.number + 2) n)
-      (Relinks MaySwap SecuresSome (step slots word (4 * x.number + 1) (4 * x.number + 2) none) me)
-  secures_join_at slots id me word x left right here k = subst
-      (λ (i : ℕ). Allows (R z) slots id me i (λ n. either (eqb n (4 * x.number + 1)) (4 * x.number + 2) n)
-      (Relinks MaySwap SecuresSome (step slots i (4 * x.number + 1) (4 * x.number + 2) none) me)) (sym here) (secures_join slots id me x left right k)
-
 -- An exchange that expects this attempt prepared is about it.
 same_attempt : (x : Attempt) (slots word route number new : ℕ) → word ≡ join_place route → IsJoinStep x (step slots word (4 * number + 1) new none)
     → x ≡ attempt_of route number
 same_attempt x slots word route number new at is = let there : word ≡ join_place x.route = is.0 in let here : 4 * number + 1 ≡ 4 * x.number + 1 = is.1 in
     let r : x.route ≡ route = omega arith in let n : x.number ≡ number = omega arith in λ i. attempt_of (r i) (n i)
 
--- The two ways that each goes.
+-- The two ways that it goes.
 pub has_aborted_join : (n slots word route number : ℕ) (m m' : MyTree) → word ≡ join_place route
     → AbortsSome (step slots word (4 * number + 1) (4 * number) none) m n m'
     → HasAbortedJoin (eqb n (4 * number + 1)) (attempt_of route number) m m'
@@ -305,12 +269,3 @@ has_aborted_join n slots word route number m m' at t = let told = subst
     (same_attempt t.0 slots word route number (4 * number) at t.1) t.2 in dite (ℕ_discrete n (4 * number + 1))
     (λ hit. subst (λ (b : Bool). HasAbortedJoin b (attempt_of route number) m m') (sym (eq-eqb n (4 * number + 1) hit)) (told.0 hit))
     (λ miss. subst (λ (b : Bool). HasAbortedJoin b (attempt_of route number) m m') (sym (ne_eqb n (4 * number + 1) miss)) (told.1 miss))
-
-pub has_secured : (n slots word route number : ℕ) (m m' : MyTree) → word ≡ join_place route
-    → SecuresSome (step slots word (4 * number + 1) (4 * number + 2) none) m n m'
-    → HasSecured (eqb n (4 * number + 1)) (attempt_of route number) m m'
-has_secured n slots word route number m m' at t = let told = subst
-    (λ (x : Attempt). SecuresJoin x (step slots word (4 * number + 1) (4 * number + 2) none) m n m')
-    (same_attempt t.0 slots word route number (4 * number + 2) at t.1) t.2 in dite (ℕ_discrete n (4 * number + 1))
-    (λ hit. subst (λ (b : Bool). HasSecured b (attempt_of route number) m m') (sym (eq-eqb n (4 * number + 1) hit)) (told.0 hit))
-    (λ miss. subst (λ (b : Bool). HasSecured b (attempt_of route number) m m') (sym (ne_eqb n (4 * number + 1) miss)) (told.1 miss))

@@ -59,9 +59,9 @@ joins_now words notes ways joins route n same known k = record {
 }
 
 module _ (z : Sizes) where
-  pub loads_join : (slots id : ℕ) (me : MyTree) (route word_at : ℕ) → IsRemembered me.0.upper.ways route → word_at ≡ join_place route
+  pub loads_join : (slots id : ℕ) (me : MyTree) (route word_at : ℕ) → me.0.sizes ≡ z → IsRemembered me.0.upper.ways route → word_at ≡ join_place route
       → Allows (R z) slots id me word_at (λ x. x) (Raises MayLoad LoadsJoin (step slots word_at 0 0 none) me)
-  loads_join slots id me route word_at known here s r _ at _ = let f = r.above in let d = me.0 in
+  loads_join slots id me route word_at sized known here s r _ at _ = let f = r.above in let d = me.0 in
       let first = at_map upper_of s.views id d at in
       let n : ℕ = get_or s.words word_at 0 in
       let same : join_of s.words route ≡ n = ap (λ (i : ℕ). get_or s.words i 0) (sym here) in
@@ -77,7 +77,14 @@ module _ (z : Sizes) where
         here,
         record {
           now = refl;
-          state_is = subst (λ w. w % 4 < 3) same state;
+          unsecured = let low : n % 4 < 3 = subst (λ w. w % 4 < 3) same state in dite (ℕ_discrete (n % 4) 2)
+              (λ (two : n % 4 ≡ 2). let now : join_of s.words route ≡ 4 * (n / 4) + 2 = omega (arith, same, two) in
+              absurd (f.unsecured.none route way.place (route_key way.its) (n / 4) is now))
+              (λ (ne : n % 4 ≢ 2). omega (arith, low, ne));
+          idle = λ few. let low : n % 4 < 3 = subst (λ w. w % 4 < 3) same state in dite (ℕ_discrete (n % 4) 0) (λ zero. zero)
+              (λ (busy : n % 4 ≢ 0). absurd (f.unsecured.idle (subst (λ (y : Sizes). y.passes ≤ 1) sized few) route way.place (route_key way.its) (n / 4) is
+              (dite (ℕ_discrete (n % 4) 1) (λ (one : n % 4 ≡ 1). inl (omega (arith, same, one)))
+              (λ (ne : n % 4 ≢ 1). let two : n % 4 ≡ 2 = omega (arith, low, busy, ne) in inr (omega (arith, same, two))))));
           marked = λ note i attempt m. let b = (k.joining.hung note i route attempt m).begun in omega (arith, same, b);
           begun = λ x i e. let b : HasAttempt s.words route x.number = subst (λ t. HasAttempt s.words t x.number) e (k.joining.begun x i).1 in
               omega (arith, same, b);

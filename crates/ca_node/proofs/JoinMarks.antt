@@ -16,7 +16,7 @@ use Rattle.ca_rows.specs.declared.view.Claim.TheVariants.{Holds}
 use Rattle.ca_rows.specs.declared.view.View.{View}
 use Rattle.ca_runs.specs.Runs.{AreRuns}
 use Rattle.ca_runs.proofs.Keeping.{runs_still, replaced_stays}
-use Rattle.ca_node.specs.Attempts.{HasAttempt}
+use Rattle.ca_node.specs.Attempts.{HasAttempt, IsUnderWay}
 use Rattle.ca_node.specs.Copies.{Copy, update_of, copy_note, copied, IsCopied, Copies}
 use Rattle.ca_node.specs.Inventory.{AreOnce, row_itself}
 use Rattle.ca_node.specs.JoinCopies.{IsJoinCopy}
@@ -27,12 +27,13 @@ use Rattle.ca_node.specs.Marks.{IsMarkIn, IsBorder}
 use Rattle.ca_node.specs.May.{MaySwap}
 use Rattle.ca_node.specs.Place.{part, Place, IsLinkOf}
 use Rattle.ca_node.specs.Ranging.{IsRanging}
-use Rattle.ca_node.specs.Row.{row_at, items, mark as mark_kind, mark_owner, IsMarkedBy, pair}
+use Rattle.ca_node.specs.Row.{row_at, items, mark as mark_kind, mark_owner, IsMarkedBy, IsMarkedFor, pair}
 use Rattle.ca_node.specs.Scenes.{scene_of}
 use Rattle.ca_node.specs.Shape.{Role, Base}
 use Rattle.ca_node.specs.Told.{MyTree, taken_out, given}
 use Rattle.ca_node.specs.Tree.{IsTrue, IsLinkOfView, Knows, IsTree}
 use Rattle.ca_node.specs.TreeView.{Note, TreeView}
+use Rattle.ca_node.proofs.Joined.{unjoined_over}
 use Rattle.ca_node.proofs.Exchanging.{IsExchange, settled_over, old_map, new_row, ins_once, new_its, out_linked, out_unlent, note_keeps, way_keeps, ranging_keeps, replaced, new_true, own_notes, exchange_step, joining_keep, joining_more}
 use Rattle.ca_node.proofs.Holding.{unclaimed_row}
 use Rattle.ca_node.proofs.Looking.{R, of_map, knows_upper, in_more}
@@ -87,11 +88,14 @@ module _ (z : Sizes) (s : State (Unit {0}) (View TreeView)) (r : R z s) (id : �
   }
 
   over : (pass number : ℕ) → IsMarkedBy x.old.its pass number → ¬ IsActive s.words pass number
-  over = settled_over z s r id me.0 at x.old.its c.settled
+  over = settled_over z s r id me.0 at x.old.its c.settled.0
+
+  free : (route attempt : ℕ) → IsMarkedFor x.old.its route attempt → ¬ IsUnderWay s.words route attempt
+  free = unjoined_over z s r id me.0 at x.old.its c.settled.1
 
   -- The copy has what the base had, and the mark of a join that was begun; no range marked it.
   has_now : map pair x.old.objects ≡ part x.old.place.span (after r.above.history [])
-  has_now = old_map z s r id me at new (update_of x) ex hit over
+  has_now = old_map z s r id me at new (update_of x) ex hit over free
 
   others_have : (b : ℕ) (p : Place) → r.above.role b ≡ Base p → b ≢ x.old.row
       → part p.span (after r.above.history []) ≡ part p.span (after r.above.history [])
@@ -113,7 +117,7 @@ module _ (z : Sizes) (s : State (Unit {0}) (View TreeView)) (r : R z s) (id : �
 
   new_unmarked : (border : ℕ) → ¬ IsBoundOf s.words new border
   new_unmarked border b = let two = c.marked.0 in
-      let one : mark_kind x.its ≡ 1 = sym (ap mark_kind (new_row z s r id me at new (update_of x) ex hit over).2) ∙ b.0 in
+      let one : mark_kind x.its ≡ 1 = sym (ap mark_kind (new_row z s r id me at new (update_of x) ex hit over free).2) ∙ b.0 in
       omega arith
 
   bounded : (border : ℕ) → IsBoundOf s.words new border → IsBorder z.rows s.words (mark_owner (row_at s.words new)) border
@@ -124,7 +128,7 @@ module _ (z : Sizes) (s : State (Unit {0}) (View TreeView)) (r : R z s) (id : �
   serve row i = absurd (some-ne-none row (sym i.1))
 
   once : AreOnce row_itself (new ∷ [])
-  once = ins_once z s r id me at new (update_of x) ex hit over
+  once = ins_once z s r id me at new (update_of x) ex hit over free
 
   new_end : (border : ℕ) → IsBoundOf s.words new border → IsLent s.words border ⊎ IsIn border []
   new_end border b = absurd (new_unmarked border b)
@@ -145,13 +149,13 @@ module _ (z : Sizes) (s : State (Unit {0}) (View TreeView)) (r : R z s) (id : �
   runs_now : AreRuns (scene_of words' role') r.above.ranged.ends
   runs_now = runs_still (scene_of s.words role) (scene_of words' role') f.ranged.ends f.ranged.runs
       (replaced_stays (scene_of s.words role) (scene_of words' role') f.ranged.ends x.old.row new f.ranged.runs
-      (replaced z s r id me at new (update_of x) ex hit over r.above.history mark bounded has_now others_have [] serve once new_end)
+      (replaced z s r id me at new (update_of x) ex hit over free r.above.history mark bounded has_now others_have [] serve once new_end)
       (λ pass number m. absurd (unmarked pass number (subst (λ its. IsMarkedBy its pass number)
-      (new_its z s r id me at new (update_of x) ex hit over r.above.history mark bounded has_now others_have [] serve once new_end) m))))
+      (new_its z s r id me at new (update_of x) ex hit over free r.above.history mark bounded has_now others_have [] serve once new_end) m))))
 
   ranging_now : (j : ℕ) (y : View TreeView) → get_elem? s.views j ≡ some y
       → IsRanging z words' role' (r.above.ranged.ends y.upper.number) y.upper.since r.above.history y.upper.number y.upper.ranges
-  ranging_now j y here = ranging_keeps z s r id me at new (update_of x) ex hit over r.above.history mark bounded has_now others_have [] serve once
+  ranging_now j y here = ranging_keeps z s r id me at new (update_of x) ex hit over free r.above.history mark bounded has_now others_have [] serve once
       new_end j y here longer (λ number _ _ m. unmarked y.upper.number number m)
 
   own_knows : Knows z.rows r.made words' role' (set (map upper_of s.views) id u') r.above.history id u'
@@ -165,16 +169,16 @@ module _ (z : Sizes) (s : State (Unit {0}) (View TreeView)) (r : R z s) (id : �
         past = k.past;
         notes = λ note i. ⊎_elim
             (λ (e : copy_note new x ≡ note). subst (IsTrue z.rows words' role') e
-            (new_true z s r id me at new (update_of x) ex hit over r.above.history mark bounded has_now others_have [] serve once new_end))
-            (λ (o : IsIn note me.0.upper.notes). note_keeps z s r id me at new (update_of x) ex hit over r.above.history mark bounded has_now
+            (new_true z s r id me at new (update_of x) ex hit over free r.above.history mark bounded has_now others_have [] serve once new_end))
+            (λ (o : IsIn note me.0.upper.notes). note_keeps z s r id me at new (update_of x) ex hit over free r.above.history mark bounded has_now
             others_have [] serve once new_end id me.0 at note o)
             (in_more (copy_note new x) note me.0.upper.notes i);
         links = λ note i. ⊎_elim
             (λ (e : copy_note new x ≡ note). subst (λ (y : Note). IsLinkOfView me.0.upper y.place.link) e (knows.links x.old old_shown))
             (λ (o : IsIn note me.0.upper.notes). knows.links note o)
             (in_more (copy_note new x) note me.0.upper.notes i);
-        ways = way_keeps z s r id me at new (update_of x) ex hit over r.above.history mark bounded has_now others_have [] serve once new_end id me.0 at;
-        joining = joining_more z s r id me at new (update_of x) ex hit over r.above.history mark bounded has_now others_have [] serve once new_end;
+        ways = way_keeps z s r id me at new (update_of x) ex hit over free r.above.history mark bounded has_now others_have [] serve once new_end id me.0 at;
+        joining = joining_more z s r id me at new (update_of x) ex hit over free r.above.history mark bounded has_now others_have [] serve once new_end;
         ended = k.ended;
       }
 
@@ -191,13 +195,13 @@ module _ (z : Sizes) (s : State (Unit {0}) (View TreeView)) (r : R z s) (id : �
           since_first = k.since_first;
           lawful = k.lawful;
           past = k.past;
-          notes = λ note i. note_keeps z s r id me at new (update_of x) ex hit over r.above.history mark bounded has_now others_have [] serve once new_end
+          notes = λ note i. note_keeps z s r id me at new (update_of x) ex hit over free r.above.history mark bounded has_now others_have [] serve once new_end
               j y.0 y.1 note (subst (λ (w : TreeView). IsIn note w.notes) (sym y.2) i);
           links = k.links;
-          ways = λ way i. way_keeps z s r id me at new (update_of x) ex hit over r.above.history mark bounded has_now others_have [] serve once new_end
+          ways = λ way i. way_keeps z s r id me at new (update_of x) ex hit over free r.above.history mark bounded has_now others_have [] serve once new_end
               j y.0 y.1 way (subst (λ (w : TreeView). IsIn way w.ways) (sym y.2) i);
           joining = subst (λ (w : TreeView). IsJoining words' w.notes w.ways w.ranges.joins) y.2
-              (joining_keep z s r id me at new (update_of x) ex hit over r.above.history mark bounded has_now others_have [] serve once new_end j y.0 y.1);
+              (joining_keep z s r id me at new (update_of x) ex hit over free r.above.history mark bounded has_now others_have [] serve once new_end j y.0 y.1);
           ended = k.ended;
         },
         subst (λ (w : TreeView). IsRanging z words' role' (r.above.ranged.ends w.number) w.since r.above.history w.number w.ranges) y.2
@@ -217,15 +221,15 @@ module _ (z : Sizes) (s : State (Unit {0}) (View TreeView)) (r : R z s) (id : �
     me.1,
   )
   join_copied = (
-    exchange_step z s r id me at new (update_of x) ex hit over r.above.history mark bounded has_now others_have [] serve once new_end u'
-        (own_notes z s r id me at new (update_of x) ex hit over r.above.history mark bounded has_now others_have [] serve once new_end u'
+    exchange_step z s r id me at new (update_of x) ex hit over free r.above.history mark bounded has_now others_have [] serve once new_end u'
+        (own_notes z s r id me at new (update_of x) ex hit over free r.above.history mark bounded has_now others_have [] serve once new_end u'
         refl refl (λ border i. inl i) (λ row o. o) refl)
         refl f.edits f.by_passes runs_now own_knows own_ranging others_know,
     record {
       now = refl;
       unclaimed = unclaimed_row z s r id me.0 at x.old.row
-          (out_linked z s r id me at new (update_of x) ex hit over r.above.history mark bounded has_now others_have [] serve once new_end x.old.row (0, refl))
-          (out_unlent z s r id me at new (update_of x) ex hit over r.above.history mark bounded has_now others_have [] serve once new_end x.old.row
+          (out_linked z s r id me at new (update_of x) ex hit over free r.above.history mark bounded has_now others_have [] serve once new_end x.old.row (0, refl))
+          (out_unlent z s r id me at new (update_of x) ex hit over free r.above.history mark bounded has_now others_have [] serve once new_end x.old.row
           (0, refl));
     },
   )

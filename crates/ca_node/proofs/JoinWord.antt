@@ -21,7 +21,7 @@ use Rattle.ca_runs.specs.Runs.{AreRuns}
 use Rattle.ca_runs.proofs.Keeping.{runs_still}
 use Rattle.ca_node.specs.Attempts.{join_of, JoinGoesOn}
 use Rattle.ca_node.specs.Inventory.{IsInventory}
-use Rattle.ca_node.specs.Joining.{AreIdle, AreJoining, IsJoining}
+use Rattle.ca_node.specs.Joining.{AreJoining, AreUnsecured, IsJoining}
 use Rattle.ca_node.specs.JoinsStay.{remembered_route, join_same, joining_goes_on}
 use Rattle.ca_node.specs.Laws.{alive, noted_alike, numbered, placed_range, relisted, tree_lends, under_placed}
 use Rattle.ca_node.specs.Layout.{root_word}
@@ -37,7 +37,7 @@ use Rattle.ca_node.specs.Shape.{Role, Out, Base, Route, place_of, IsLink, LeadsT
 use Rattle.ca_node.specs.Standing.{IsSameButLinks, form_same, mark_stays, base_stands, route_stands}
 use Rattle.ca_node.specs.Stays.{row_same, map_same}
 use Rattle.ca_node.specs.Tree.{IsTrue, Knows, IsTree}
-use Rattle.ca_node.specs.TreeView.{Note, Way, KnownJoins, TreeView}
+use Rattle.ca_node.specs.TreeView.{Note, Way, Turns, KnownJoins, TreeView}
 use Rattle.ca_node.proofs.Looking.{R}
 
 module _ (z : Sizes) (s : State (Unit {0}) (View TreeView)) (r : R z s) (route : ℕ) (place : Place) (key : List ℕ)
@@ -319,16 +319,16 @@ module _ (z : Sizes) (s : State (Unit {0}) (View TreeView)) (r : R z s) (route :
       noted_before _ (by_shown note row i e) = by_shown note row i e
       noted_before _ (by_shown_item note row i b k) = by_shown_item note row i b k
 
-    -- A seat knows this of joins then, and the rule holds again.
-    module _ (id : ℕ) (d : View TreeView) (at : get_elem? s.views id ≡ some d) (joining : KnownJoins) (most : ℕ)
+    -- A seat knows this of joins then, and counted these turns, and the rule holds again.
+    module _ (id : ℕ) (d : View TreeView) (at : get_elem? s.views id ≡ some d) (joining : KnownJoins) (turns : Turns) (most : ℕ)
         (joined' : AreJoining z (set s.words (row_words * route + 3) word') r.above.role)
-        (idle' : AreIdle (set s.words (row_words * route + 3) word') r.above.role)
+        (unsecured' : AreUnsecured z (set s.words (row_words * route + 3) word') r.above.role)
         (own : IsJoining (set s.words (row_words * route + 3) word') d.upper.notes d.upper.ways joining) where
       abbrev u' : TreeView
-      u' = record d.upper { ranges = record d.upper.ranges { joins = joining } }
+      u' = record d.upper { ranges = record d.upper.ranges { joins = joining }; turns = turns }
 
       abbrev d' : View TreeView
-      d' = record d { upper = record d.upper { ranges = record d.upper.ranges { joins = joining } }; most = most }
+      d' = record d { upper = record d.upper { ranges = record d.upper.ranges { joins = joining }; turns = turns }; most = most }
 
       first : get_elem? (map upper_of s.views) id ≡ some d.upper
       first = at_map upper_of s.views id d at
@@ -385,7 +385,7 @@ module _ (z : Sizes) (s : State (Unit {0}) (View TreeView)) (r : R z s) (route :
               (map upper_of s.views) id u' own_ranging (λ j v n here. ranging_then j v here);
         };
         joined = joined';
-        idle = idle';
+        unsecured = unsecured';
         each_seat = all_seats (Knows z.rows r.made words' role (set (map upper_of s.views) id u') f.history)
             (map upper_of s.views) id u' own_knows (λ j v n here. still j v here);
         inventory = f.inventory;
@@ -398,7 +398,7 @@ module _ (z : Sizes) (s : State (Unit {0}) (View TreeView)) (r : R z s) (route :
       pub join_step : R z record {
         words = set s.words (row_words * route + 3) word';
         homes = s.homes;
-        views = set s.views id (record d { upper = record d.upper { ranges = record d.upper.ranges { joins = joining } }; most = most });
+        views = set s.views id (record d { upper = record d.upper { ranges = record d.upper.ranges { joins = joining }; turns = turns }; most = most });
       }
       join_step = relinks IsLinked IsLent IsNoted IsTree tree_lends z s r id d d' words' (λ _. Stays) record {
         at = at;

@@ -1,29 +1,38 @@
 -- Joins, once a link of the tree was exchanged on which a base hung that no join under way had.
-use Rattle.std.proofs.Common.{◌≡◌, ◌≢◌, ℕ, ◌+◌, ◌*◌, ◌%◌, ◌<◌, List, [], get_or, set, sym, ap, ◌∙◌, subst, inr, arith}
+use Rattle.std.proofs.Common.{◌≡◌, ◌≢◌, ℕ, ◌+◌, ◌*◌, ◌%◌, ◌<◌, List, get_or, set, sym, ap, ◌∙◌, subst, inr, ⊎_elim, arith}
+use mathlib.Core.Option.{some}
+use lib.ListN.{get_elem?}
+use Rattle.atomic_table.specs.Table.{State}
 use Rattle.ca_model.specs.StoreMap.{StoreMap}
 use Rattle.ca_rows.specs.declared.sizes.Sizes.{Sizes}
+use Rattle.ca_rows.specs.declared.view.View.{View}
 use Rattle.ca_node.specs.Attempts.{IsSecured, IsUnderWay, IsJoinWord}
-use Rattle.ca_node.specs.Joining.{AreIdle, AreJoining, IsHung, IsJoining}
-use Rattle.ca_node.specs.JoinsStay.{remembered_route, join_same, joining_goes_on, mark_hangs, under_way_same}
+use Rattle.ca_node.specs.Joining.{AreJoining, IsHung, IsJoining}
+use Rattle.ca_node.specs.JoinsStay.{remembered_route, join_same, joining_goes_on, mark_hangs}
 use Rattle.ca_node.specs.Links.{IsIn}
 use Rattle.ca_node.specs.Marks.{IsMarkIn, IsMarkedUnder, AreJoined}
 use Rattle.ca_node.specs.Place.{Span, Place}
 use Rattle.ca_node.specs.Reached.{base_at, route_at, hung}
-use Rattle.ca_node.specs.Row.{row_at, IsBaseRow, count, IsMarkedFor}
+use Rattle.ca_node.specs.Row.{row_at, IsBaseRow, count, mark, mark_owner, mark_number, IsMarkedFor}
 use Rattle.ca_node.specs.Shape.{Role, Base, Route, LeadsTo, IsShape}
-use Rattle.ca_node.specs.Standing.{link_route}
+use Rattle.ca_node.specs.Told.{IsUnjoined}
 use Rattle.ca_node.specs.Tree.{IsLinkOfView}
-use Rattle.ca_node.specs.TreeView.{Note, TreeView}
+use Rattle.ca_node.specs.TreeView.{Note, Finished, TreeView}
+use Rattle.ca_node.proofs.Looking.{R, knows_upper}
 use Rattle.ca_node.proofs.Rebased.{IsRoute, relinked_here, relinked_else, relinked_joins, relinked_marks, relinked_row}
 use Rattle.ca_rows.specs.Layout.{row_words}
 
--- No join under way has a base of the tree, where none is under way.
-pub idle_over : (z : Sizes) (words : List ℕ) (role : ℕ → Role) (m : StoreMap) → IsShape z words role m → AreIdle words role → (base : ℕ) (place : Place)
-    → role base ≡ Base place → (route attempt : ℕ) → IsMarkedFor (row_at words base) route attempt → ¬ IsUnderWay words route attempt
-idle_over z words role m shape idle base place is route attempt marked now = let at = base_at z words role m shape base place is in
-    let h : IsHung words (record { row = base; its = row_at words base; objects = []; place = place }) route attempt =
-    mark_hangs words (record { row = base; its = row_at words base; objects = []; place = place }) at.marked at.under route attempt marked in
-    let t = link_route role place.link route at.is_link h.is_link in idle route t.0 t.1 attempt t.2 now
+-- An attempt is finished that marked a base which no join has, as a seat knows.
+pub unjoined_over : (z : Sizes) (s : State (Unit {0}) (View TreeView)) (r : R z s) (id : ℕ) (d : View TreeView) → get_elem? s.views id ≡ some d
+    → (its : List ℕ) → IsUnjoined d.upper its → (route attempt : ℕ) → IsMarkedFor its route attempt → ¬ IsUnderWay s.words route attempt
+unjoined_over z s r id d at its unjoined route attempt m now = ⊎_elim
+    (λ (n : mark its ≢ 2). n m.0)
+    (λ (t : (y : Finished) × IsIn y d.upper.ranges.joins.finished × (mark_owner its ≡ y.route) × (mark_number its < y.below)).
+    let less = t.3 in let same = m.2 in let over = ((knows_upper z s r id d at).joining.finished t.0 t.1).1 attempt (omega arith) in
+    let here = subst (λ (c : ℕ). IsUnderWay s.words c attempt) (sym m.1 ∙ t.2) now in
+    ⊎_elim (λ e. ⊎_elim (λ q. absurd (omega (arith, e, q))) (λ q. absurd (omega (arith, e, q))) here)
+    (λ e. ⊎_elim (λ q. absurd (omega (arith, e, q))) (λ q. absurd (omega (arith, e, q))) here) over)
+    unjoined
 
 -- The link of the base `old` names another row then.
 module _ (z : Sizes) (words : List ℕ) (role : ℕ → Role) (m : StoreMap) (shape : IsShape z words role m) (old : ℕ) (place : Place)
@@ -64,12 +73,6 @@ module _ (z : Sizes) (words : List ℕ) (role : ℕ → Role) (m : StoreMap) (sh
       → IsJoinWord (set words place.link row) route
   states_keep joined route p key e =
       subst (λ n. n % 4 < 3) (sym (relinked_joins z words role m shape old place is row route)) (joined.states route p key e)
-
-  -- None is under way where none was.
-  pub idle_keeps : AreIdle words role → (route : ℕ) (p : Place) (key : List ℕ) (attempt : ℕ) → role route ≡ Route p key
-      → ¬ IsUnderWay (set words place.link row) route attempt
-  idle_keeps idle route p key attempt e now =
-      idle route p key attempt e (under_way_same words words' route attempt (relinked_joins z words role m shape old place is row route) now)
 
   -- A seat knows of joins what it knew.
   pub joining_keeps : (u : TreeView) → ((note : Note) → IsIn note u.notes → IsLinkOfView u note.place.link)

@@ -19,8 +19,8 @@ use Rattle.ca_rows.proofs.Relinking.{Stays, relinks}
 use Rattle.ca_runs.specs.Runs.{Ends}
 use Rattle.ca_node.specs.Attempts.{HasAttempt}
 use Rattle.ca_node.specs.Inventory.{IsListed}
-use Rattle.ca_node.specs.Joining.{IsJoining}
-use Rattle.ca_node.specs.JoinsStay.{mark_hangs, joining_noted, joining_unnoted, joining_further}
+use Rattle.ca_node.specs.Joining.{IsRemembered, IsJoining}
+use Rattle.ca_node.specs.JoinsStay.{remembered_route, mark_hangs, joining_noted, joining_unnoted, joining_further}
 use Rattle.ca_node.specs.Laws.{noted_alike, alive, tree_lends, numbered, relisted, seat_changed, starts_whole}
 use Rattle.ca_node.specs.Links.{IsIn, IsUnder, IsLinked, by_route, by_base, IsLent, HasBegun, IsNoted, by_note, by_item, by_way, by_link, by_link_item, by_border, by_run, by_run_item, by_shown, by_shown_item}
 use Rattle.ca_node.specs.Marks.{IsOfRange, IsOfJoin}
@@ -711,16 +711,26 @@ module _ (z : Sizes) where
         (refl, inl (walks, led), led),
       )
 
+  -- A route that a seat remembers is one of the table.
+  remembered_range : (s : State (Unit {0}) (View TreeView)) (r : R z s) (id : ℕ) (me : MyTree) → get_elem? s.views id ≡ some me.0
+      → (route : ℕ) → IsRemembered me.0.upper.ways route → route ≤ z.rows
+  remembered_range s r id me here route known = subst (λ (c : ℕ). c ≤ z.rows) known.2
+      (route_at z s.words r.above.role (after r.above.history []) r.above.shape known.0.row known.0.place (route_key known.0.its)
+      (alive r.above.role known.0 ((knows_upper z s r id me.0 here).ways known.0 known.1).stands)).in_range
+
   -- The load of a word of a row that was shown.
-  pub reads : (slots id : ℕ) (me : MyTree) (i : ℕ)
+  pub reads : (slots id : ℕ) (me : MyTree) (i : ℕ) → me.0.sizes ≡ z
       → Allows (R z) slots id me i (λ x. x) (Raises MayLoad Reads (step slots i 0 0 none) me)
-  reads slots id me i s r _ at _ = let f = r.above in let d = me.0 in
+  reads slots id me i sized s r _ at _ = let f = r.above in let d = me.0 in
       let k = knows_upper z s r id d at in let us : List TreeView = map upper_of s.views in
       let first = at_map upper_of s.views id d at in
       let read : Reads (step slots i 0 0 none) me (get_or s.words i 0) me = (
         refl,
         read_is z r.made s.words us f id d.upper k
             (f.ranged.ends d.upper.number) (f.ranged.each id d.upper first) i,
+        λ note m route attempt marked. let h = k.joining.hung note m route attempt marked in
+            let known = remembered_route d.upper note.place.link route (k.links note m) h.is_link in
+            (known, subst (λ (y : Sizes). route ≤ y.rows) (sym sized) (remembered_range s r id me at route known)),
       ) in (
         d,
         keeps,

@@ -34,7 +34,7 @@ use Rattle.ca_node.specs.Shape.{Role, Base}
 use Rattle.ca_node.specs.Told.{MyTree, IsLastThere, one_more_lost, IsMissed, taken_out, given, lent_out}
 use Rattle.ca_node.specs.Tree.{IsTrue}
 use Rattle.ca_node.specs.TreeView.{Note, Border, Begun, KnownRanges, TreeView}
-use Rattle.ca_node.proofs.Copying.{ex, over, knows, new_words, serve_linked, ranging_still, run_keeps, copy_step, copied_now}
+use Rattle.ca_node.proofs.Copying.{ex, over, free, knows, new_words, serve_linked, ranging_still, run_keeps, copy_step, copied_now}
 use Rattle.ca_node.proofs.Exchanging.{own_ranging, is_old, new_row, ins_once}
 use Rattle.ca_node.proofs.Holding.{held_row}
 use Rattle.ca_node.proofs.Looking.{R, loses, hangs_still, in_more}
@@ -63,16 +63,16 @@ module _ (z : Sizes) (s : State (Unit {0}) (View TreeView)) (r : R z s) (id : �
 
   old_is : r.above.role x.old.row ≡ Base x.old.place
   old_is = is_old z s r id me at new (update_of x) (ex z s r id me at new x c hit) hit
-      (over z s r id me at new x c hit)
+      (over z s r id me at new x c hit) (free z s r id me at new x c hit)
 
   -- The copy's words are in the row that the seat holds.
   spells : row_at s.words new ≡ x.its
   spells = (new_row z s r id me at new (update_of x) (ex z s r id me at new x c hit) hit
-      (over z s r id me at new x c hit)).2
+      (over z s r id me at new x c hit) (free z s r id me at new x c hit)).2
 
   once : AreOnce row_itself (new ∷ [])
   once = ins_once z s r id me at new (update_of x) (ex z s r id me at new x c hit) hit
-      (over z s r id me at new x c hit)
+      (over z s r id me at new x c hit) (free z s r id me at new x c hit)
 
   same_ranges : (pass : ℕ) → 0 < pass → pass ≤ 64 → result_of words' pass ≡ result_of s.words pass
   same_ranges = relinked_ranges z s.words role (after r.above.history []) r.above.shape x.old.row

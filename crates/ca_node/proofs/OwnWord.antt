@@ -18,7 +18,7 @@ use Rattle.ca_rows.proofs.Rules.{all_seats}
 use Rattle.ca_runs.specs.Runs.{Ends, AreRuns}
 use Rattle.ca_node.specs.Inventory.{IsInventory}
 use Rattle.ca_node.specs.Attempts.{join_of}
-use Rattle.ca_node.specs.JoinsStay.{joining_same, joined_same, under_way_same}
+use Rattle.ca_node.specs.JoinsStay.{joining_same, joined_same, unsecured_still}
 use Rattle.ca_node.specs.Laws.{alive, numbered, relisted, placed_range, under_placed}
 use Rattle.ca_node.specs.Layout.{root_word, sequence_unit}
 use Rattle.ca_node.specs.Links.{IsIn, IsUnder, IsActive, HasBegun, IsLinked, by_base, IsOfOwnRun, IsNoted, by_note, by_item, by_way, by_link, by_link_item, by_border, by_run, by_run_item, by_shown, by_shown_item}
@@ -282,7 +282,7 @@ module _ (z : Sizes) (s : State (Unit {0}) (View TreeView)) (r : R z s) (pass wo
           subst (λ (w : TreeView). IsRanging z words' role (ends' w.number) w.since f.history w.number w.ranges) y.2 (others j y.0 ne y.1).1);
     };
     joined = joined_same z s.words words' role join_then child_then f.joined;
-    idle = λ route p key attempt is now. f.idle route p key attempt is (under_way_same s.words words' route attempt (join_then route p key is) now);
+    unsecured = unsecured_still z s.words words' role role (λ route p key is. inr (p, key, is, join_then route p key is)) f.unsecured;
     each_seat = all_seats (Knows z.rows r.made words' role (set (map upper_of s.views) id u') f.history)
         (map upper_of s.views) id u' own_knows (λ j v ne here. let y = of_map upper_of s.views j v here in
         subst (Knows z.rows r.made words' role (set (map upper_of s.views) id u') f.history j) y.2 (others j y.0 ne y.1).0);

@@ -20,6 +20,7 @@ use Rattle.ca_rows.specs.declared.view.Claim.TheVariants.{Holds}
 use Rattle.ca_rows.specs.declared.view.View.{View}
 use Rattle.ca_rows.specs.Claims.{claim_of}
 use Rattle.ca_rows.specs.Rule.{upper_of}
+use Rattle.ca_node.specs.Attempts.{IsUnderWay}
 use Rattle.ca_node.specs.Joining.{IsJoining}
 use Rattle.ca_node.specs.Laws.{numbered, relisted, starts_whole}
 use Rattle.ca_node.specs.Links.{IsIn, IsActive, IsBoundOf, IsLent}
@@ -27,7 +28,7 @@ use Rattle.ca_node.specs.Inventory.{AreOnce, row_itself}
 use Rattle.ca_node.specs.Marks.{IsMarkIn, IsBorder}
 use Rattle.ca_node.specs.Place.{part, Place, edit_key, has_key}
 use Rattle.ca_node.specs.Ranging.{IsRanging}
-use Rattle.ca_node.specs.Row.{row_at, mark as mark_kind, mark_owner, IsMarkedBy, pair}
+use Rattle.ca_node.specs.Row.{row_at, mark as mark_kind, mark_owner, IsMarkedBy, IsMarkedFor, pair}
 use Rattle.ca_node.specs.Scenes.{scene_of}
 use Rattle.ca_node.specs.Shape.{Role, Base}
 use Rattle.ca_rows.specs.Told.{met_of, relinked}
@@ -35,6 +36,7 @@ use Rattle.ca_node.specs.May.{MaySwap}
 use Rattle.ca_node.specs.Told.{MyTree, IsKnown, Update, IsUpdate, given, taken_out, updated, one_more_lost, IsUpdated, IsMissed, Updates, HasUpdated}
 use Rattle.ca_node.specs.Tree.{StartsWith, IsLinkOfView, IsTrue, Knows, IsTree}
 use Rattle.ca_node.specs.TreeView.{Note, TreeView}
+use Rattle.ca_node.proofs.Joined.{unjoined_over}
 use Rattle.ca_node.proofs.Exchanging.{IsExchange, settled_over, is_old, new_row, old_map, is_last, ins_once, new_its, out_linked, out_unlent, replaced, ranging_keeps, own_notes, old_apart, note_keeps, way_keeps, new_true, exchange_step, joining_keep, joining_more}
 use Rattle.ca_node.proofs.Holding.{unclaimed_row}
 use Rattle.ca_node.proofs.Logs.{after_more, state_stays, others_lawful, own_lawful, past_more, ended_more}
@@ -87,7 +89,10 @@ module _ (z : Sizes) (s : State (Unit {0}) (View TreeView)) (r : R z s) (id : �
 
   -- The range that marked the old base is over.
   over : (pass number : ℕ) → IsMarkedBy x.old.its pass number → ¬ IsActive s.words pass number
-  over = settled_over z s r id me.0 at x.old.its u.settled
+  over = settled_over z s r id me.0 at x.old.its u.settled.0
+
+  free : (route attempt : ℕ) → IsMarkedFor x.old.its route attempt → ¬ IsUnderWay s.words route attempt
+  free = unjoined_over z s r id me.0 at x.old.its u.settled.1
 
   abbrev d : View TreeView
   d = me.0
@@ -122,10 +127,10 @@ module _ (z : Sizes) (s : State (Unit {0}) (View TreeView)) (r : R z s) (id : �
   one_more = after_more f.history (own ∷ []) []
 
   was_map : IsStoreMap z.keypos last
-  was_map = is_last z s r id me at new x ex hit over
+  was_map = is_last z s r id me at new x ex hit over free
 
   has_now : map pair x.objects ≡ part x.old.place.span (after (r.above.history ++ own ∷ []) [])
-  has_now = u.map_is ∙ (ap (after_edit x.edit) (old_map z s r id me at new x ex hit over)
+  has_now = u.map_is ∙ (ap (after_edit x.edit) (old_map z s r id me at new x ex hit over free)
       ∙ (sym (part_edited z.keypos place.span x.edit last was_map u.about)
       ∙ ap (part place.span) (sym one_more)))
 
@@ -140,7 +145,7 @@ module _ (z : Sizes) (s : State (Unit {0}) (View TreeView)) (r : R z s) (id : �
       (λ (h : has_key p.span (edit_key x.edit)
       ≡ true). absurd
       (ne (f.shape.apart c x.old.row p place (edit_key x.edit) is
-      (is_old z s r id me at new x ex hit over) h u.about)))
+      (is_old z s r id me at new x ex hit over free) h u.about)))
       (λ h. part_left z.keypos p.span x.edit last was_map h)
       (by_bool (has_key p.span (edit_key x.edit)))
 
@@ -150,7 +155,7 @@ module _ (z : Sizes) (s : State (Unit {0}) (View TreeView)) (r : R z s) (id : �
   -- No range marked the new base.
   new_unmarked : (border : ℕ) → ¬ IsBoundOf s.words new border
   new_unmarked border b = let none = u.unmarked in
-      let one : mark_kind x.its ≡ 1 = sym (ap mark_kind (new_row z s r id me at new x ex hit over).2) ∙ b.0 in
+      let one : mark_kind x.its ≡ 1 = sym (ap mark_kind (new_row z s r id me at new x ex hit over free).2) ∙ b.0 in
       omega arith
 
   bounded : (border : ℕ) → IsBoundOf s.words new border
@@ -163,7 +168,7 @@ module _ (z : Sizes) (s : State (Unit {0}) (View TreeView)) (r : R z s) (id : �
   serve row i = absurd (some-ne-none row (sym i.1))
 
   once : AreOnce row_itself (new ∷ x.comes)
-  once = ins_once z s r id me at new x ex hit over
+  once = ins_once z s r id me at new x ex hit over free
 
   new_end : (border : ℕ) → IsBoundOf s.words new border → IsLent s.words border ⊎ IsIn border []
   new_end border b = absurd (new_unmarked border b)
@@ -202,7 +207,7 @@ module _ (z : Sizes) (s : State (Unit {0}) (View TreeView)) (r : R z s) (id : �
   answered =
       answer_whole place.span last (edit_key x.edit) x.event u.about
       (about_edit x.event x.edit u.does)
-      (subst (IsAnswer x.event) (old_map z s r id me at new x ex hit over) u.answer)
+      (subst (IsAnswer x.event) (old_map z s r id me at new x ex hit over free) u.answer)
 
   own_knows : Knows z.rows r.made words' role' (set (map upper_of s.views) id u')
       (r.above.history ++ own ∷ []) id u'
@@ -238,9 +243,9 @@ module _ (z : Sizes) (s : State (Unit {0}) (View TreeView)) (r : R z s) (id : �
         notes = λ note i. ⊎_elim
             (λ (e : new_note ≡ note).
             subst (IsTrue z.rows words' role') e
-            (new_true z s r id me at new x ex hit over (r.above.history ++ own ∷ []) mark bounded has_now
+            (new_true z s r id me at new x ex hit over free (r.above.history ++ own ∷ []) mark bounded has_now
             others_have [] serve once new_end))
-            (λ (o : IsIn note d.upper.notes). note_keeps z s r id me at new x ex hit over
+            (λ (o : IsIn note d.upper.notes). note_keeps z s r id me at new x ex hit over free
             (r.above.history ++ own ∷ []) mark bounded has_now others_have [] serve once new_end id d at note o)
             (in_more new_note note d.upper.notes i);
         links = λ note i. ⊎_elim
@@ -248,9 +253,9 @@ module _ (z : Sizes) (s : State (Unit {0}) (View TreeView)) (r : R z s) (id : �
             (knows.links x.old (was_shown z me new x u)))
             (λ (o : IsIn note d.upper.notes). knows.links note o)
             (in_more new_note note d.upper.notes i);
-        ways = way_keeps z s r id me at new x ex hit over (r.above.history ++ own ∷ []) mark bounded has_now
+        ways = way_keeps z s r id me at new x ex hit over free (r.above.history ++ own ∷ []) mark bounded has_now
             others_have [] serve once new_end id d at;
-        joining = joining_more z s r id me at new x ex hit over (r.above.history ++ own ∷ []) mark bounded has_now
+        joining = joining_more z s r id me at new x ex hit over free (r.above.history ++ own ∷ []) mark bounded has_now
             others_have [] serve once new_end;
         ended = λ y i.
             ended_more r.made (set (map upper_of s.views) id u') d.upper.number x.edit f.history y
@@ -273,14 +278,14 @@ module _ (z : Sizes) (s : State (Unit {0}) (View TreeView)) (r : R z s) (id : �
             (λ same. ne (knows.alone u.is_pass j v here (sym same))) k.lawful;
         past = k.past;
         notes = λ note i.
-            note_keeps z s r id me at new x ex hit over (r.above.history ++ own ∷ []) mark bounded has_now
+            note_keeps z s r id me at new x ex hit over free (r.above.history ++ own ∷ []) mark bounded has_now
             others_have [] serve once new_end j y.0 y.1 note (subst (λ (w : TreeView). IsIn note w.notes) (sym y.2) i);
         links = k.links;
         ways = λ way i.
-            way_keeps z s r id me at new x ex hit over (r.above.history ++ own ∷ []) mark bounded has_now
+            way_keeps z s r id me at new x ex hit over free (r.above.history ++ own ∷ []) mark bounded has_now
             others_have [] serve once new_end j y.0 y.1 way (subst (λ (w : TreeView). IsIn way w.ways) (sym y.2) i);
         joining = subst (λ (w : TreeView). IsJoining words' w.notes w.ways w.ranges.joins) y.2
-            (joining_keep z s r id me at new x ex hit over (r.above.history ++ own ∷ []) mark bounded has_now
+            (joining_keep z s r id me at new x ex hit over free (r.above.history ++ own ∷ []) mark bounded has_now
             others_have [] serve once new_end j y.0 y.1);
         ended = λ e i.
             ended_more r.made (set (map upper_of s.views) id u') d.upper.number x.edit f.history e
@@ -296,28 +301,28 @@ module _ (z : Sizes) (s : State (Unit {0}) (View TreeView)) (r : R z s) (id : �
 
   -- Runs stay as they are: no range had the base that went, and none has the one that came.
   runs_now : AreRuns (scene_of words' role') r.above.ranged.ends
-  runs_now = let t = replaced z s r id me at new x ex hit over (r.above.history ++ own ∷ []) mark bounded has_now
+  runs_now = let t = replaced z s r id me at new x ex hit over free (r.above.history ++ own ∷ []) mark bounded has_now
       others_have [] serve once new_end in
       runs_still (scene_of s.words role) (scene_of words' role') f.ranged.ends f.ranged.runs
       (replaced_stays (scene_of s.words role) (scene_of words' role') f.ranged.ends x.old.row new
       f.ranged.runs t
       (λ pass number m. absurd (unmarked pass number
-      (subst (λ its. IsMarkedBy its pass number) (new_its z s r id me at new x ex hit over
+      (subst (λ its. IsMarkedBy its pass number) (new_its z s r id me at new x ex hit over free
       (r.above.history ++ own ∷ []) mark bounded has_now others_have [] serve once new_end) m))))
 
   ranging_now : (j : ℕ) (y : View TreeView) → get_elem? s.views j ≡ some y
       → IsRanging z words' role' (r.above.ranged.ends y.upper.number) y.upper.since
       (r.above.history ++ own ∷ []) y.upper.number y.upper.ranges
-  ranging_now j y here = ranging_keeps z s r id me at new x ex hit over (r.above.history ++ own ∷ [])
+  ranging_now j y here = ranging_keeps z s r id me at new x ex hit over free (r.above.history ++ own ∷ [])
       mark bounded has_now others_have [] serve once new_end j y here longer
       (λ number _ _ m. unmarked y.upper.number number m)
 
   -- Where the link names the old base, the exchange carries out the update.
   pub update_step : R z record { words = words'; homes = s.homes; views = set s.views id d' }
   update_step =
-      exchange_step z s r id me at new x ex hit over (r.above.history ++ own ∷ []) mark bounded has_now
+      exchange_step z s r id me at new x ex hit over free (r.above.history ++ own ∷ []) mark bounded has_now
       others_have [] serve once new_end u'
-      (own_notes z s r id me at new x ex hit over (r.above.history ++ own ∷ []) mark bounded has_now
+      (own_notes z s r id me at new x ex hit over free (r.above.history ++ own ∷ []) mark bounded has_now
       others_have [] serve once new_end u' refl refl (λ border i. inl i) (λ c o. o) refl)
       refl edits_now passes_now runs_now own_knows (ranging_now id d at)
       (λ j v ne here. let y = of_map upper_of s.views j v here in (
@@ -348,11 +353,11 @@ module _ (z : Sizes) (s : State (Unit {0}) (View TreeView)) (r : R z s) (id : �
     now = refl;
     unclaimed =
         λ row o. unclaimed_row z s r id d at row
-        (out_linked z s r id me at new x ex hit over (r.above.history ++ own ∷ []) mark bounded has_now
+        (out_linked z s r id me at new x ex hit over free (r.above.history ++ own ∷ []) mark bounded has_now
         others_have [] serve once new_end row o)
-        (out_unlent z s r id me at new x ex hit over (r.above.history ++ own ∷ []) mark bounded has_now
+        (out_unlent z s r id me at new x ex hit over free (r.above.history ++ own ∷ []) mark bounded has_now
         others_have [] serve once new_end row o);
-    apart = old_apart z s r id me at new x ex hit over (r.above.history ++ own ∷ []) mark bounded has_now
+    apart = old_apart z s r id me at new x ex hit over free (r.above.history ++ own ∷ []) mark bounded has_now
         others_have [] serve once new_end;
     known = λ some_rows. let same : d.sizes ≡ z = ⊎_elim
         (λ (e : d.sizes.rows ≡ 0). absurd (omega arith)) (λ (e : d.sizes ≡ z). e)

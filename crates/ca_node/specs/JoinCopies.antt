@@ -9,7 +9,7 @@ use Rattle.ca_node.specs.JoinSteps.{attempt_of}
 use Rattle.ca_node.specs.Links.{IsIn}
 use Rattle.ca_node.specs.Place.{IsLinkOf}
 use Rattle.ca_node.specs.Row.{IsBaseRow, count, level, items, IsMarkedFor, IsHeaded}
-use Rattle.ca_node.specs.Told.{MyTree, IsLastThere, IsSettled, IsUnjoined}
+use Rattle.ca_node.specs.Told.{MyTree, IsLastThere, IsSettled}
 
 -- The seat may put the new row in the place of the old base: it is pinned, its last load of that link showed that base, which neither a range has nor a join, it
 -- holds the new one, and that is a copy with the mark of an attempt that was begun, of the route on whose link the base hangs.
@@ -19,7 +19,6 @@ pub record IsJoinCopy (z : Sizes) (m : MyTree) (new : ℕ) (x : Copy) : Type 0 w
   pub shown : IsLastThere x.old m.0.upper.notes
   pub old_base : IsBaseRow x.old.its
   pub settled : IsSettled m.0.upper x.old.its
-  pub unjoined : IsUnjoined m.0.upper x.old.its
   pub held : claim_of m.0.claims new ≡ some (Holds x.its)
   pub is_base : IsBaseRow x.its
   pub level_is : level x.its ≡ x.old.place.level

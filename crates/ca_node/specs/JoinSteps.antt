@@ -8,7 +8,7 @@ use Rattle.ca_node.specs.Joining.{IsRemembered}
 use Rattle.ca_node.specs.Links.{IsIn}
 use Rattle.ca_node.specs.Row.{IsBaseRow, count, IsMarkedFor}
 use Rattle.ca_node.specs.Told.{MyTree, with_upper}
-use Rattle.ca_node.specs.TreeView.{Note, Attempt, Finished, KnownJoins, TreeView}
+use Rattle.ca_node.specs.TreeView.{Note, Attempt, Finished, KnownJoins, TreeView, one_helped}
 use Rattle.ca_rows.specs.Layout.{row_words}
 
 -- the word that says how far the join of a route is, by its last attempt
@@ -34,6 +34,10 @@ finished_by route word = before route (cond (word % 4 == 0) (word / 4 + 1) (word
 abbrev pub secured_by : ℕ → ℕ → List Attempt
 secured_by route word = cond (word % 4 == 2) (attempt_of route (word / 4) ∷ []) []
 
+-- the attempt that is prepared
+abbrev pub prepared_by : ℕ → ℕ → List Attempt
+prepared_by route word = cond (word % 4 == 1) (attempt_of route (word / 4) ∷ []) []
+
 abbrev pub with_joins : TreeView → KnownJoins → TreeView
 with_joins u joins = record u { ranges = record u.ranges { joins = joins } }
 
@@ -44,13 +48,16 @@ joins_loaded route word joins = record {
   finished = finished_by route word ∷ joins.finished;
   secured = secured_by route word ++ joins.secured;
   decided = joins.decided;
+  prepared = prepared_by route word ++ joins.prepared;
 }
 
 -- The join word of a route was loaded. Each attempt of the route that marked a base which was shown, or is known to be begun, was begun; one that is known to
--- be finished isn't under way, one that is known to be decided isn't prepared, and one that is known to be secured is.
+-- be finished isn't under way, one that is known to be decided isn't prepared, and one that is known to be secured is. So far none is secured, and none is
+-- under way where the space is for one pass alone.
 pub record HasLoadedJoin (route : ℕ) (m : MyTree) (n : ℕ) (m' : MyTree) : Type 0 where
   pub now : m' ≡ with_upper m (with_joins m.0.upper (joins_loaded route n m.0.upper.ranges.joins))
-  pub state_is : n % 4 < 3
+  pub unsecured : n % 4 < 2
+  pub idle : m.0.sizes.passes ≤ 1 → n % 4 ≡ 0
   pub marked : (note : Note) → IsIn note m.0.upper.notes → (attempt : ℕ) → IsMarkedFor note.its route attempt → attempt ≤ n / 4
   pub begun : (x : Attempt) → IsIn x m.0.upper.ranges.joins.begun → x.route ≡ route → x.number ≤ n / 4
   pub finished : (x : Finished) → IsIn x m.0.upper.ranges.joins.finished → x.route ≡ route → n % 4 ≢ 0 → x.below ≤ n / 4
@@ -64,16 +71,40 @@ LoadsJoin st m n m' = (route : ℕ) × (st.word ≡ join_place route) × HasLoad
 abbrev pub joins_begun : Attempt → KnownJoins → KnownJoins
 joins_begun x joins = record joins { begun = x ∷ joins.begun; finished = before x.route x.number ∷ joins.finished }
 
+-- The seat may begin an attempt, the next one of the route behind one that is finished: it is pinned, remembers the route, and isn't the only pass of the
+-- space.
+pub record IsBeginning (m : MyTree) (x : Attempt) : Type 0 where
+  pub is_pinned : m.0.pin.pinned ≡ true
+  pub is_pass : 0 < m.0.upper.number
+  pub not_alone : 1 < m.0.sizes.passes
+  pub remembered : IsRemembered m.0.upper.ways x.route
+  pub later : 0 < x.number
+
+-- The join word was exchanged, from the attempt before finished to this one prepared; or the attempt before wasn't the last one, or wasn't finished.
+abbrev pub BeginsJoin : Attempt → Step (Unit {0}) → MyTree → ℕ → MyTree → Type 0
+BeginsJoin x st m n m' = (n ≡ st.first → m' ≡ relinked m m.0.claims (with_joins m.0.upper (joins_begun x m.0.upper.ranges.joins))) × (n ≢ st.first → m' ≡ m)
+
+abbrev pub HasBegunJoin : Bool → Attempt → MyTree → MyTree → Type 0
+HasBegunJoin true x m m' = m' ≡ relinked m m.0.claims (with_joins m.0.upper (joins_begun x m.0.upper.ranges.joins))
+HasBegunJoin false x m m' = m' ≡ m
+
 -- what one knows that secured an attempt
 abbrev pub joins_secured : Attempt → KnownJoins → KnownJoins
 joins_secured x joins = record joins { secured = x ∷ joins.secured }
 
 -- what one knows that gave one up, and what one knows that came too late to give it up
 abbrev pub joins_aborted : Attempt → KnownJoins → KnownJoins
-joins_aborted x joins = record joins { finished = before x.route (x.number + 1) ∷ joins.finished }
+joins_aborted x joins = record joins { finished = before x.route (x.number + 1) ∷ joins.finished; prepared = [] }
 
 abbrev pub joins_too_late : Attempt → KnownJoins → KnownJoins
-joins_too_late x joins = record joins { decided = x ∷ joins.decided }
+joins_too_late x joins = record joins { decided = x ∷ joins.decided; prepared = [] }
+
+-- Either way that counts as one operation more that it helped to its end.
+abbrev pub aborted : Attempt → TreeView → TreeView
+aborted x u = record (with_joins u (joins_aborted x u.ranges.joins)) { turns = one_helped u.turns }
+
+abbrev pub too_late : Attempt → TreeView → TreeView
+too_late x u = record (with_joins u (joins_too_late x u.ranges.joins)) { turns = one_helped u.turns }
 
 -- The seat may secure an attempt: it is pinned, and was shown the two bases under the route, which this attempt marked. Together they have no more items than
 -- a leaf may have.
@@ -90,41 +121,36 @@ pub record IsSecuring (leaf : ℕ) (m : MyTree) (x : Attempt) (left right : Note
   pub right_link : right.place.link ≡ row_words * x.route + 2
   pub few : count left.its + count right.its ≤ leaf
 
--- The join word was exchanged, from this attempt prepared to it secured; or it wasn't prepared any more.
-abbrev pub SecuresJoin : Attempt → Step (Unit {0}) → MyTree → ℕ → MyTree → Type 0
-SecuresJoin x st m n m' = (n ≡ st.first → m' ≡ relinked m m.0.claims (with_joins m.0.upper (joins_secured x m.0.upper.ranges.joins)))
-    × (n ≢ st.first → m' ≡ with_upper m (with_joins m.0.upper (joins_too_late x m.0.upper.ranges.joins)))
-
-abbrev pub HasSecured : Bool → Attempt → MyTree → MyTree → Type 0
-HasSecured true x m m' = m' ≡ relinked m m.0.claims (with_joins m.0.upper (joins_secured x m.0.upper.ranges.joins))
-HasSecured false x m m' = m' ≡ with_upper m (with_joins m.0.upper (joins_too_late x m.0.upper.ranges.joins))
-
--- The seat may give an attempt up, be it its own or another pass's: it is pinned, remembers the route, and knows that it was begun.
+-- The seat may give an attempt up that is in its way: it is pinned, remembers the route, knows that it was begun, and found it prepared since it gave one up.
 pub record IsAborting (m : MyTree) (x : Attempt) : Type 0 where
   pub is_pinned : m.0.pin.pinned ≡ true
   pub remembered : IsRemembered m.0.upper.ways x.route
   pub begun : IsIn x m.0.upper.ranges.joins.begun
+  pub found : IsIn x m.0.upper.ranges.joins.prepared
 
 -- The join word was exchanged, and the attempt is finished; or it wasn't prepared any more.
 abbrev pub AbortsJoin : Attempt → Step (Unit {0}) → MyTree → ℕ → MyTree → Type 0
-AbortsJoin x st m n m' = (n ≡ st.first → m' ≡ relinked m m.0.claims (with_joins m.0.upper (joins_aborted x m.0.upper.ranges.joins)))
-    × (n ≢ st.first → m' ≡ with_upper m (with_joins m.0.upper (joins_too_late x m.0.upper.ranges.joins)))
+AbortsJoin x st m n m' = (n ≡ st.first → m' ≡ relinked m m.0.claims (aborted x m.0.upper)) × (n ≢ st.first → m' ≡ with_upper m (too_late x m.0.upper))
 
 abbrev pub HasAbortedJoin : Bool → Attempt → MyTree → MyTree → Type 0
-HasAbortedJoin true x m m' = m' ≡ relinked m m.0.claims (with_joins m.0.upper (joins_aborted x m.0.upper.ranges.joins))
-HasAbortedJoin false x m m' = m' ≡ with_upper m (with_joins m.0.upper (joins_too_late x m.0.upper.ranges.joins))
+HasAbortedJoin true x m m' = m' ≡ relinked m m.0.claims (aborted x m.0.upper)
+HasAbortedJoin false x m m' = m' ≡ with_upper m (too_late x m.0.upper)
 
 -- The exchange is of the join word of this attempt's route, and expects the attempt prepared.
 abbrev pub IsJoinStep : Attempt → Step (Unit {0}) → Type 0
 IsJoinStep x st = (st.word ≡ join_place x.route) × (st.first ≡ 4 * x.number + 1)
 
+-- It expects the attempt before this one finished.
+abbrev pub IsJoinBegin : Attempt → Step (Unit {0}) → Type 0
+IsJoinBegin x st = (st.word ≡ join_place x.route) × (st.first + 4 ≡ 4 * x.number)
+
 -- It is about some attempt.
-abbrev pub SecuresSome : Step (Unit {0}) → MyTree → ℕ → MyTree → Type 0
-SecuresSome st m n m' = (x : Attempt) × IsJoinStep x st × SecuresJoin x st m n m'
+abbrev pub BeginsSome : Step (Unit {0}) → MyTree → ℕ → MyTree → Type 0
+BeginsSome st m n m' = (x : Attempt) × IsJoinBegin x st × BeginsJoin x st m n m'
 
 abbrev pub AbortsSome : Step (Unit {0}) → MyTree → ℕ → MyTree → Type 0
 AbortsSome st m n m' = (x : Attempt) × IsJoinStep x st × AbortsJoin x st m n m'
 
 -- All that an exchange of the join word of a route may tell.
 abbrev pub SwapsJoin : Step (Unit {0}) → MyTree → ℕ → MyTree → Type 0
-SwapsJoin st m n m' = SecuresSome st m n m' ⊎ AbortsSome st m n m'
+SwapsJoin st m n m' = BeginsSome st m n m' ⊎ AbortsSome st m n m'

@@ -14,7 +14,7 @@ use Rattle.ca_rows.proofs.Making.{at_place}
 use Rattle.ca_rows.proofs.Rules.{all_seats}
 use Rattle.ca_node.specs.Inventory.{IsInventory}
 use Rattle.ca_node.specs.Joining.{IsJoining}
-use Rattle.ca_node.specs.JoinsStay.{joining_same, nothing_joining, joined_same, under_way_same}
+use Rattle.ca_node.specs.JoinsStay.{joining_same, nothing_joining, joined_same, unsecured_still}
 use Rattle.ca_node.specs.Links.{root, IsIn, IsUnder, IsActive, IsLinked, by_route, by_range, IsLent, IsOfOwnRun, IsNoted, by_note, by_item, by_way, by_link, by_link_item, by_border, by_run, by_run_item, by_shown, by_shown_item}
 use Rattle.ca_node.specs.Place.{Place, IsLinkOf}
 use Rattle.ca_node.specs.Ranging.{IsSoFar, IsRanging, AreRanged}
@@ -290,8 +290,8 @@ module _ (z : Sizes) (made : ℕ) (uppers : List TreeView) (words others : List 
     shape = shape_now;
     ranged = ranged_now;
     joined = joined_same z words others f.role (λ route place key is. join_now route place key is 3 (omega arith)) child_now f.joined;
-    idle = λ route place key attempt is now. f.idle route place key attempt is
-        (under_way_same words others route attempt (join_now route place key is 3 (omega arith)) now);
+    unsecured = unsecured_still z words others f.role f.role
+        (λ route place key is. inr (place, key, is, join_now route place key is 3 (omega arith))) f.unsecured;
     each_seat = λ j u at. let k = f.each_seat j u at in record {
       made_before = k.made_before;
       alone = k.alone;
@@ -383,7 +383,7 @@ seat_changed z made words uppers id u u' f at same has k ranging = record {
         (λ j v n here. f.ranged.each j v here);
   };
   joined = f.joined;
-  idle = f.idle;
+  unsecured = f.unsecured;
   each_seat = all_seats (Knows z.rows made words f.role (set uppers id u') f.history) uppers id u' k
       (λ j v n here. relisted z.rows made words f.role uppers (set uppers id u') f.history j v (numbered uppers id u u' at same) (f.each_seat j v here));
   inventory = f.inventory;
@@ -551,7 +551,7 @@ tree_making = record {
           (at_place uppers (blank (made + 1)) u j here);
     };
     joined = f.joined;
-    idle = f.idle;
+    unsecured = f.unsecured;
     each_seat = λ j u here. ⊎_elim
         (λ (was : get_elem? uppers j ≡ some u). let k = f.each_seat j u was in let low = k.made_before in record {
           made_before = omega arith;

@@ -15,6 +15,7 @@ use Rattle.ca_rows.specs.Claims.{claim_of, claimed, dropped}
 use Rattle.ca_rows.specs.Rule.{fresh, no_sizes}
 use Rattle.ca_rows.specs.declared.view.Met.{Met}
 use Rattle.ca_rows.specs.Told.{Mine, met_of, relinked}
+use Rattle.ca_node.specs.Joining.{IsRemembered}
 use Rattle.ca_node.specs.Inventory.{AreOnce, but, but_all, row_itself, row_of_base, IsListed}
 use Rattle.ca_node.specs.Links.{IsIn}
 use Rattle.ca_node.specs.declared.link.Link.{Link}
@@ -23,7 +24,7 @@ use Rattle.ca_node.specs.declared.range_state.RangeState.{RangeState}
 use Rattle.ca_node.specs.declared.range_state.RangeState.TheVariants.{Idle, Active, Decided}
 use Rattle.ca_node.specs.Notes.{IsBaseNote}
 use Rattle.ca_node.specs.Place.{Span, all_keys, left_of, right_of, HasKey, Place, left_place, right_place, edit_key}
-use Rattle.ca_node.specs.Row.{IsObjectRow, IsBaseRow, IsRouteRow, IsBorderRow, count, level, items, mark, mark_owner, mark_number, mark_bound, IsMarkedBy, IsUnmarked, IsIdle, key, route_key, pair, IsHeaded}
+use Rattle.ca_node.specs.Row.{IsObjectRow, IsBaseRow, IsRouteRow, IsBorderRow, count, level, items, mark, mark_owner, mark_number, mark_bound, IsMarkedBy, IsMarkedFor, IsUnmarked, IsIdle, key, route_key, pair, IsHeaded}
 use Rattle.ca_node.specs.States.{HasState, IsAlone, IsReadAt}
 use Rattle.ca_node.specs.Tree.{ArePast, IsFixed}
 use Rattle.ca_node.specs.TreeView.{Note, Way, Over, Finished, Quiet, Unfinished, Border, Turns, Renewal, Division, Inventory, TreeView, blank, no_note, one_passed}
@@ -217,8 +218,13 @@ Watches st m n m' = (pass : ℕ) × (0 < pass) × (st.word ≡ status_word m.0.s
 abbrev pub IsRead : TreeView → ℕ → ℕ → Type 0
 IsRead u place n = (row index word : ℕ) → place ≡ row_words * row + index → index < row_words → IsShownWord u row index word → n ≡ word
 
+-- The routes of joins that marked bases which were shown are remembered.
+abbrev pub AreHung : MyTree → Type 0
+AreHung m = (note : Note) → IsIn note m.0.upper.notes → (route attempt : ℕ) → IsMarkedFor note.its route attempt
+    → IsRemembered m.0.upper.ways route × (route ≤ m.0.sizes.rows)
+
 abbrev pub Reads : Step (Unit {0}) → MyTree → ℕ → MyTree → Type 0
-Reads st m n m' = (m' ≡ m) × IsRead m.0.upper st.word n
+Reads st m n m' = (m' ≡ m) × IsRead m.0.upper st.word n × AreHung m
 
 -- what a seat knows once its log has this call, at this place
 abbrev pub entered : TreeView → Event → ℕ → TreeView
@@ -277,15 +283,19 @@ abbrev pub IsNotFrom : Update → ℕ → ℕ → Type 0
 IsNotFrom x i row = IsIn row (items x.its) → IsIn row x.comes ⊎ ((j : ℕ) × (j ≢ i) × (get_elem? (items x.old.its) j ≡ some row))
 
 -- No range has the base, or the seat knows that the one is over that marked it.
-abbrev pub IsSettled : TreeView → List ℕ → Type 0
-IsSettled u its = (mark its ≢ 1) ⊎ ((x : Over) × IsIn x u.ranges.over × (mark_owner its ≡ x.pass) × (mark_number its < x.below))
+abbrev pub IsUnranged : TreeView → List ℕ → Type 0
+IsUnranged u its = (mark its ≢ 1) ⊎ ((x : Over) × IsIn x u.ranges.over × (mark_owner its ≡ x.pass) × (mark_number its < x.below))
 
 -- No join has the base, or the seat knows that the attempt is finished that marked it.
 abbrev pub IsUnjoined : TreeView → List ℕ → Type 0
 IsUnjoined u its = (mark its ≢ 2) ⊎ ((x : Finished) × IsIn x u.ranges.joins.finished × (mark_owner its ≡ x.route) × (mark_number its < x.below))
 
--- The seat may put the new row in the place of the old base: it is pinned, its last load of that link showed that base, which no range has, and it holds the
--- new one.
+-- Neither a range has the base nor a join, as the seat knows.
+abbrev pub IsSettled : TreeView → List ℕ → Type 0
+IsSettled u its = IsUnranged u its × IsUnjoined u its
+
+-- The seat may put the new row in the place of the old base: it is pinned, its last load of that link showed that base, which neither a range has nor a join,
+-- and it holds the new one.
 pub record IsUpdate (z : Sizes) (m : MyTree) (new : ℕ) (x : Update) : Type 0 where
   pub is_pinned : m.0.pin.pinned ≡ true
   pub is_pass : 0 < m.0.upper.number
@@ -392,8 +402,8 @@ pub record IsHalf (z : Sizes) (level_above : ℕ) (these : List ℕ) (objects : 
   pub items_are : items its ≡ these
   pub headed : IsHeaded its objects
 
--- The seat may put the route in the place of the old base: it is pinned, its last load of that link showed that base, which no range has and which stands
--- above the last level, and it holds the route and the halves.
+-- The seat may put the route in the place of the old base: it is pinned, its last load of that link showed that base, which neither a range has nor a join and
+-- which stands above the last level, and it holds the route and the halves.
 pub record IsDivision (z : Sizes) (m : MyTree) (x : Division) : Type 0 where
   pub is_pinned : m.0.pin.pinned ≡ true
   pub is_pass : 0 < m.0.upper.number

@@ -8,7 +8,7 @@ use Rattle.ca_model.specs.Lawful.{IsLawful}
 use Rattle.ca_rows.specs.declared.sizes.Sizes.{Sizes}
 use Rattle.ca_rows.specs.Opening.{AreUsable}
 use Rattle.ca_node.specs.Inventory.{IsInventory}
-use Rattle.ca_node.specs.Joining.{AreIdle, AreJoining, IsJoining}
+use Rattle.ca_node.specs.Joining.{AreJoining, AreUnsecured, IsJoining}
 use Rattle.ca_node.specs.Links.{IsIn}
 use Rattle.ca_node.specs.Place.{IsLinkOf}
 use Rattle.ca_node.specs.Ranging.{AreRanged}
@@ -83,8 +83,7 @@ pub record IsTree (z : Sizes) (made : ℕ) (words : List ℕ) (uppers : List Tre
   pub shape : IsShape z words role (after history [])
   pub ranged : AreRanged z made words role uppers history
   pub joined : AreJoining z words role
-  -- So far no join is under way.
-  pub idle : AreIdle words role
+  pub unsecured : AreUnsecured z words role
   pub each_seat : (j : ℕ) (u : TreeView) → get_elem? uppers j ≡ some u → Knows z.rows made words role uppers history j u
   -- What the tree has is listed. Until a pass was made that is what it has at first, and a pass that is the only one knows the list.
   pub inventory : Inventory

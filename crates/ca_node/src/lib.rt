@@ -29,7 +29,7 @@ pub use exchange::{divide_base, replace_base};
 pub use handed::Front;
 pub use handing::{front, learn};
 pub use join_state::JoinState;
-pub use joins::{abort_join, load_join, secure_join};
+pub use joins::{abort_join, begin_join, load_join};
 pub use layout::{
     BASE, BASE_FORM, BORDER, BORDER_FORM, CODE, ITEMS, JOIN, KEY, OBJECT, OBJECT_FORM, PREFIX,
     PREFIX_LENGTH, ROUTE,

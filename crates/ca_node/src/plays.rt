@@ -2,7 +2,7 @@
 ghost use Rattle.std.specs.Prelude.{ℕ, List, [], ◌∷◌, true, false};
 ghost use Rattle.ca_node.specs.Copies.{Copy, no_copy, Copies, marking_now};
 ghost use Rattle.ca_node.specs.Endings.{Helps};
-ghost use Rattle.ca_node.specs.JoinSteps.{LoadsJoin, AbortsSome, SecuresSome};
+ghost use Rattle.ca_node.specs.JoinSteps.{LoadsJoin, AbortsSome, BeginsSome};
 ghost use Rattle.ca_node.specs.OwnRanges.{Opens, WatchesOwn, DecidesOwn, Aborts, Leaves};
 ghost use Rattle.ca_node.specs.Row.{mark_bound};
 ghost use Rattle.ca_node.specs.Told.{Leads, PassesOn, Reads, Watches, Update, Updates, no_update, Divides, no_division, front_of, learnt};
@@ -141,11 +141,11 @@ impl Play<(), View<Knowledge>> for AbortJoin {
     ghost then = { AbortsSome };
 }
 
-/// The exchange that secures one.
-pub struct SecureJoin;
+/// The exchange that begins one.
+pub struct BeginJoin;
 
-impl Play<(), View<Knowledge>> for SecureJoin {
-    ghost then = { SecuresSome };
+impl Play<(), View<Knowledge>> for BeginJoin {
+    ghost then = { BeginsSome };
 }
 
 /// Which range of its own a pass begins, or ends: as it was begun, the row that says up to where it goes, and the base with which it decides it. It exists

@@ -6,7 +6,7 @@ ghost use prog.Atomic.{either};
 ghost use Rattle.atomic_table.specs.Table.{step, Allows};
 ghost use Rattle.ca_node.specs.Links.{IsLinked, IsLent, IsNoted};
 ghost use Rattle.ca_node.specs.May.{MaySwap};
-ghost use Rattle.ca_node.specs.Told.{IsAnyLink, IsLed, IsShown, IsShownWord, link_word};
+ghost use Rattle.ca_node.specs.Told.{AreHung, IsAnyLink, IsLed, IsShown, IsShownWord, link_word};
 ghost use Rattle.ca_node.specs.Tree.{IsTree};
 ghost use Rattle.ca_rows.specs.Calls.{Relinks};
 ghost use Rattle.ca_rows.specs.Rule.{Ruled};
@@ -46,13 +46,14 @@ pub(crate) fn descend(space: &TreeSpace, pass: &mut TreePass, link: Link) -> u32
 }
 
 /// One load of a word of a row that the pass was shown: it is as it was shown. Of a route that goes for all words but its links and its join
-/// word.
+/// word. The routes of joins that marked bases which the pass was shown are ones that it remembers.
 pub fn load_word(space: &TreeSpace, pass: &mut TreePass, row: u32, index: u32) -> u64
     requires reading { IsReading space.now pass.old }
     requires inside { (row ≤ (sizes space.now).rows) × (index < row_words) }
     requires shown { (word : ℕ) × IsShownWord (tree_of pass.old) row index word }
     ensures frame { OnlyReads pass.old pass.new }
     ensures word { (word : ℕ) → IsShownWord (tree_of pass.old) row index word → result ≡ word }
+    ensures hung { AreHung (known pass.old) }
 {
     space.load::<Read>(pass, ROW_WORDS as u32 * row + index)
 }

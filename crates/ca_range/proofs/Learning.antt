@@ -1,12 +1,12 @@
 -- What the word of a range tells a pass that found none of another pass unfinished.
-use Rattle.std.proofs.Common.{◌≡◌, ◌≢◌, ℕ, ◌+◌, ◌<◌, ◌≤◌, Bool, true, false, cond, eqb, Some, [], refl, ap, ◌∙◌, subst, sym, inr, arith}
+use Rattle.std.proofs.Common.{◌≡◌, ◌≢◌, ℕ, ◌+◌, ◌<◌, ◌≤◌, Bool, true, false, cond, eqb, List, Some, [], refl, ap, ◌∙◌, subst, sym, inl, inr, arith}
 use Rattle.ca_base.proofs.Counts.{met_both}
 use Rattle.ca_base.specs.Counting.{losses, HasMet}
 use Rattle.ca_base.specs.Putting.{first_note}
 use Rattle.ca_model.specs.declared.outcome.Spent.{Spent}
 use Rattle.ca_node.specs.Links.{IsIn}
-use Rattle.ca_node.specs.Row.{IsMarkedBy}
-use Rattle.ca_node.specs.Told.{MyTree, with_upper, IsSettled, HasWatched, finished_by, turned_by, watched}
+use Rattle.ca_node.specs.Row.{mark as mark_kind, IsMarkedBy}
+use Rattle.ca_node.specs.Told.{MyTree, with_upper, IsSettled, IsUnjoined, HasWatched, finished_by, turned_by, watched}
 use Rattle.ca_node.specs.TreeView.{Note, KnownRanges, Quiet, Turns, TreeView, Unfinished}
 use Rattle.ca_rows.specs.Passes.{KeepsList, OnlyReads}
 use Rattle.ca_rows.specs.declared.sizes.Sizes.{Sizes}
@@ -42,11 +42,15 @@ learns pass word m m' h none = let u = m.0.upper in let ranges : KnownRanges = (
 pub raised_by_word : (pass word : ℕ) (m m' : MyTree) → HasWatched pass m word m' → m' ≡ with_upper m m'.0.upper
 raised_by_word pass word m m' h = h.now ∙ ap (λ (x : MyTree). with_upper m x.0.upper) (sym h.now)
 
+-- A base that a range marked no join has.
+pub ranged_unjoined : (u : TreeView) (its : List ℕ) → mark_kind its ≡ 1 → IsUnjoined u its
+ranged_unjoined u its one = inl (λ two. let no : 1 ≡ 2 = sym one ∙ two in absurd (omega (arith, no)))
+
 -- A base that was marked by a range which isn't the one that is active is one that no range has.
 pub settled_now : (range : Range) (m m' : MyTree) (word : ℕ) (note : Note) → HasWatched range.owner m word m' → IsIn note m.0.upper.notes
     → IsMarkedBy note.its range.owner range.number → ¬ (active_of word ≡ Some range.number) → IsSettled m'.0.upper note.its
 settled_now range m m' word note h noted mark off = let over = over_now range m m' word note h noted mark off in
-    inr (over.0, over.1, mark.1 ∙ sym over.2, subst (λ (n : ℕ). n < over.0.below) (sym mark.2) over.3)
+    (inr (over.0, over.1, mark.1 ∙ sym over.2, subst (λ (n : ℕ). n < over.0.below) (sym mark.2) over.3), ranged_unjoined m'.0.upper note.its mark.0)
 
 -- Loads, and a step that keeps the rows.
 pub reads_keep : {R : Type 0} {pass mid new : Pass R TreeView} → OnlyReads pass mid → KeepsList mid new → KeepsList pass new

@@ -11,6 +11,7 @@ pub mod FirstMarked
 pub mod FirstRuns
 pub mod Gaps
 pub mod GoingOn
+pub mod JoinsEnded
 pub mod Learning
 pub mod NextGathered
 pub mod NextNumbers
@@ -28,5 +29,6 @@ pub mod SnapshotSteps
 pub mod Spelled
 pub mod Spends
 pub mod Stepping
+pub mod Unjoined
 pub mod Watched
 pub mod WordsWatched

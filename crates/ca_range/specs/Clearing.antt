@@ -1,10 +1,10 @@
 -- What a pass does about the mark of a base that it is to exchange.
-use Rattle.std.specs.Prelude.{◌≡◌, ◌≢◌, ℕ, ◌+◌, ◌<◌, ◌≤◌, Bool, false, []}
+use Rattle.std.specs.Prelude.{◌≡◌, ℕ, ◌+◌, ◌<◌, Bool, false, []}
 use Rattle.ca_base.specs.Counting.{losses, HasMet}
 use Rattle.ca_base.specs.Putting.{first_note}
 use Rattle.ca_base.specs.Readiness.{StaysReady}
 use Rattle.ca_model.specs.declared.outcome.Spent.{Spent}
-use Rattle.ca_node.specs.Told.{MyTree, with_upper, IsSettled}
+use Rattle.ca_node.specs.Told.{MyTree, with_upper, IsKnown, IsSettled}
 use Rattle.ca_node.specs.TreeView.{KnownRanges, TreeView}
 use Rattle.ca_range.specs.Filling.{links_lost}
 use Rattle.ca_range.specs.Spending.{IsSpentOn}
@@ -21,7 +21,7 @@ use Rattle.ca_rows.specs.Passes.{KeepsList}
 abbrev pub turns_at : MyTree → ℕ
 turns_at m = losses m + m.0.upper.turns.helped + m.0.upper.turns.passed
 
--- It learnt of ranges alone, but of its own one nothing. Where the base wasn't marked it found none of another pass unfinished.
+-- It learnt of ranges and joins alone, but of its own range nothing. Where the base wasn't marked it found none of another pass unfinished.
 abbrev pub LearnsOfRanges : Bool → MyTree → MyTree → Type 0
 LearnsOfRanges marked m m' = (ranges : KnownRanges) × (marked ≡ false → ranges.unfinished ≡ []) × (ranges.own ≡ m.0.upper.ranges.own)
     × (m' ≡ with_upper m (record m.0.upper { ranges = ranges }))
@@ -39,17 +39,16 @@ HasGone helped.NoRow m m' = HasMet 1 0 m m'
 HasGone (helped.Worn counter) m m' = HasMet 0 1 m m'
 
 module _ {R : Type 0} where
-  -- A range of another pass was helped, which came to this, and so much was spent.
+  -- A range of another pass was helped, or an attempt to join given up, which came to this, and so much was spent.
   pub record HasHelpedWith (space : Space R TreeView) (helped : Helped) (spent : Spent) (pass new : Pass R TreeView) : Type 0 where
     pub frame : StaysReady space pass new
     pub steps : OnlySteps space.table.shared.key (links_lost helped) pass.seat.me.0.upper new.seat.me.0.upper
     pub counted : IsSpentOn none_spent spent pass.seat.me new.seat.me
     pub gone : HasGone helped pass.seat.me new.seat.me
-    -- That pass is another one of the space.
-    pub owner : ℕ
-    pub other : (0 < owner) × (owner ≤ space.table.shared.key.passes) × (owner ≢ pass.seat.me.0.upper.number)
+    -- The pass isn't the only one of the space.
+    pub several : IsKnown space.table.shared.key pass.seat.me.0.upper → 1 < space.table.shared.key.passes
 
-  -- No range has the base that was shown last, as the pass knows then; or another pass's range was helped.
+  -- Neither a range has the base that was shown last nor a join, as the pass knows then; or another pass's range was helped, or an attempt to join given up.
   abbrev pub IsCleared : Space R TreeView → Way → Pass R TreeView → Pass R TreeView → Type 0
   IsCleared space (way.Free marked) pass new = KeepsList pass new × IsSettled new.seat.me.0.upper (first_note new.seat.me.0.upper.notes).its
       × LearnsOfRanges marked pass.seat.me new.seat.me

@@ -1,5 +1,6 @@
 pub mod Ahead
 pub mod Along
+pub mod Attempts
 pub mod Clearing
 pub mod Copying
 pub mod Counted

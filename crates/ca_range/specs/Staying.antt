@@ -7,13 +7,13 @@ use Rattle.ca_node.specs.TreeView.{Over, Unfinished, TreeView}
 use Rattle.ca_rows.specs.declared.sizes.Sizes.{Sizes}
 use Rattle.ca_range.specs.declared.account.Range.{Range}
 
--- what a seat knows, with what another one has seen, was shown, met of others' ranges, loaded and counted
+-- what a seat knows, with what another one has seen, was shown, met of others' ranges, knows of joins, loaded and counted
 abbrev pub with_steps_of : TreeView → TreeView → TreeView
 with_steps_of u v = record u {
   seen = v.seen;
   notes = v.notes;
   ways = v.ways;
-  ranges = record u.ranges { over = v.ranges.over; borders = v.ranges.borders; unfinished = v.ranges.unfinished };
+  ranges = record u.ranges { over = v.ranges.over; borders = v.ranges.borders; unfinished = v.ranges.unfinished; joins = v.ranges.joins };
   loads = v.loads;
   lost = v.lost;
   turns = v.turns;

@@ -1,7 +1,10 @@
 //! What an edit does about the mark of the base that it is to exchange.
-ghost use Rattle.std.specs.Prelude.{◌≡◌, ◌≤◌, []};
+ghost use Rattle.std.specs.Prelude.{◌≡◌, ◌≢◌, ◌≤◌, []};
 ghost use Rattle.ca_adapt.specs.Tuned.{IsTuned};
+ghost use Rattle.ca_base.specs.Finding.{IsBaseShown};
+ghost use Rattle.ca_base.specs.Putting.{first_note};
 ghost use Rattle.ca_base.specs.Readiness.{IsReady};
+ghost use Rattle.ca_node.specs.Row.{mark};
 ghost use Rattle.ca_node.specs.TreePasses.{tree_of};
 ghost use Rattle.ca_node.specs.TreeView.{Quiet};
 ghost use Rattle.ca_range.specs.Ahead.{IsAtLast};
@@ -12,6 +15,7 @@ use crate::account::Account;
 use crate::ahead::is_active;
 use crate::helped::Helped;
 use crate::helping::help_ranges;
+use crate::joins::{JoinEnd, end_join};
 use crate::marks::{MarkedBase, range_of};
 use crate::watching::watch;
 use ca_adapt::Tuning;
@@ -21,14 +25,14 @@ use ca_node::{Cursor, TreePass, TreeSpace};
 /// What was found of a base that is to be exchanged.
 #[derive(Clone, Copy)]
 pub enum Way {
-    /// No range has it. Whether one marked it.
+    /// Neither a range has it nor a join. Whether one marked it.
     Free(bool),
-    /// A range of another pass has it, and was helped: what became of that, and what was spent.
+    /// A range of another pass has it, and was helped, or an attempt to join was given up: what became of that, and what was spent.
     Helped(Helped, Spent),
 }
 
-/// Looks which range marked the base that was shown last. Where that is one of another pass that isn't over, the pass helps it, with a budget of its own.
-/// The pass has no range, and found none unfinished since it was pinned.
+/// Looks which range or which attempt to join marked the base that was shown last. Where that is a range of another pass that isn't over, the pass helps it,
+/// with a budget of its own; where it is an attempt that is prepared, the pass gives it up. The pass has no range, and found none unfinished since it was pinned.
 pub fn clear(
     space: &TreeSpace,
     pass: &mut TreePass,
@@ -46,7 +50,7 @@ pub fn clear(
     ensures cleared { IsCleared space.now result pass.old pass.new }
 {
     let Some(range) = range_of(space, pass, cursor.base) else {
-        return Way::Free(false);
+        return clear_of_join(space, pass, cursor.base);
     };
     let mut account = Account::new();
     let state = watch(space, pass, range.owner, &mut account);
@@ -56,4 +60,24 @@ pub fn clear(
     let from = MarkedBase { cursor, range };
     let helped = help_ranges(space, pass, from, tuning, budget, &mut account);
     Way::Helped(helped, account.spent)
+}
+
+// The same of a base that no range marked.
+fn clear_of_join(space: &TreeSpace, pass: &mut TreePass, base: u32) -> Way
+    requires ready { IsReady space.now pass.old }
+    requires none_met { (tree_of pass.old).ranges.unfinished ≡ [] }
+    requires shown { IsBaseShown (sizes space.now) (tree_of pass.old) base (first_note (tree_of pass.old).notes) }
+    requires unranged { mark (first_note (tree_of pass.old).notes).its ≢ 1 }
+    ensures cleared { IsCleared space.now result pass.old pass.new }
+{
+    let mut spent = Spent {
+        lost: 0,
+        helped: 0,
+        passed: 0,
+    };
+    match end_join(space, pass, base, &mut spent) {
+        JoinEnd::Unmarked => Way::Free(false),
+        JoinEnd::Before => Way::Free(true),
+        JoinEnd::Now => Way::Helped(Helped::Finished, spent),
+    }
 }

@@ -13,12 +13,13 @@ ghost use Rattle.ca_range.specs.Marked.{IsNextTo, second_note};
 ghost use Rattle.ca_range.specs.Meeting.{AreMet};
 ghost use Rattle.ca_range.specs.Spending.{IsSpentOn};
 ghost use Rattle.ca_range.specs.Staying.{OnlySteps};
-ghost use Rattle.ca_rows.specs.Passes.{IsReading, KeepsList, sizes, known};
+ghost use Rattle.ca_rows.specs.Passes.{KeepsList, sizes, known};
 
 use crate::account::{Account, Range};
 use crate::ahead::is_active;
 use crate::copying::Mark;
 use crate::helped::Helped;
+use crate::joins::end_join;
 use crate::marking::mark_base;
 use crate::marks::{MarkedBase, range_of};
 use crate::watching::watch;
@@ -37,14 +38,15 @@ pub(crate) enum Step {
     Ended(Helped),
 }
 
-/// Which range of another pass marked a base that the pass was shown, where that range isn't over.
+/// Which range of another pass marked a base that the pass was shown, where that range isn't over. An attempt to join that marked the base and is prepared is
+/// given up.
 pub fn range_in_use(
     space: &TreeSpace,
     pass: &mut TreePass,
     base: u32,
     account: &mut Account,
 ) -> Option<Range>
-    requires reading { IsReading space.now pass.old }
+    requires ready { IsReady space.now pass.old }
     requires number { pass.old.number ≡ (tree_of pass.old).number }
     requires quiet { (tree_of pass.old).ranges.own ≡ Quiet }
     requires met { AreMet account.old.met.numbers (tree_of pass.old).ranges.unfinished }
@@ -58,6 +60,7 @@ pub fn range_in_use(
     ensures counted { IsSpentOn account.old.spent account.new.spent (known pass.old) (known pass.new) }
 {
     let Some(range) = range_of(space, pass, base) else {
+        end_join(space, pass, base, &mut account.spent);
         return None;
     };
     let state = watch(space, pass, range.owner, account);
@@ -67,7 +70,7 @@ pub fn range_in_use(
     Some(range)
 }
 
-/// Marks the base that the pass was shown last as the next one of a range, where no other range has it.
+/// Marks the base that the pass was shown last as the next one of a range, where no other range has it. An attempt to join that has it is given up.
 pub(crate) fn fill_gap(
     space: &TreeSpace,
     pass: &mut TreePass,

@@ -14,6 +14,7 @@ mod gathering;
 mod going;
 mod helped;
 mod helping;
+mod joins;
 mod looking;
 mod marking;
 mod marks;

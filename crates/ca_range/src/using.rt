@@ -1,6 +1,7 @@
 //! Which range has the next base of the pass's own range.
 ghost use Rattle.std.specs.Prelude.{◌≡◌, ◌≢◌, ◌<◌, ◌≤◌, ℕ};
 ghost use Rattle.ca_base.specs.Finding.{IsBaseShown};
+ghost use Rattle.ca_base.specs.Readiness.{IsReady};
 ghost use Rattle.ca_node.specs.Links.{IsIn};
 ghost use Rattle.ca_node.specs.Told.{with_upper};
 ghost use Rattle.ca_node.specs.TreePasses.{tree_of};
@@ -10,10 +11,11 @@ ghost use Rattle.ca_range.specs.Meeting.{AreMet};
 ghost use Rattle.ca_range.specs.Spending.{IsSpentOn};
 ghost use Rattle.ca_range.specs.Staying.{OnlySteps};
 ghost use Rattle.ca_range.specs.Using.{IsUsedBy};
-ghost use Rattle.ca_rows.specs.Passes.{IsReading, KeepsList, sizes, known};
+ghost use Rattle.ca_rows.specs.Passes.{KeepsList, sizes, known};
 
 use crate::account::{Account, Range};
 use crate::ahead::is_active;
+use crate::joins::end_join;
 use crate::marks::range_of;
 use crate::watching::watch;
 use ca_node::{TreePass, TreeSpace};
@@ -29,14 +31,15 @@ pub(crate) enum Use {
     Other(Range),
 }
 
-/// Looks which range marked a base that the pass was shown, and whether that one is over. The pass may have a range of its own.
+/// Looks which range marked a base that the pass was shown, and whether that one is over. The pass may have a range of its own. An attempt to join that marked
+/// the base and is prepared is given up.
 pub(crate) fn use_of(
     space: &TreeSpace,
     pass: &mut TreePass,
     base: u32,
     account: &mut Account,
 ) -> Use
-    requires reading { IsReading space.now pass.old }
+    requires ready { IsReady space.now pass.old }
     requires number { pass.old.number ≡ (tree_of pass.old).number }
     requires met { AreMet account.old.met.numbers (tree_of pass.old).ranges.unfinished }
     requires shown { (note : Note) × IsBaseShown (sizes space.now) (tree_of pass.old) base note }
@@ -50,6 +53,7 @@ pub(crate) fn use_of(
     ensures counted { IsSpentOn account.old.spent account.new.spent (known pass.old) (known pass.new) }
 {
     let Some(range) = range_of(space, pass, base) else {
+        end_join(space, pass, base, &mut account.spent);
         return Use::Free;
     };
     let state = watch(space, pass, range.owner, account);

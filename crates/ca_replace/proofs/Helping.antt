@@ -1,4 +1,4 @@
--- What an attempt comes to that helped another pass's range in place of its edit.
+-- What an attempt comes to that helped another pass's range in place of its edit, or gave up an attempt to join.
 use Rattle.std.proofs.Common.{◌≡◌, ◌≢◌, ℕ, ◌+◌, true, false, List, Option, Err, refl, ap, inl, inr, arith}
 use Rattle.ca_adapt.specs.declared.tuning.Tuning.{Tuning}
 use Rattle.ca_base.specs.declared.stop.Exchange.TheVariants as exchange
@@ -95,8 +95,7 @@ module _ {R : Type 0} (space : Space R TreeView) (t : Tuning) (tells : Event →
 
   -- A pass that is alone meets no other one.
   not_alone : ¬ IsAlone space.table.shared.key u
-  not_alone alone = let one = alone.0 in let some = alone.1 in let most = known.enrolled in let low = h.other.0 in let high = h.other.1 in
-      let same : h.owner ≡ u.number = omega arith in h.other.2 same
+  not_alone alone = let one = alone.0 in let many = h.several known in omega arith
 
   further : IsFurther u v
   further = record {

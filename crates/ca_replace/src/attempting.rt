@@ -42,7 +42,7 @@ pub(crate) enum Halt {
     Deep,
     /// That base was split, and so there may be room now.
     Split,
-    /// A range of another pass has the base, and was helped.
+    /// A range of another pass has the base, and was helped; or an attempt to join had it, and was given up.
     Helped,
 }
 
@@ -156,7 +156,7 @@ pub(crate) fn fetch(
 }
 
 /// Puts an object at its key's place in the base that was shown last, where there is room; else it splits the base, if that isn't at the last level.
-/// Before that it looks at the base's mark: where a range of another pass has the base, that range is helped instead.
+/// Before that it looks at the base's mark: where a range of another pass has the base, that range is helped instead, and an attempt to join is given up.
 pub(crate) fn put_there(
     tree: &Tree,
     pass: &mut TreePass,
@@ -187,7 +187,7 @@ pub(crate) fn put_there(
     }
 }
 
-// The same where it is known that no range has the base.
+// The same where it is known that neither a range has the base nor a join.
 fn put_settled(
     tree: &Tree,
     pass: &mut TreePass,
@@ -321,7 +321,8 @@ fn halt_of(split: Result<(), Stop>) -> Halt
     }
 }
 
-/// Removes the object at its key's place in the base that was shown last. Where a range of another pass has the base, that range is helped instead.
+/// Removes the object at its key's place in the base that was shown last. Where a range of another pass has the base, that range is helped instead, and an
+/// attempt to join is given up.
 pub(crate) fn remove_there(
     tree: &Tree,
     pass: &mut TreePass,

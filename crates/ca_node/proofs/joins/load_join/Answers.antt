@@ -3,7 +3,7 @@ use Rattle.ca_node.proofs.joins.load_join.Goals as goal
 
 pub load-requires-clause-rule : goal.load-requires-clause-rule
 load-requires-clause-rule c = loads_join c.args.space.now.table.shared.key _ _ _ c.args.route c.join_word-word.result
-    c.requires.remembered c.join_word-word.ensures.word
+    c.requires.reading.own.1 c.requires.remembered c.join_word-word.ensures.word
 
 pub returns-clause-loaded : goal.returns-clause-loaded
 returns-clause-loaded c = (

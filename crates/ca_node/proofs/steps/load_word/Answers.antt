@@ -3,7 +3,7 @@ use Rattle.ca_node.proofs.Looking.{reads}
 use Rattle.ca_node.proofs.steps.load_word.Goals as goal
 
 pub load-requires-clause-rule : goal.load-requires-clause-rule
-load-requires-clause-rule c = reads c.args.space.now.table.shared.key _ _ _ _
+load-requires-clause-rule c = reads c.args.space.now.table.shared.key _ _ _ _ c.requires.reading.own.1
 
 pub returns-clause-word : goal.returns-clause-word
 returns-clause-word c word shown =

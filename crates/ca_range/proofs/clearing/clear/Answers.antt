@@ -1,4 +1,4 @@
-use Rattle.std.proofs.Common.{◌≡◌, ◌≤◌, true, false, sym, ap, ◌∙◌, subst, arith}
+use Rattle.std.proofs.Common.{◌≡◌, ◌≢◌, ◌≤◌, true, false, sym, ap, ◌∙◌, subst, arith}
 use Rattle.ca_base.specs.Counting.{HasMet}
 use Rattle.ca_base.specs.Putting.{first_note}
 use Rattle.ca_model.specs.declared.outcome.Spent.{Spent}
@@ -14,6 +14,7 @@ use Rattle.ca_range.proofs.Learning.{has_gone, keeps_then, learns, noted_then, n
 use Rattle.ca_range.proofs.Readied.{ready_still, stays_then}
 use Rattle.ca_range.proofs.Spends.{on_both}
 use Rattle.ca_range.proofs.Stepping.{steps_both}
+use Rattle.ca_range.proofs.Unjoined.{cleared_behind}
 use Rattle.ca_range.proofs.Watched.{at_now, is_active, met_by_word}
 use Rattle.ca_range.proofs.clearing.clear.Goals as goal
 
@@ -104,12 +105,16 @@ returns c = let w = c.watch-state.ensures.watched in let z = c.args.space.now.ta
             (let empty = ap (λ (x : MyTree). x.0.empty) up in let worn = ap (λ (x : MyTree). x.0.worn) up in
             let none : HasMet 0 0 m l = (omega arith, omega arith) in none)
             (met_by_word c.in-Some.range mid l w.0 w.2 on other) first.lost.more first.helped.more all c.help_ranges-helped.result h.helped;
-        owner = c.in-Some.range.owner;
-        other = (
-          mark.1,
-          subst (λ (x : Sizes). c.in-Some.range.owner ≤ x.passes) (ap (λ (x : MyTree). x.0.sizes) still ∙ c.requires.ready.own.1)
-              (w.2.made (is_active w.0 c.in-Some.range.number on).0),
-          λ own. other (own ∙ sym (ap (λ (x : MyTree). x.0.upper.number) still)),
-        );
+        several = λ known. let low = mark.1 in let mine = c.requires.ready.number in let enrolled = known.enrolled in
+            let most = subst (λ (x : Sizes). c.in-Some.range.owner ≤ x.passes) (ap (λ (x : MyTree). x.0.sizes) still ∙ c.requires.ready.own.1)
+            (w.2.made (is_active w.0 c.in-Some.range.number on).0) in
+            let apart : c.in-Some.range.owner ≢ m.0.upper.number = λ own. other (own ∙ sym (ap (λ (x : MyTree). x.0.upper.number) still)) in
+            omega arith;
       };
     }
+
+pub returns-in_default : goal.returns-in_default
+returns-in_default c = record {
+  cleared = cleared_behind c.args.space.now c.args.pass.now c.range_of.new.pass c.clear_of_join.new.pass c.clear_of_join.result c.range_of.ensures.frame
+      c.clear_of_join.ensures.cleared;
+}

@@ -302,4 +302,5 @@ try_split-adapted-requires-clause-settled c = let w = c.walk-cursor.ensures.walk
     let new = c.args.pass.now.seat.me.0.upper.renewal.new in
     let same = w.alike new n.noted (sym n.row ∙ (sym c.if-cursor-placed.false ∙ sym w.cursor_is.base)) in
     let none : mark w.note.its ≡ 0 = ap mark (sym same) ∙ n.unmarked in
-    subst (λ (m : MyTree). IsSettled m.0.upper (first_note m.0.upper.notes).its) (sym w.now) (inl (λ one. let two : mark w.note.its ≡ 1 = one in omega arith))
+    subst (λ (m : MyTree). IsSettled m.0.upper (first_note m.0.upper.notes).its) (sym w.now)
+    (inl (λ one. let two : mark w.note.its ≡ 1 = one in omega arith), inl (λ two. let one : mark w.note.its ≡ 2 = two in omega arith))
