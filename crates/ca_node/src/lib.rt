@@ -31,8 +31,8 @@ pub use handing::{front, learn};
 pub use join_state::JoinState;
 pub use joins::{abort_join, begin_join, load_join};
 pub use layout::{
-    BASE, BASE_FORM, BORDER, BORDER_FORM, CODE, ITEMS, JOIN, KEY, OBJECT, OBJECT_FORM, PREFIX,
-    PREFIX_LENGTH, ROUTE,
+    BASE, BASE_FORM, BORDER, BORDER_FORM, CODE, FORM, ITEMS, JOIN, KEY, OBJECT, OBJECT_FORM,
+    PREFIX, PREFIX_LENGTH, ROOT, ROUTE,
 };
 pub use link::Link;
 pub use marking::{mark_first, mark_for_join, mark_next};

@@ -4,6 +4,7 @@ pub mod Attempting
 pub mod Between
 pub mod Called
 pub mod Causes
+pub mod Closing
 pub mod Cutting
 pub mod Growing
 pub mod Leaving

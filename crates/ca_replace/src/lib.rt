@@ -6,6 +6,7 @@ mod aside;
 mod attempting;
 mod calls;
 mod changing;
+mod closing;
 mod ending;
 mod fault;
 mod giving;
@@ -25,6 +26,7 @@ mod windows;
 mod within;
 
 pub use adapting::Last;
+pub use closing::{CloseFault, Closed};
 pub use fault::TreeFault;
 pub use store::TreeStore;
 pub use tree::Tree;

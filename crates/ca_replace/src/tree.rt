@@ -86,6 +86,14 @@ impl Tree {
         &self.space
     }
 
+    // The same, with the tuning, of a tree that is no more.
+    pub(crate) fn into_parts(self) -> (TreeSpace, Tuning)
+        ensures { (result.0 ≡ self.space) × (result.1 ≡ self.tuning) }
+    {
+        let Self { space, tuning } = self;
+        (space, tuning)
+    }
+
     /// Makes a pass: the right to read and edit the map. Its number is that of the passes made until then, and it, together. A store can be
     /// made of it.
     #[tactic(auto, using(crate::proofs::Fresh::rests))]

@@ -1,5 +1,5 @@
 //! A space is closed, and its words are read.
-ghost use Rattle.std.specs.Prelude.{◌≡◌, ◌<◌, false, map, vec_len, Some};
+ghost use Rattle.std.specs.Prelude.{◌≡◌, ◌<◌, ◌≤◌, false, map, vec_len, Some};
 ghost use Rattle.std.specs.List.{All};
 ghost use Rattle.std.specs.Mem.Slots.{slots_items, slots_len};
 ghost use Rattle.ca_rows.specs.Closed.{IsClosable, IsLast, joined_from};
@@ -15,9 +15,9 @@ use atomic_table::{Seat, Table};
 use std::alloc::Global;
 
 impl<R: RowRule> Space<R> {
-    /// Ends a space whose passes are all here, and none is pinned: they are joined into the space's own seat.
+    /// Ends a space whose passes are all here, which are no fewer than were made, and none is pinned: they are joined into the space's own seat.
     pub fn close(self, passes: Vec<Pass<R>>) -> Words
-        requires all { vec_len passes ≡ self.made }
+        requires all { self.made ≤ vec_len passes }
         requires closable { All (λ pass. IsClosable self.table.shared.table_id pass.seat) passes.items }
         ensures counts { slots_len result.closed.words ≡ self.table.shared.table_id.words }
         ensures words { (rest : _) → self.own ≡ Some rest → IsLast (Ruled R.linked R.lent R.noted R.fact self.table.shared.key)

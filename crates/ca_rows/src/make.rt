@@ -99,6 +99,13 @@ impl<R: RowRule> Space<R> {
         self.sizes.starts
     }
 
+    /// How many rows there are.
+    pub fn rows(&self) -> u32
+        ensures { result ≡ self.now.sizes.rows }
+    {
+        self.sizes.rows
+    }
+
     /// Makes a pass, with a list that has room for all rows. Its number is that of the passes made until then, and it, together.
     pub fn enroll(&mut self, alloc: Global) -> Result<Pass<R>, RowsFault>
         ensures full { (result ≡ Err IsNoPass) ↔ (self.old.made ≡ self.old.sizes.passes) }
