@@ -82,7 +82,7 @@ pub(crate) fn look<F: Fn(&[u8]) -> bool>(
     }
 }
 
-// How many objects are counted with those of a base.
+// How many objects are counted with those of a base. Where none are wanted, none are looked at.
 fn count_on<F: Fn(&[u8]) -> bool>(
     space: &TreeSpace,
     pass: &mut TreePass,
@@ -96,6 +96,9 @@ fn count_on<F: Fn(&[u8]) -> bool>(
     ensures frame { OnlyReads pass.old pass.new }
     ensures added { HasAdded F.Fn sought.now counted result (first_note (tree_of pass.old).notes) }
 {
+    if sought.want == 0 {
+        return counted;
+    }
     let from = place_from(space, pass, base, sought.lo);
     let end = count(space, pass, base);
     count_in(space, pass, Part { base, from, end }, sought, counted)

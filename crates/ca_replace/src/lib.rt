@@ -22,6 +22,7 @@ mod removing;
 mod running;
 mod store;
 mod tree;
+mod warming;
 mod windows;
 mod within;
 

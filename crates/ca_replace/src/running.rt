@@ -9,6 +9,7 @@ ghost use Rattle.ca_rows.specs.Passes.{OnlyReads, IsReading, sizes};
 
 use crate::looking::copy_at;
 use crate::opened::{OpenRun, WIDTH, Window};
+use crate::warming::warm;
 use crate::windows::{add_row, new_window, row_at};
 use ca_base::count;
 use ca_model::{Code, Edge};
@@ -40,52 +41,42 @@ pub(crate) fn open_run(
     };
     let mut row = bases.last;
     while row != 0 {
-        run = gather(space, pass, &run, row, lo, cut);
+        gather(space, pass, &mut run, row, lo, cut);
         row = left_row(space, pass, bases, run.window.walked - 1, row);
     }
     run
 }
 
-// The run that is opened once its next base is walked, too, which has this row.
+// Walks the next base of a run that is opened, which has this row.
 fn gather(
     space: &TreeSpace,
     pass: &mut TreePass,
-    run: &OpenRun,
+    run: &mut OpenRun,
     row: u32,
     lo: Edge<'_>,
     cut: Edge<'_>,
-) -> OpenRun
+)
     requires reading { IsReading space.now pass.old }
-    requires remembered { IsRemembered (sizes space.now) (tree_of pass.old) run.now.bases }
-    requires ordered { IsStoreMap (sizes space.now).keypos (all_of run.now.bases (tree_of pass.old)) }
-    requires gathered { IsGathered (bases_of run.now.bases (tree_of pass.old)) (bound_of lo) (bound_of cut) run.now }
-    requires here { IsBaseAt (bases_of run.now.bases (tree_of pass.old)) run.now.window.walked row }
+    requires remembered { IsRemembered (sizes space.now) (tree_of pass.old) run.old.bases }
+    requires ordered { IsStoreMap (sizes space.now).keypos (all_of run.old.bases (tree_of pass.old)) }
+    requires gathered { IsGathered (bases_of run.old.bases (tree_of pass.old)) (bound_of lo) (bound_of cut) run.old }
+    requires here { IsBaseAt (bases_of run.old.bases (tree_of pass.old)) run.old.window.walked row }
     ensures frame { OnlyReads pass.old pass.new }
-    ensures bases { result.bases ≡ run.now.bases }
-    ensures walked { result.window.walked ≡ run.now.window.walked + 1 }
-    ensures gathered { IsGathered (bases_of run.now.bases (tree_of pass.old)) (bound_of lo.entry) (bound_of cut.entry) result }
+    ensures bases { run.new.bases ≡ run.old.bases }
+    ensures walked { run.new.window.walked ≡ run.old.window.walked + 1 }
+    ensures gathered { IsGathered (bases_of run.old.bases (tree_of pass.old)) (bound_of lo.entry) (bound_of cut.entry) run.new }
 {
     let many = count(space, pass, row);
     let start = place_from(space, pass, row, lo);
     let end = place_to(space, pass, row, cut);
-    let left = run.left + u64::from(end.saturating_sub(start));
-    let mut window = run.window;
-    add_row(&mut window, row);
-    if start < many {
-        return OpenRun {
-            bases: run.bases,
-            base: row,
-            at: run.window.walked,
-            next: start,
-            left,
-            window,
-        };
+    run.left += u64::from(end.saturating_sub(start));
+    add_row(&mut run.window, row);
+    if start >= many {
+        return;
     }
-    OpenRun {
-        left,
-        window,
-        ..*run
-    }
+    run.base = row;
+    run.at = run.window.walked - 1;
+    run.next = start;
 }
 
 /// Reads the next object of a run, if one is left; else `into` is empty.
@@ -127,6 +118,7 @@ fn settle(space: &TreeSpace, pass: &mut TreePass, run: &mut OpenRun)
     let mut many = count(space, pass, run.base);
     while many <= run.next {
         go_right(space, pass, run, many);
+        warm(space, pass, run);
         many = count(space, pass, run.base);
     }
 }
@@ -145,32 +137,28 @@ fn go_right(space: &TreeSpace, pass: &mut TreePass, run: &mut OpenRun, many: u32
     ensures nearer { run.new.at < run.old.at }
 {
     let at = run.at - 1;
-    let window = window_at(space, pass, run, at);
-    *run = OpenRun {
-        bases: run.bases,
-        base: row_at(&window, at),
-        at,
-        next: run.next - many,
-        left: run.left,
-        window,
-    };
+    reach(space, pass, &mut run.window, run.bases, at);
+    run.base = row_at(&run.window, at);
+    run.at = at;
+    run.next -= many;
 }
 
-// A window of a run that has this base, which is the one that is read or one on its right.
-fn window_at(space: &TreeSpace, pass: &mut TreePass, run: &OpenRun, at: u32) -> Window
+// Sees to it that the window of a run has this base: one that has only others is walked anew.
+fn reach(space: &TreeSpace, pass: &mut TreePass, window: &mut Window, bases: Run, at: u32)
     requires reading { IsReading space.now pass.old }
-    requires opened { IsOpenRun (sizes space.now) (tree_of pass.old) run.now }
-    requires here { at ≤ run.now.at }
+    requires remembered { IsRemembered (sizes space.now) (tree_of pass.old) bases }
+    requires walked { at < window.old.walked }
+    requires inside { window.old.walked ≤ length (bases_of bases (tree_of pass.old)) }
+    requires rows { HasRows (row_in (bases_of bases (tree_of pass.old))) window.old }
     ensures frame { OnlyReads pass.old pass.new }
-    ensures walked { at < result.walked }
-    ensures lately { result.walked ≤ at + 64 }
-    ensures inside { result.walked ≤ length (bases_of run.now.bases (tree_of pass.old)) }
-    ensures rows { HasRows (row_in (bases_of run.now.bases (tree_of pass.old))) result }
+    ensures walked { at < window.new.walked }
+    ensures lately { window.new.walked ≤ at + 64 }
+    ensures inside { window.new.walked ≤ length (bases_of bases (tree_of pass.old)) }
+    ensures rows { HasRows (row_in (bases_of bases (tree_of pass.old))) window.new }
 {
-    if run.window.walked - at > WIDTH {
-        return walked_to(space, pass, run.bases, at);
+    if window.walked - at > WIDTH {
+        *window = walked_to(space, pass, bases, at);
     }
-    run.window
 }
 
 // The window of a run that was walked up to this base.

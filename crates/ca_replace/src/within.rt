@@ -23,6 +23,7 @@ use crate::opened::OpenRun;
 use crate::ranging::Look;
 use crate::running::{found_next, open_run};
 use crate::tree::Tree;
+use crate::warming::warm;
 use ca_model::{Code, Edge, Spent};
 use ca_node::{TreePass, TreeSpace};
 use ca_range::{Account, Run, Snapped, Sought, snapshot};
@@ -57,7 +58,9 @@ impl<F: Fn(&[u8]) -> bool> Look for RangeCall<'_, F> {
                 let space = &tree.space;
                 enter_run(space, pass, run, sought.lo, sought.hi);
                 let end = end_of(run, sought.hi);
-                Ok((run.whole, open_run(space, pass, run, sought.lo, end)))
+                let open = open_run(space, pass, run, sought.lo, end);
+                warm(space, pass, &open);
+                Ok((run.whole, open))
             }
             Err(why) => Err(why),
         }

@@ -40,7 +40,7 @@ returns-then-start-many-clause-gathered c = let z = c.args.space.now.table.share
     let r_one = subst (λ (m : MyTree). IsReadable z m.0.upper c.args.row note) (sym one) r in
     let r_two = subst (λ (m : MyTree). IsReadable z m.0.upper c.args.row note) (sym two) r in
     let many_is = c.count-many.ensures.count note r in
-    gathered_here z.keypos notes (bound_of c.args.lo) (bound_of c.args.cut) run _ c.args.row c.count-many.result c.place_from-start.result c.place_to-end.result
+    gathered_none z.keypos notes (bound_of c.args.lo) (bound_of c.args.cut) run _ c.args.row c.count-many.result c.place_from-start.result c.place_to-end.result
     c.requires.ordered c.requires.gathered c.requires.here record {
       ordered = r.ordered;
       few = c.count-many.ensures.few;
@@ -60,7 +60,7 @@ returns-clause-gathered c = let z = c.args.space.now.table.shared.key in let m =
     let r_one = subst (λ (m : MyTree). IsReadable z m.0.upper c.args.row note) (sym one) r in
     let r_two = subst (λ (m : MyTree). IsReadable z m.0.upper c.args.row note) (sym two) r in
     let many_is = c.count-many.ensures.count note r in
-    gathered_none z.keypos notes (bound_of c.args.lo) (bound_of c.args.cut) run _ c.args.row c.count-many.result c.place_from-start.result c.place_to-end.result
+    gathered_here z.keypos notes (bound_of c.args.lo) (bound_of c.args.cut) run _ c.args.row c.count-many.result c.place_from-start.result c.place_to-end.result
     c.requires.ordered c.requires.gathered c.requires.here record {
       ordered = r.ordered;
       few = c.count-many.ensures.few;
@@ -69,4 +69,4 @@ returns-clause-gathered c = let z = c.args.space.now.table.shared.key in let m =
       end_is = c.place_to-end.ensures.end note r_two;
       end_inside = omega (arith, many_is, c.place_to-end.ensures.inside note r_two);
     } c.add_row.ensures.walked (c.add_row.ensures.rows (row_in notes) c.requires.gathered.window c.requires.here.1) (omega (arith, c.from.ensures, c.saturating_sub.ensures))
-    c.if-start-many.false refl refl refl
+    c.if-start-many.false (omega (arith, c.add_row.ensures.walked)) refl refl

@@ -29,12 +29,16 @@ loop-many-init c = let z = c.args.space.now.table.shared.key in let u = c.args.p
       few = c.count-many.ensures.few;
     }
 
+pub warm-requires-clause-opened : goal.warm-requires-clause-opened
+warm-requires-clause-opened c = subst (λ (x : MyTree). IsOpenRun c.args.space.now.table.shared.key x.0.upper c.go_right.new.run)
+    (sym c.go_right.ensures.frame.still) c.go_right.ensures.opened
+
 pub count-many-requires-in-loop-many-clause-readable : goal.count-many-requires-in-loop-many-clause-readable
 count-many-requires-in-loop-many-clause-readable c = let z = c.args.space.now.table.shared.key in let m = c.args.pass.now.seat.me in
     let run = c.go_right.new.run in let inv = c.loop-many.invariant in let note : Note = get_or (bases_of run.bases m.0.upper) run.at no_note in
     let o = subst (λ (x : MyTree). IsOpenRun z x.0.upper run) inv.still c.go_right.ensures.opened in (
       note,
-      subst (λ (x : MyTree). IsReadable z x.0.upper run.base note) (sym (c.go_right.ensures.frame.still ∙ inv.still))
+      subst (λ (x : MyTree). IsReadable z x.0.upper run.base note) (sym (c.warm.ensures.frame.still ∙ (c.go_right.ensures.frame.still ∙ inv.still)))
           (readable_at z m.0.upper run.bases o.remembered run.at run.base o.here),
     )
 
@@ -52,6 +56,6 @@ loop-many-preserved c = let z = c.args.space.now.table.shared.key in let m = c.a
       left = subst (λ (x : MyTree). left_of x.0.upper run ≡ left_of x.0.upper c.loop-many.run) inv.still c.go_right.ensures.same ∙ inv.left;
       many_left = c.go_right.ensures.left ∙ inv.many_left;
       many = c.count-many-in-loop-many.ensures.count note (subst (λ (x : MyTree). IsReadable z x.0.upper run.base note)
-          (sym (c.go_right.ensures.frame.still ∙ inv.still)) (readable_at z m.0.upper run.bases o.remembered run.at run.base o.here));
+          (sym (c.warm.ensures.frame.still ∙ (c.go_right.ensures.frame.still ∙ inv.still))) (readable_at z m.0.upper run.bases o.remembered run.at run.base o.here));
       few = c.count-many-in-loop-many.ensures.few;
     }
