@@ -25,3 +25,24 @@ pub struct OpenRun {
     pub left: u64,
     pub window: Window,
 }
+
+impl OpenRun {
+    /// Room for a run, before one is opened.
+    pub(crate) fn none() -> OpenRun {
+        OpenRun {
+            bases: Run {
+                last: 0,
+                chained: false,
+                whole: false,
+            },
+            base: 0,
+            at: 0,
+            next: 0,
+            left: 0,
+            window: Window {
+                rows: [0; 64],
+                walked: 0,
+            },
+        }
+    }
+}

@@ -84,21 +84,22 @@ pub(crate) fn below(
     outcome
 }
 
-/// Opens a run of the objects within both edges, or from the lower edge up to a cut: whether it reaches the upper edge, and the run. The pass is pinned then;
-/// where the call is refused, for this cause, it rests.
+/// Opens a run of the objects within both edges, or from the lower edge up to a cut: whether it reaches the upper edge. The pass is pinned then; where the call
+/// is refused, for this cause, it rests.
 pub(crate) fn range<F: Fn(&[u8]) -> bool>(
     tree: &Tree,
     pass: &mut TreePass,
     what: &RangeCall<'_, F>,
     budget: u32,
-) -> Result<(bool, OpenRun), Cause>
+    run: &mut OpenRun,
+) -> Result<bool, Cause>
     requires resting { IsAtRest tree.now.space pass.old }
     requires edges { IsProperBound (bound_of what.now.sought.lo) × IsProperBound (bound_of what.now.sought.hi) }
     requires function { MayBeAskedForAll F.Fn what.now.sought.counts.now (sizes tree.now.space).keypos }
     requires budget { 1 ≤ budget }
     ensures works { IfOk result (λ _. GetsToWork tree.now.space pass.old pass.new) }
     ensures rests { IfErr result (λ _. StaysAtRest tree.now.space pass.old pass.new) }
-    ensures done { IfOk result (λ answer. HasDoneSuch (HasOpened F.Fn what.now.sought (sizes tree.now.space) answer.0 answer.1 (tree_of pass.new))
+    ensures done { IfOk result (λ whole. HasDoneSuch (HasOpened F.Fn what.now.sought (sizes tree.now.space) whole run.new (tree_of pass.new))
         (tree_of pass.old) (tree_of pass.new)) }
     ensures refused { IfErr result (λ why. IsRefused (one_more why) (tree_of pass.old) (tree_of pass.new)) }
     ensures caused { IfErr result (λ why. IsRangeCaused (sizes tree.now.space) pass.old.number budget why (known pass.old) pass.old.kept.rows
@@ -107,7 +108,7 @@ pub(crate) fn range<F: Fn(&[u8]) -> bool>(
     ensures lags { EndsAtLag (known pass.old) (known pass.new) }
     ensures all_seen { IfOk result (λ _. (view pass.new).pin.lags ≡ (view pass.old).pin.lags) }
 {
-    read_or_refuse(tree, pass, &Order { what, budget }, &mut ())
+    read_or_refuse(tree, pass, &Order { what, budget }, run)
 }
 
 // Behind a call that read a range the pass rests.

@@ -23,28 +23,26 @@ pub(crate) fn open_run(
     bases: Run,
     lo: Edge<'_>,
     cut: Edge<'_>,
-) -> OpenRun
+    run: &mut OpenRun,
+)
     requires reading { IsReading space.now pass.old }
     requires remembered { IsRemembered (sizes space.now) (tree_of pass.old) bases }
     requires ordered { IsStoreMap (sizes space.now).keypos (all_of bases (tree_of pass.old)) }
     ensures frame { OnlyReads pass.old pass.new }
-    ensures opened { IsOpenRun (sizes space.now) (tree_of pass.old) result }
-    ensures left { left_of (tree_of pass.old) result ≡ objects_of (within (bound_of lo.entry) (bound_of cut.entry) (all_of bases (tree_of pass.old))) }
+    ensures opened { IsOpenRun (sizes space.now) (tree_of pass.old) run.new }
+    ensures left { left_of (tree_of pass.old) run.new ≡ objects_of (within (bound_of lo.entry) (bound_of cut.entry) (all_of bases (tree_of pass.old))) }
 {
-    let mut run = OpenRun {
-        bases,
-        base: bases.last,
-        at: 0,
-        next: count(space, pass, bases.last),
-        left: 0,
-        window: new_window(),
-    };
+    run.bases = bases;
+    run.base = bases.last;
+    run.at = 0;
+    run.next = count(space, pass, bases.last);
+    run.left = 0;
+    run.window.walked = 0;
     let mut row = bases.last;
     while row != 0 {
-        gather(space, pass, &mut run, row, lo, cut);
+        gather(space, pass, run, row, lo, cut);
         row = left_row(space, pass, bases, run.window.walked - 1, row);
     }
-    run
 }
 
 // Walks the next base of a run that is opened, which has this row.

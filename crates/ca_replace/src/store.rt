@@ -284,8 +284,9 @@ impl OrderedStore for TreeStore<'_> {
             counts,
         };
         let what = &RangeCall { sought };
-        match range(self.tree, &mut self.pass, what, budget) {
-            Ok((whole, run)) => {
+        let mut run = OpenRun::none();
+        match range(self.tree, &mut self.pass, what, budget, &mut run) {
+            Ok(whole) => {
                 self.run = Some(run);
                 Outcome::Done(whole)
             }

@@ -28,39 +28,39 @@ use ca_model::{Code, Edge, Spent};
 use ca_node::{TreePass, TreeSpace};
 use ca_range::{Account, Run, Snapped, Sought, snapshot};
 
-/// The call that opens a run: whether it reaches the upper edge, and the run.
+/// The call that opens a run: whether it reaches the upper edge. It leaves the run.
 #[derive(Drop)]
 pub(crate) struct RangeCall<'a, F> {
     pub(crate) sought: Sought<'a, F>,
 }
 
 impl<F: Fn(&[u8]) -> bool> Look for RangeCall<'_, F> {
-    type Answer = (bool, OpenRun);
+    type Answer = bool;
 
-    type Left = ();
+    type Left = OpenRun;
 
     ghost may = { λ call z. IsProperBound (bound_of call.sought.lo) × IsProperBound (bound_of call.sought.hi)
         × MayBeAskedForAll F.Fn call.sought.counts.now z.keypos };
 
-    ghost tells = { λ call z answer left u event. HasOpened F.Fn call.sought z answer.0 answer.1 u event };
+    ghost tells = { λ call z whole opened u event. HasOpened F.Fn call.sought z whole opened u event };
 
     fn look(
         &self,
         tree: &Tree,
         pass: &mut TreePass,
-        _left: &mut (),
+        opened: &mut OpenRun,
         budget: u32,
         spent: &mut Spent,
-    ) -> Result<(bool, OpenRun), Miss> {
+    ) -> Result<bool, Miss> {
         let sought = &self.sought;
         match snap(tree, pass, sought, budget, spent) {
             Ok(run) => {
                 let space = &tree.space;
                 enter_run(space, pass, run, sought.lo, sought.hi);
                 let end = end_of(run, sought.hi);
-                let open = open_run(space, pass, run, sought.lo, end);
-                warm(space, pass, &open);
-                Ok((run.whole, open))
+                open_run(space, pass, run, sought.lo, end, opened);
+                warm(space, pass, opened);
+                Ok(run.whole)
             }
             Err(why) => Err(why),
         }
@@ -144,7 +144,8 @@ fn first_within(
     ensures first { first_object (from (bound_of lo.entry) (all_of run (tree_of pass.old))) ≡ cond result (Some into.new.items) None }
     ensures emptied { result ≡ false → into.new.items ≡ [] }
 {
-    let mut open = open_run(space, pass, run, lo, Edge::Open);
+    let mut open = OpenRun::none();
+    open_run(space, pass, run, lo, Edge::Open, &mut open);
     found_next(space, pass, &mut open, into)
 }
 

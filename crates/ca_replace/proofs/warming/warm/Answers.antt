@@ -1,7 +1,7 @@
-use Rattle.std.proofs.Common.{◌<◌, ℕ, List, [], length, get_or, sym, subst, ◌∙◌, arith}
+use Rattle.std.proofs.Common.{◌<◌, ℕ, List, [], length, get_or, sym, subst, arith}
 use Rattle.ca_base.proofs.Items.{word_shown}
 use Rattle.ca_base.specs.Finding.{IsReadable, IsRowShown}
-use Rattle.ca_base.specs.Objects.{reads_none, reads_on}
+use Rattle.ca_base.specs.Objects.{reads_on}
 use Rattle.ca_node.specs.Told.{MyTree}
 use Rattle.ca_node.specs.TreeView.{Note, no_note}
 use Rattle.ca_range.specs.Snapshots.{bases_of}

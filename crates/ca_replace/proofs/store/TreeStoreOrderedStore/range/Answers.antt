@@ -25,7 +25,7 @@ range-requires-clause-function g c = subst (λ (s : StoreAndRun). MayBeAskedForA
 pub returns-in-Ok-clause-opens : goal.returns-in-Ok-clause-opens
 returns-in-Ok-clause-opens g c = let table = c.self.inside.tree.now.space.table.shared.table_id in
     let z = c.self.inside.tree.now.space.table.shared.key in let u = c.self.inside.pass.seat.me.0.upper in
-    let v = c.range.new.pass.seat.me.0.upper in let run = c.in-Ok.run' in
+    let v = c.range.new.pass.seat.me.0.upper in let run = c.range.new.run in
     let closed : run_left u c.self.inside.run ≡ None = subst (λ (s : StoreAndRun). (knows s).run ≡ None) (sym c.self.view_is) c.requires.closed in
     let before = store_of c.self.inside.tree.now c.self.inside.pass c.self.inside.last in
     let rests = rests_of before c.self.inside.run c.self.invariant closed in

@@ -19,40 +19,40 @@ enter_run-requires-clause-answer g c = run_read _ _ c.in-Ok.ensures.run
     (learnt_unanswered c.args.tree.now.space.table.shared.key c.args.pass.now.seat.me.0.upper c.snap.new.pass.seat.me.0.upper
     c.requires.at_pin c.requires.work.known c.in-Ok.ensures.learnt)
 
-pub open_run-open-requires-clause-remembered : goal.open_run-open-requires-clause-remembered
-open_run-open-requires-clause-remembered g c = let z = c.args.tree.now.space.table.shared.key in
+pub open_run-requires-clause-remembered : goal.open_run-requires-clause-remembered
+open_run-requires-clause-remembered g c = let z = c.args.tree.now.space.table.shared.key in
     let u = c.snap.new.pass.seat.me.0.upper in let run = c.in-Ok.run' in let sought = c.args.self.now.sought in
     let e = c.enter_run.ensures.entered in
     subst (λ (m : MyTree). IsRemembered z m.0.upper run) (sym e.now)
     (remembered_entered z u run (range_event run u (bound_of sought.lo) (bound_of sought.hi)) e.at c.in-Ok.ensures.run.remembered)
 
-pub open_run-open-requires-clause-ordered : goal.open_run-open-requires-clause-ordered
-open_run-open-requires-clause-ordered g c = subst
+pub open_run-requires-clause-ordered : goal.open_run-requires-clause-ordered
+open_run-requires-clause-ordered g c = subst
     (λ (m : MyTree). IsStoreMap c.args.tree.now.space.table.shared.key.keypos (all_of c.in-Ok.run' m.0.upper))
     (sym c.enter_run.ensures.entered.now) (run_ordered _ _ c.in-Ok.ensures.run)
 
 pub warm-requires-clause-opened : goal.warm-requires-clause-opened
-warm-requires-clause-opened g c = subst (λ (m : MyTree). IsOpenRun c.args.tree.now.space.table.shared.key m.0.upper c.open_run-open.result)
-    (sym c.open_run-open.ensures.frame.still) c.open_run-open.ensures.opened
+warm-requires-clause-opened g c = subst (λ (m : MyTree). IsOpenRun c.args.tree.now.space.table.shared.key m.0.upper c.open_run.new.run)
+    (sym c.open_run.ensures.frame.still) c.open_run.ensures.opened
 
 pub returns-in-Ok-clause-tried : goal.returns-in-Ok-clause-tried
 returns-in-Ok-clause-tried g c = let z = c.args.tree.now.space.table.shared.key in
     let sought = c.args.self.now.sought in let lo = bound_of sought.lo in let hi = bound_of sought.hi in
     let before = c.args.pass.now.seat.me.0.upper in let m = c.snap.new.pass.seat.me in let u = m.0.upper in
     let n = c.enter_run.new.pass.seat.me in let v = n.0.upper in let run = c.in-Ok.run' in
-    let opened = c.open_run-open.result in let h = c.in-Ok.ensures.run in let e = c.enter_run.ensures.entered in
+    let opened = c.open_run.new.run in let h = c.in-Ok.ensures.run in let e = c.enter_run.ensures.entered in
     let event = range_event run u lo hi in
     let done = learnt_done z before m n event c.requires.at_pin c.in-Ok.ensures.learnt e in
     let are : left_of v opened ≡ objects_of (within lo (cut_of run u hi) (all_of run u)) = subst
     (λ (x : MyTree). left_of v opened ≡ objects_of (within lo (bound_of c.end_of-end.result) (all_of run x.0.upper))) e.now
-    c.open_run-open.ensures.left
+    c.open_run.ensures.left
     ∙ (ap (λ (b : Bound). objects_of (within lo b (all_of run u))) c.end_of-end.ensures ∙ ap objects_of (run_end _ _ h)) in
     subst (λ (x : MyTree). HasDoneSuch (HasOpened g.F.Fn sought z run.whole opened x.0.upper) before x.0.upper × IsKnown z x.0.upper)
-    (sym (c.warm.ensures.frame.still ∙ c.open_run-open.ensures.frame.still)) (
+    (sym (c.warm.ensures.frame.still ∙ c.open_run.ensures.frame.still)) (
       (
         event,
         record {
-          opened = c.open_run-open.ensures.opened;
+          opened = c.open_run.ensures.opened;
           cut = cut_of run u hi;
           event_is = ap (λ (x : List (List ℕ)). Range lo hi (cut_of run u hi) x) (sym are);
           reaches = run_reaches _ _ h (left_of v opened) are;
