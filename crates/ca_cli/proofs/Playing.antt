@@ -7,7 +7,7 @@ use Rattle.ca_ets.specs.InOrder.{run_in_order}
 use Rattle.ca_model.specs.Known.{Known, IsSameStore}
 use Rattle.ca_explain.specs.Steps.{Steps}
 use Rattle.ca_explain.proofs.Alone.{alone}
-use Rattle.ca_explain.proofs.Learning.{same_store}
+use Rattle.ca_explain.proofs.Learning.{same_as_it_is, same_store}
 use Rattle.ca_explain.specs.Stands.{Stands}
 use Rattle.ca_cmd.specs.File.{Numbered, commands_in}
 use Rattle.ca_cmd.specs.Generator.{generated}
@@ -33,9 +33,6 @@ pub record IsPlaying (a b : Known) (k : Continuation) (lines left : List Numbere
   pub same : IsSameStore a b
   pub at : (objects : List Tree) → Stands a.keypos a.map objects
       → (m : List Tree) × Stands a.keypos b.map m × GoesOn a.keypos objects m k lines left front text
-
-same_as_it_is : (a : Known) → IsSameStore a a
-same_as_it_is a = record { store = refl; keypos = refl; pass = refl; passes = refl; alone = refl; sure = refl }
 
 same_steps : (a b : Known) (k l : Continuation) (c : Command) (r : Response) → Steps a b k c r l → IsSameStore a b
 same_steps a b k l c r (inl s) = s.learns.same

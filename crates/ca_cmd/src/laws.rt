@@ -4,6 +4,7 @@ ghost use Rattle.ca_cmd.specs.declared.fault.LineWhy.{LineWhy};
 ghost use Rattle.ca_cmd.specs.File.{Numbered, IsFileOf, IsRefusedAt};
 
 use crate::answer::Answer;
+use crate::answers::Answers;
 use crate::line::Lines;
 
 /// A file has one list of commands, or one first bad line with its byte and reason, and never both.
@@ -22,6 +23,7 @@ pub fn file_laws()
 pub fn lines_cross() {
     may_cross::<Lines>();
     may_cross::<Answer>();
+    may_cross::<Answers>();
 }
 
 fn may_cross<T: Send>() {}

@@ -2,6 +2,7 @@
 #![tactic(auto)]
 
 mod answer;
+mod answers;
 mod argument;
 mod command;
 mod cut;
@@ -14,6 +15,7 @@ mod reading;
 mod word;
 
 pub use answer::{Answer, show_reply};
+pub use answers::Answers;
 pub use fault::{FileFault, LineWhy};
 pub use generator::generate;
 pub use laws::{file_laws, lines_cross};

@@ -69,7 +69,8 @@ one_refusal a b counts d = record {
   unsure = d.unsure;
 }
 
-both_reads : (xs ys : List Entry) → AreReads xs → AreReads ys → AreReads (xs ++ ys)
+-- Reads before reads are reads.
+pub both_reads : (xs ys : List Entry) → AreReads xs → AreReads ys → AreReads (xs ++ ys)
 both_reads [] ys h k = k
 both_reads (x ∷ xs) ys h k = (h.0, both_reads xs ys h.1 k)
 

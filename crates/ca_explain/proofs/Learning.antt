@@ -19,9 +19,14 @@ pub others_both : (i : ℕ) (xs ys : History) → AreByOthers i xs → AreByOthe
 others_both i [] ys e f = f
 others_both i (x ∷ xs) ys e f = (e.0, others_both i xs ys e.1 f)
 
-seen_twice : (s : Option Seen) (xs ys : History) (es fs : List Entry) → seen_with (seen_with s xs es) ys fs ≡ seen_with s (xs ++ ys) (es ++ fs)
+-- What is seen of two calls is what is seen of one that learns what both learn.
+pub seen_twice : (s : Option Seen) (xs ys : History) (es fs : List Entry) → seen_with (seen_with s xs es) ys fs ≡ seen_with s (xs ++ ys) (es ++ fs)
 seen_twice None xs ys es fs = refl
 seen_twice (Some s) xs ys es fs = rw (append_assoc s.history xs ys, append_assoc s.log es fs) refl
+
+-- A store is the same as it is.
+pub same_as_it_is : (a : Known) → IsSameStore a a
+same_as_it_is a = record { store = refl; keypos = refl; pass = refl; passes = refl; alone = refl; sure = refl }
 
 -- What never changed in two calls.
 pub same_store : (a b d : Known) → IsSameStore a b → IsSameStore b d → IsSameStore a d

@@ -8,3 +8,6 @@ may_cross-requires-send-T c κs = search (sendable, crosses, term_send) depth 40
 
 pub may_cross-requires-2-send-T : goal.may_cross-requires-2-send-T
 may_cross-requires-2-send-T c κs = search (sendable, term_send, terms_send) depth 40
+
+pub may_cross-requires-3-send-T : goal.may_cross-requires-3-send-T
+may_cross-requires-3-send-T c κs = search (sendable, crosses, term_send, terms_send) depth 40

@@ -1,0 +1,104 @@
+//! A client plays its lines. One that others kept from being done is tried again, with a greater budget or after a wait.
+ghost use Rattle.std.specs.Prelude.{◌≡◌, ◌≤◌, ◌<◌, ◌⊎◌, IfOk, OnErr, IsSome, None, MatchBool};
+ghost use Rattle.ca_ets.specs.Command.{IsContinuation, continuation_of};
+ghost use Rattle.ca_cmd.specs.Answers.{answer_of, answers_of};
+ghost use Rattle.ca_cmd.specs.File.{commands_in};
+ghost use Rattle.ca_cmd.specs.Lines.{numbered};
+ghost use Rattle.ca_client.specs.Played.{HasAnswered, HasPlayed, HasRead, HasStopped};
+
+use crate::gate::Gate;
+use ca_cmd::{Answer, Answers, Lines};
+use ca_ets::{Cmd, Cont};
+use ca_model::{FullCause, OrderedStore, Outcome};
+use ca_table::Table;
+use std::alloc::{AllocError, Global};
+use std::sync::Wait;
+use std::thread::yield_now;
+
+// How many turns a command may lose to others at its first try, and at most.
+const FIRST_BUDGET: u32 = 64;
+
+const MOST_BUDGET: u32 = 1 << 31;
+
+// How often a command waits for room.
+const MOST_WAITS: u32 = 1_000;
+
+// Whether it is worth to wait for room: rows come free when the pass that lags goes on.
+fn is_worth_a_wait(why: FullCause, waits: u32) -> bool
+    ensures { MatchBool result (IsSome why.lag × (waits < 1000)) ((why.lag ≡ None) ⊎ (1000 ≤ waits)) }
+{
+    match why.lag {
+        Some(_) => waits < MOST_WAITS,
+        None => false,
+    }
+}
+
+// Lets other threads run, the longer the more waits there were.
+fn pause(waits: u32) {
+    for _ in 0..waits {
+        yield_now();
+    }
+}
+
+// Plays one command until it is answered.
+fn answer_to<R: Wait, S: OrderedStore + Drop>(
+    rt: &R,
+    alloc: Global,
+    table: &mut Table<S>,
+    cmd: &Cmd,
+    cont: &mut Cont,
+) -> Result<Answer, AllocError>
+    requires { IsContinuation (continuation_of cont.old) }
+    ensures continuation { IsContinuation (continuation_of cont.new) }
+    ensures answered { IfOk result (λ answer.
+        HasAnswered table.old table.new (continuation_of cont.old) cmd.now (answer_of answer) (continuation_of cont.new)) }
+    ensures stopped { OnErr result (HasRead table.old table.new) }
+{
+    let mut budget = FIRST_BUDGET;
+    let mut waits = 0_u32;
+    for _ in rt.forever() {
+        match table.apply(alloc, cmd, cont, budget)? {
+            Outcome::Done(reply) => return Ok(Answer::Replied(reply)),
+            Outcome::Busy(_) => {
+                if budget < MOST_BUDGET {
+                    budget *= 2;
+                }
+            }
+            Outcome::Full(why) => {
+                if !is_worth_a_wait(why, waits) {
+                    return Ok(Answer::Full);
+                }
+                waits += 1;
+                pause(waits);
+            }
+            Outcome::Deep(_) => return Ok(Answer::Deep),
+            Outcome::Worn(_) => return Ok(Answer::Worn),
+        }
+    }
+    unreachable!()
+}
+
+/// Plays the lines of a client, in order, as the client of this number, counted from 1: each has one answer, and the gate is told of each before it is
+/// played and behind it. A line that is busy is played again with twice the budget, from 64 up to 2^31, until it is answered; one that finds no room
+/// while another pass lags waits and is played again, 1,000 times at most. `Err` where memory wasn't found; what was played before stands.
+pub fn play<R: Wait, S: OrderedStore + Drop, G: Gate>(
+    rt: &R,
+    alloc: Global,
+    client: u32,
+    table: &mut Table<S>,
+    lines: &Lines,
+    gate: &G,
+) -> Result<Answers, AllocError>
+    ensures played { IfOk result (λ answers. HasPlayed table.old table.new (commands_in (numbered lines.now)) (answers_of answers)) }
+    ensures stopped { OnErr result (HasStopped table.old table.new (commands_in (numbered lines.now))) }
+{
+    let mut cont = Cont::Never;
+    let mut answers = Vec::with_capacity(alloc, lines.len())?;
+    for line in lines.as_slice() {
+        gate.before(client, line.number);
+        let answer = answer_to(rt, alloc, table, &line.cmd, &mut cont)?;
+        gate.after(client, line.number, &answer);
+        answers.push_reserved(answer);
+    }
+    Ok(Answers::from_vec(answers))
+}
