@@ -14,6 +14,7 @@ pub(crate) fn put(store: &mut TreeStore<'_>, key: u32, value: u32, budget: u32) 
     requires sizes { (store.old.store.z.keypos ≡ 1) × (1 ≤ budget) }
     requires closed { (knows store.old).run ≡ None }
     ensures sizes { store.new.store.z ≡ store.old.store.z }
+    ensures table { store.new.store.table ≡ store.old.store.table }
     ensures closed { (knows store.new).run ≡ None }
 {
     store.put(&object(key, value), 5, 10, budget)
@@ -48,6 +49,7 @@ pub(crate) fn remove(
     requires sizes { (store.old.store.z.keypos ≡ 1) × (1 ≤ budget) }
     requires closed { (knows store.old).run ≡ None }
     ensures sizes { store.new.store.z ≡ store.old.store.z }
+    ensures table { store.new.store.table ≡ store.old.store.table }
     ensures closed { (knows store.new).run ≡ None }
 {
     store.remove(&key_code(key), old, budget)

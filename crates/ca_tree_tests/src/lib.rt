@@ -10,6 +10,8 @@ mod calls;
 #[cfg(test)]
 mod clients;
 #[cfg(test)]
+mod closings;
+#[cfg(test)]
 mod drawing;
 #[cfg(test)]
 mod events;
@@ -23,6 +25,8 @@ mod merges;
 mod nodes;
 #[cfg(test)]
 mod objects;
+#[cfg(test)]
+mod own_keys;
 #[cfg(test)]
 mod passes;
 #[cfg(test)]
