@@ -14,16 +14,16 @@ use Rattle.clap.specs.Faults.{check_fault, default_fault, defaults_fault, entere
 use Rattle.clap.specs.Words.{matches_of}
 use Rattle.clap.specs.declared.error.kind.ErrorKind.TheVariants.{ArgumentConflict}
 use Rattle.ca_words.specs.declared.words.Name.{Name}
-use Rattle.ca_words.specs.declared.words.Name.TheVariants.{Keypos, Seed, Clients, Lines}
-use Rattle.ca_words.specs.Grammar.{begins_with_dash, spelling_of}
-use Rattle.ca_words.specs.Words.{bare, command, is_option}
-use Rattle.ca_words.proofs.Rows.{filled_rule}
+use Rattle.ca_words.specs.declared.words.Name.TheVariants.{Keypos, Seed, Clients, Lines, Rows, Levels, Leaf, High, Low, Calm, Heat}
+use Rattle.ca_words.specs.Grammar.{begins_with_dash, flag_spelling, spelling_of}
+use Rattle.ca_words.specs.Words.{all_names, bare, command, flag, is_option}
+use Rattle.ca_words.proofs.Rows.{filled_flag, filled_rule}
 
 -- the command as `clap` builds it
 abbrev pub shape : Shape
 shape = (built command).top
 
--- the four options as it builds them
+-- the options as it builds them
 abbrev pub rules : List Rule
 rules = shape.rules
 
@@ -80,9 +80,10 @@ kept_by false rows = refl
 kept : (name : Name) (rows : List Row) → with_default rows (filled_rule name) ≡ rows
 kept name rows = kept_by (has_row (bare name) rows) rows
 
-all_kept : (names : List Name) (rows : List Row) → fold with_default rows (map filled_rule names) ≡ rows
+all_kept : (names : List Name) (rows : List Row)
+    → fold with_default rows (map filled_rule names ++ filled_flag ∷ []) ≡ with_default rows filled_flag
 all_kept [] rows = refl
-all_kept (name ∷ names) rows = ap (λ r. fold with_default r (map filled_rule names)) (kept name rows) ∙ all_kept names rows
+all_kept (name ∷ names) rows = ap (λ r. fold with_default r (map filled_rule names ++ filled_flag ∷ [])) (kept name rows) ∙ all_kept names rows
 
 no_default : (name : Name) (rows : List Row) → default_fault rows (filled_rule name) ≡ []
 no_default name rows = go (has_row (bare name) rows) refl
@@ -91,11 +92,18 @@ no_default name rows = go (has_row (bare name) rows) refl
     go true e = rw e refl
     go false e = rw e refl
 
-no_defaults : (names : List Name) (rows : List Row) → defaults_fault rows (map filled_rule names) ≡ []
+flag_default : (rows : List Row) → default_fault rows filled_flag ≡ []
+flag_default rows = go (has_row flag rows) refl
+  where
+    go : (b : Bool) → has_row flag rows ≡ b → default_fault rows filled_flag ≡ []
+    go true e = rw e refl
+    go false e = rw e refl
+
+no_defaults : (names : List Name) (rows : List Row) → defaults_fault rows (map filled_rule names ++ filled_flag ∷ []) ≡ []
 unfolding defaults_fault
-no_defaults [] rows = refl
+no_defaults [] rows = ap (λ k. or_else k []) (flag_default rows)
 no_defaults (name ∷ names) rows =
-    ap₂ or_else (no_default name rows) (ap (λ r. defaults_fault r (map filled_rule names)) (kept name rows) ∙ no_defaults names rows)
+    ap₂ or_else (no_default name rows) (ap (λ r. defaults_fault r (map filled_rule names ++ filled_flag ∷ [])) (kept name rows) ∙ no_defaults names rows)
 
 not_entered : (stop : Option (Text × List Text)) → entered_fault (built command) stop ≡ []
 not_entered None = refl
@@ -109,17 +117,14 @@ in_turn : (walk below settle defaults check : Kinds) → below ≡ [] → defaul
     → or_else walk (or_else below (or_else settle (or_else defaults check))) ≡ or_else walk settle
 in_turn walk below settle defaults check b d c = rw (b, d, c) (ap (or_else walk) (or_nil settle))
 
-abbrev all_names : List Name
-all_names = Keypos ∷ Seed ∷ Clients ∷ Lines ∷ []
-
 -- only the walk and its end fail
 pub fault_is : (words : List Text) → fault_of command words ≡ faults (clean []) words
 fault_is words =
     in_turn (walk_fault shape [] (clean []) words) _ (settle_fault rules false (end_of (clean []) words)) _ _ (not_entered _)
     (no_defaults all_names (rows_at_end (clean []) words)) (not_checked (finished rules (end_of (clean []) words)) _)
 
--- the matches are the rows at the end
-pub matches_are : (words : List Text) → matches_of command words ≡ rows_at_end (clean []) words
+-- the matches are the rows at the end, with the default of the option without a value
+pub matches_are : (words : List Text) → matches_of command words ≡ with_default (rows_at_end (clean []) words) filled_flag
 matches_are words = all_kept all_names (rows_at_end (clean []) words)
 
 -- ---- one step
@@ -165,6 +170,17 @@ was_fresh name text rows h = go (has_row (bare name) rows) refl
     go false e = e
     go true e = let again : use_fault false (filled_rule name) (text ∷ []) rows ≡ ArgumentConflict ∷ [] = rw e refl in absurd cc
 
+-- so it is with the option without a value
+pub flag_once : (rows : List Row) → has_row flag rows ≡ false → use_fault false filled_flag [] rows ≡ []
+flag_once rows fresh = rw fresh refl
+
+pub flag_was_fresh : (rows : List Row) → use_fault false filled_flag [] rows ≡ [] → has_row flag rows ≡ false
+flag_was_fresh rows h = go (has_row flag rows) refl
+  where
+    go : (b : Bool) → has_row flag rows ≡ b → has_row flag rows ≡ false
+    go false e = e
+    go true e = let again : use_fault false filled_flag [] rows ≡ ArgumentConflict ∷ [] = rw e refl in absurd cc
+
 -- ---- the words of options
 
 -- an option with its value in one word
@@ -178,6 +194,13 @@ joined_fault Keypos text h = or_nil _
 joined_fault Seed text h = or_nil _
 joined_fault Clients text h = or_nil _
 joined_fault Lines text h = or_nil _
+joined_fault Rows text h = or_nil _
+joined_fault Levels text h = or_nil _
+joined_fault Leaf text h = or_nil _
+joined_fault High text h = or_nil _
+joined_fault Low text h = or_nil _
+joined_fault Calm text h = or_nil _
+joined_fault Heat text h = or_nil _
 
 -- and stands in the rows at once
 pub joined_walked : (name : Name) (text : Text) (h : Held) → walked rules [] (between h idle) (joined name text)
@@ -187,6 +210,23 @@ joined_walked Keypos text h = refl
 joined_walked Seed text h = refl
 joined_walked Clients text h = refl
 joined_walked Lines text h = refl
+joined_walked Rows text h = refl
+joined_walked Levels text h = refl
+joined_walked Leaf text h = refl
+joined_walked High text h = refl
+joined_walked Low text h = refl
+joined_walked Calm text h = refl
+joined_walked Heat text h = refl
+
+-- the option without a value uses what is pending too
+pub flag_fault : (h : Held) → turn_fault shape [] (between h idle) flag_spelling ≡ react_fault rules false filled_flag [] h
+flag_fault h = or_nil _
+
+-- and stands in the rows at once
+pub flag_walked : (h : Held) → walked rules [] (between h idle) flag_spelling
+    ≡ between (record h { rows = used filled_flag [] (settled rules h).rows; pending = None }) idle
+unfolding walked
+flag_walked h = refl
 
 -- the name of an option alone uses what is pending
 pub spelled_fault : (name : Name) (h : Held) → turn_fault shape [] (between h idle) (spelling_of name) ≡ settle_fault rules false h
@@ -194,6 +234,13 @@ spelled_fault Keypos h = or_nil _
 spelled_fault Seed h = or_nil _
 spelled_fault Clients h = or_nil _
 spelled_fault Lines h = or_nil _
+spelled_fault Rows h = or_nil _
+spelled_fault Levels h = or_nil _
+spelled_fault Leaf h = or_nil _
+spelled_fault High h = or_nil _
+spelled_fault Low h = or_nil _
+spelled_fault Calm h = or_nil _
+spelled_fault Heat h = or_nil _
 
 -- and waits for its value
 pub spelled_walked : (name : Name) (h : Held) → walked rules [] (between h idle) (spelling_of name)
@@ -203,6 +250,13 @@ spelled_walked Keypos h = refl
 spelled_walked Seed h = refl
 spelled_walked Clients h = refl
 spelled_walked Lines h = refl
+spelled_walked Rows h = refl
+spelled_walked Levels h = refl
+spelled_walked Leaf h = refl
+spelled_walked High h = refl
+spelled_walked Low h = refl
+spelled_walked Calm h = refl
+spelled_walked Heat h = refl
 
 -- a value behind its option never fails
 pub value_fault : (name : Name) (text : Text) (rows : List Row) → begins_with_dash text ≡ false → turn_fault shape [] (wanting name rows) text ≡ []
@@ -210,10 +264,24 @@ value_fault Keypos [] rows d = refl
 value_fault Seed [] rows d = refl
 value_fault Clients [] rows d = refl
 value_fault Lines [] rows d = refl
+value_fault Rows [] rows d = refl
+value_fault Levels [] rows d = refl
+value_fault Leaf [] rows d = refl
+value_fault High [] rows d = refl
+value_fault Low [] rows d = refl
+value_fault Calm [] rows d = refl
+value_fault Heat [] rows d = refl
 value_fault Keypos (b ∷ bytes) rows d = rw d (rw d refl)
 value_fault Seed (b ∷ bytes) rows d = rw d (rw d refl)
 value_fault Clients (b ∷ bytes) rows d = rw d (rw d refl)
 value_fault Lines (b ∷ bytes) rows d = rw d (rw d refl)
+value_fault Rows (b ∷ bytes) rows d = rw d (rw d refl)
+value_fault Levels (b ∷ bytes) rows d = rw d (rw d refl)
+value_fault Leaf (b ∷ bytes) rows d = rw d (rw d refl)
+value_fault High (b ∷ bytes) rows d = rw d (rw d refl)
+value_fault Low (b ∷ bytes) rows d = rw d (rw d refl)
+value_fault Calm (b ∷ bytes) rows d = rw d (rw d refl)
+value_fault Heat (b ∷ bytes) rows d = rw d (rw d refl)
 
 -- and is held, since the option takes no more
 pub value_walked : (name : Name) (text : Text) (rows : List Row) → begins_with_dash text ≡ false
@@ -223,10 +291,24 @@ value_walked Keypos [] rows d = refl
 value_walked Seed [] rows d = refl
 value_walked Clients [] rows d = refl
 value_walked Lines [] rows d = refl
+value_walked Rows [] rows d = refl
+value_walked Levels [] rows d = refl
+value_walked Leaf [] rows d = refl
+value_walked High [] rows d = refl
+value_walked Low [] rows d = refl
+value_walked Calm [] rows d = refl
+value_walked Heat [] rows d = refl
 value_walked Keypos (b ∷ bytes) rows d = rw d (rw d refl)
 value_walked Seed (b ∷ bytes) rows d = rw d (rw d refl)
 value_walked Clients (b ∷ bytes) rows d = rw d (rw d refl)
 value_walked Lines (b ∷ bytes) rows d = rw d (rw d refl)
+value_walked Rows (b ∷ bytes) rows d = rw d (rw d refl)
+value_walked Levels (b ∷ bytes) rows d = rw d (rw d refl)
+value_walked Leaf (b ∷ bytes) rows d = rw d (rw d refl)
+value_walked High (b ∷ bytes) rows d = rw d (rw d refl)
+value_walked Low (b ∷ bytes) rows d = rw d (rw d refl)
+value_walked Calm (b ∷ bytes) rows d = rw d (rw d refl)
+value_walked Heat (b ∷ bytes) rows d = rw d (rw d refl)
 
 -- the value that is held is used by the next option, or at the end
 pub held_fault : (name : Name) (text : Text) (rows : List Row)
@@ -235,6 +317,13 @@ held_fault Keypos text rows = refl
 held_fault Seed text rows = refl
 held_fault Clients text rows = refl
 held_fault Lines text rows = refl
+held_fault Rows text rows = refl
+held_fault Levels text rows = refl
+held_fault Leaf text rows = refl
+held_fault High text rows = refl
+held_fault Low text rows = refl
+held_fault Calm text rows = refl
+held_fault Heat text rows = refl
 
 -- then it stands in the rows
 pub held_used : (name : Name) (text : Text) (rows : List Row)
@@ -243,6 +332,13 @@ held_used Keypos text rows = refl
 held_used Seed text rows = refl
 held_used Clients text rows = refl
 held_used Lines text rows = refl
+held_used Rows text rows = refl
+held_used Levels text rows = refl
+held_used Leaf text rows = refl
+held_used High text rows = refl
+held_used Low text rows = refl
+held_used Calm text rows = refl
+held_used Heat text rows = refl
 
 -- an option without a value fails
 pub no_value : (name : Name) (rows : List Row) → settle_fault rules false (wanting name rows).held ≡ [] → ⊥
@@ -250,41 +346,97 @@ no_value Keypos rows h = absurd cc
 no_value Seed rows h = absurd cc
 no_value Clients rows h = absurd cc
 no_value Lines rows h = absurd cc
+no_value Rows rows h = absurd cc
+no_value Levels rows h = absurd cc
+no_value Leaf rows h = absurd cc
+no_value High rows h = absurd cc
+no_value Low rows h = absurd cc
+no_value Calm rows h = absurd cc
+no_value Heat rows h = absurd cc
 
 -- ---- which words are options
 
--- the name is one of the four, or there is no such option
-pub long_found : (name : Text) → (arg_by_long rules name ≡ None) ⊎ ((n : Name) × (name ≡ bare n))
-long_found name = go (bytes_eq (bare Keypos) name) (bytes_eq (bare Seed) name) (bytes_eq (bare Clients) name) (bytes_eq (bare Lines) name) refl refl refl refl
+-- the name is one of an option, or there is no such option
+pub long_found : (name : Text) → (arg_by_long rules name ≡ None) ⊎ (((n : Name) × (name ≡ bare n)) ⊎ (name ≡ flag))
+long_found name = go (bytes_eq (bare Keypos) name) (bytes_eq (bare Seed) name) (bytes_eq (bare Clients) name) (bytes_eq (bare Lines) name) (bytes_eq (bare Rows) name) (bytes_eq (bare Levels) name) (bytes_eq (bare Leaf) name) (bytes_eq (bare High) name) (bytes_eq (bare Low) name) (bytes_eq (bare Calm) name) (bytes_eq (bare Heat) name) (bytes_eq flag name) refl refl refl refl refl refl refl refl refl refl refl refl
   where
-    go : (a b c d : Bool) → bytes_eq (bare Keypos) name ≡ a → bytes_eq (bare Seed) name ≡ b → bytes_eq (bare Clients) name ≡ c → bytes_eq (bare Lines) name ≡ d
-        → (arg_by_long rules name ≡ None) ⊎ ((n : Name) × (name ≡ bare n))
-    go true b c d ea eb ec ed = inr (Keypos, sym ((bytes_decides (bare Keypos) name).0 ea))
-    go false true c d ea eb ec ed = inr (Seed, sym ((bytes_decides (bare Seed) name).0 eb))
-    go false false true d ea eb ec ed = inr (Clients, sym ((bytes_decides (bare Clients) name).0 ec))
-    go false false false true ea eb ec ed = inr (Lines, sym ((bytes_decides (bare Lines) name).0 ed))
-    go false false false false ea eb ec ed = inl (rw (ea, eb, ec, ed) refl)
+    go : (a b c d e f g h i j k l : Bool)
+        → bytes_eq (bare Keypos) name ≡ a
+        → bytes_eq (bare Seed) name ≡ b
+        → bytes_eq (bare Clients) name ≡ c
+        → bytes_eq (bare Lines) name ≡ d
+        → bytes_eq (bare Rows) name ≡ e
+        → bytes_eq (bare Levels) name ≡ f
+        → bytes_eq (bare Leaf) name ≡ g
+        → bytes_eq (bare High) name ≡ h
+        → bytes_eq (bare Low) name ≡ i
+        → bytes_eq (bare Calm) name ≡ j
+        → bytes_eq (bare Heat) name ≡ k
+        → bytes_eq flag name ≡ l
+        → (arg_by_long rules name ≡ None) ⊎ (((n : Name) × (name ≡ bare n)) ⊎ (name ≡ flag))
+    go true b c d e f g h i j k l ea eb ec ed ee ef eg eh ei ej ek el = inr (inl (Keypos, sym ((bytes_decides (bare Keypos) name).0 ea)))
+    go false true c d e f g h i j k l ea eb ec ed ee ef eg eh ei ej ek el = inr (inl (Seed, sym ((bytes_decides (bare Seed) name).0 eb)))
+    go false false true d e f g h i j k l ea eb ec ed ee ef eg eh ei ej ek el = inr (inl (Clients, sym ((bytes_decides (bare Clients) name).0 ec)))
+    go false false false true e f g h i j k l ea eb ec ed ee ef eg eh ei ej ek el = inr (inl (Lines, sym ((bytes_decides (bare Lines) name).0 ed)))
+    go false false false false true f g h i j k l ea eb ec ed ee ef eg eh ei ej ek el = inr (inl (Rows, sym ((bytes_decides (bare Rows) name).0 ee)))
+    go false false false false false true g h i j k l ea eb ec ed ee ef eg eh ei ej ek el = inr (inl (Levels, sym ((bytes_decides (bare Levels) name).0 ef)))
+    go false false false false false false true h i j k l ea eb ec ed ee ef eg eh ei ej ek el = inr (inl (Leaf, sym ((bytes_decides (bare Leaf) name).0 eg)))
+    go false false false false false false false true i j k l ea eb ec ed ee ef eg eh ei ej ek el = inr (inl (High, sym ((bytes_decides (bare High) name).0 eh)))
+    go false false false false false false false false true j k l ea eb ec ed ee ef eg eh ei ej ek el = inr (inl (Low, sym ((bytes_decides (bare Low) name).0 ei)))
+    go false false false false false false false false false true k l ea eb ec ed ee ef eg eh ei ej ek el = inr (inl (Calm, sym ((bytes_decides (bare Calm) name).0 ej)))
+    go false false false false false false false false false false true l ea eb ec ed ee ef eg eh ei ej ek el = inr (inl (Heat, sym ((bytes_decides (bare Heat) name).0 ek)))
+    go false false false false false false false false false false false true ea eb ec ed ee ef eg eh ei ej ek el = inr (inr (sym ((bytes_decides flag name).0 el)))
+    go false false false false false false false false false false false false ea eb ec ed ee ef eg eh ei ej ek el = inl (rw (ea, eb, ec, ed, ee, ef, eg, eh, ei, ej, ek, el) refl)
 
 settles : (n : Name) (value : Option Text) (h : Held) → long_fault rules false (arg_by_long rules (bare n)) value h ≡ [] → settle_fault rules false h ≡ []
 settles Keypos None h f = f
 settles Seed None h f = f
 settles Clients None h f = f
 settles Lines None h f = f
+settles Rows None h f = f
+settles Levels None h f = f
+settles Leaf None h f = f
+settles High None h f = f
+settles Low None h f = f
+settles Calm None h f = f
+settles Heat None h f = f
 settles Keypos (Some v) h f = or_first _ _ f
 settles Seed (Some v) h f = or_first _ _ f
 settles Clients (Some v) h f = or_first _ _ f
 settles Lines (Some v) h f = or_first _ _ f
+settles Rows (Some v) h f = or_first _ _ f
+settles Levels (Some v) h f = or_first _ _ f
+settles Leaf (Some v) h f = or_first _ _ f
+settles High (Some v) h f = or_first _ _ f
+settles Low (Some v) h f = or_first _ _ f
+settles Calm (Some v) h f = or_first _ _ f
+settles Heat (Some v) h f = or_first _ _ f
 
--- where an option passes, it is one of the four, and what was pending is used well
+flag_settles : (value : Option Text) (h : Held) → long_fault rules false (arg_by_long rules flag) value h ≡ []
+    → (value ≡ None) × (settle_fault rules false h ≡ [])
+flag_settles None h f = (refl, or_first _ _ f)
+flag_settles (Some v) h f = absurd cc
+
+-- the name of an option, and no value for one that has none
+abbrev IsLong : Text → Option Text → Type 0
+IsLong name value = ((n : Name) × (name ≡ bare n)) ⊎ ((name ≡ flag) × (value ≡ None))
+
+-- where an option passes, it is one of these, and what was pending is used well
 pub long_told : (name : Text) (value : Option Text) (h : Held) → long_fault rules false (arg_by_long rules name) value h ≡ []
-    → ((n : Name) × (name ≡ bare n)) × (settle_fault rules false h ≡ [])
+    → IsLong name value × (settle_fault rules false h ≡ [])
 long_told name value h f = elim (long_found name) [
   | inl none ↦ absurd (unknown (subst (λ found. long_fault rules false found value h ≡ []) none f))
-  | inr known ↦ (known, settles known.0 value h (subst (λ x. long_fault rules false (arg_by_long rules x) value h ≡ []) known.1 f))
+  | inr known ↦ by known
 ]
   where
     unknown : long_fault rules false None value h ≡ [] → ⊥
     unknown e = absurd cc
+
+    by : ((n : Name) × (name ≡ bare n)) ⊎ (name ≡ flag) → IsLong name value × (settle_fault rules false h ≡ [])
+    by (inl k) = (inl k, settles k.0 value h (subst (λ x. long_fault rules false (arg_by_long rules x) value h ≡ []) k.1 f))
+    by (inr e) =
+        let t = flag_settles value h (subst (λ x. long_fault rules false (arg_by_long rules x) value h ≡ []) e f) in
+        (inr (e, t.0), t.1)
 
 -- what stands before the first `=` and behind it
 abbrev is_equals : ℕ → Bool
@@ -321,27 +473,47 @@ parts (b ∷ bytes) = parts_behind b bytes (b == 61) refl (parts bytes)
 
 -- a word of an option of the command, with a value or without
 abbrev pub IsKnown : Text → Type 0
-IsKnown word = ((n : Name) × (text : Text) × (word ≡ joined n text)) ⊎ ((n : Name) × (word ≡ spelling_of n))
+IsKnown word = ((n : Name) × (text : Text) × (word ≡ joined n text)) ⊎ (((n : Name) × (word ≡ spelling_of n)) ⊎ (word ≡ flag_spelling))
 
 spelled_from : (n : Name) → 45 ∷ 45 ∷ bare n ≡ spelling_of n
 spelled_from Keypos = refl
 spelled_from Seed = refl
 spelled_from Clients = refl
 spelled_from Lines = refl
+spelled_from Rows = refl
+spelled_from Levels = refl
+spelled_from Leaf = refl
+spelled_from High = refl
+spelled_from Low = refl
+spelled_from Calm = refl
+spelled_from Heat = refl
 
 joined_from : (n : Name) (text : Text) → 45 ∷ 45 ∷ (bare n ++ 61 ∷ text) ≡ joined n text
 joined_from Keypos text = refl
 joined_from Seed text = refl
 joined_from Clients text = refl
 joined_from Lines text = refl
+joined_from Rows text = refl
+joined_from Levels text = refl
+joined_from Leaf text = refl
+joined_from High text = refl
+joined_from Low text = refl
+joined_from Calm text = refl
+joined_from Heat text = refl
 
-known_by : (text : Text) → ((n : Name) × (before_first is_equals text ≡ bare n)) → HasParts text → IsKnown (45 ∷ 45 ∷ text)
-known_by text k (inl p) = inl (
+known_by : (text : Text) → IsLong (before_first is_equals text) (name_and_value text).1 → HasParts text → IsKnown (45 ∷ 45 ∷ text)
+known_by text (inl k) (inl p) = inl (
   k.0,
   after_first is_equals text,
   ap (λ l. 45 ∷ 45 ∷ l) (p.1 ∙ ap (λ l. l ++ 61 ∷ after_first is_equals text) k.1) ∙ joined_from k.0 _,
 )
-known_by text k (inr p) = inr (k.0, ap (λ l. 45 ∷ 45 ∷ l) (sym p.1 ∙ k.1) ∙ spelled_from k.0)
+known_by text (inl k) (inr p) = inr (inl (k.0, ap (λ l. 45 ∷ 45 ∷ l) (sym p.1 ∙ k.1) ∙ spelled_from k.0))
+known_by text (inr k) (inl p) = absurd (valued (has_byte 61 text) p.0 k.1)
+  where
+    valued : (b : Bool) → b ≡ true → (if b then Some (after_first is_equals text) else None) ≡ None → ⊥
+    valued true e none = absurd cc
+    valued false e none = absurd cc
+known_by text (inr k) (inr p) = inr (inr (ap (λ l. 45 ∷ 45 ∷ l) (sym p.1 ∙ k.0)))
 
 -- what passes as an option is a known one, and what was pending is used well
 abbrev Passed : Held → Text → Type 0

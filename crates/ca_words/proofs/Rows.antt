@@ -1,13 +1,13 @@
 -- What `clap` keeps of an option that was not used before, and what is found in its rows.
 use Rattle.std.proofs.Common.{◌≡◌, Bool, true, false, List, [], ◌∷◌, ◌++◌, Some, None, refl, sym, ap, ◌∙◌, append-nil}
-use Rattle.std.specs.Prelude.{◌||◌}
+use Rattle.std.specs.Prelude.{◌||◌, codes}
 use Rattle.std.specs.Str.{bytes_eq}
-use Rattle.clap.specs.Walk.{Row, Rule, Text, at_row, first_of, has_row, more_values, used}
+use Rattle.clap.specs.Walk.{Row, Rule, Text, at_row, first_of, has_row, more_values, reading_by, used}
 use Rattle.clap.specs.Simple.{filled, with_index}
 use Rattle.clap.specs.declared.builder.value_parser.Reading.TheVariants.{AsWritten}
 use Rattle.clap.specs.declared.parser.matches.ValueSource.TheVariants.{CommandLine}
 use Rattle.ca_words.specs.declared.words.Name.{Name}
-use Rattle.ca_words.specs.Words.{bare, rule}
+use Rattle.ca_words.specs.Words.{bare, flag, flag_rule, rule}
 
 -- the option as `clap` builds it
 abbrev pub filled_rule : Name → Rule
@@ -23,6 +23,20 @@ row name text = record {
   reading = AsWritten;
 }
 
+-- the option without a value, as it builds it
+abbrev pub filled_flag : Rule
+filled_flag = with_index 1 (filled flag_rule)
+
+-- its row where it was given
+abbrev pub flag_row : Row
+flag_row = record {
+  id = flag;
+  values = codes "true" ∷ [];
+  count = None;
+  source = Some CommandLine;
+  reading = reading_by filled_flag;
+}
+
 -- where neither of two holds
 pub first_not : (a b : Bool) → (a || b) ≡ false → a ≡ false
 first_not true b h = h
@@ -33,7 +47,7 @@ second_not true b h = absurd cc
 second_not false b h = h
 
 -- where there is no row of this name, one more stands at the end
-at_end : (id : Text) (change : Row → List Row) (missing rows : List Row) → has_row id rows ≡ false → at_row id change missing rows ≡ rows ++ missing
+pub at_end : (id : Text) (change : Row → List Row) (missing rows : List Row) → has_row id rows ≡ false → at_row id change missing rows ≡ rows ++ missing
 at_end id change missing [] fresh = refl
 at_end id change missing (r ∷ rows) fresh =
     let other = first_not (bytes_eq r.id id) (has_row id rows) fresh in
@@ -45,6 +59,12 @@ pub used_once : (name : Name) (text : Text) (rows : List Row) → has_row (bare 
 used_once name text rows fresh =
     ap (at_row (bare name) (more_values CommandLine (text ∷ [])) (row name text ∷ [])) (at_end (bare name) (λ _. []) [] rows fresh ∙ append-nil rows)
     ∙ at_end (bare name) (more_values CommandLine (text ∷ [])) (row name text ∷ []) rows fresh
+
+-- so does that of the option without a value
+pub flagged_once : (rows : List Row) → has_row flag rows ≡ false → used filled_flag [] rows ≡ rows ++ flag_row ∷ []
+flagged_once rows fresh =
+    ap (at_row flag (more_values CommandLine (codes "true" ∷ [])) (flag_row ∷ [])) (at_end flag (λ _. []) [] rows fresh ∙ append-nil rows)
+    ∙ at_end flag (more_values CommandLine (codes "true" ∷ [])) (flag_row ∷ []) rows fresh
 
 -- behind rows of other names the first one is found
 pub found_behind : (id : Text) (rows more : List Row) → has_row id rows ≡ false → first_of id (rows ++ more) ≡ first_of id more

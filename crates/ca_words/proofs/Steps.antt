@@ -5,10 +5,10 @@ use Rattle.clap.specs.Kinds.{or_else}
 use Rattle.clap.specs.Walk.{Row, Text, Walk, has_row, settled, used}
 use Rattle.clap.specs.Faults.{settle_fault, use_fault}
 use Rattle.ca_words.specs.declared.words.Name.{Name}
-use Rattle.ca_words.specs.Grammar.{begins_with_dash, spelling_of}
-use Rattle.ca_words.specs.Words.{bare}
-use Rattle.ca_words.proofs.Rows.{filled_rule, row, used_once}
-use Rattle.ca_words.proofs.Parsing.{IsKnown, alike, at_end_alone, clean, faults, held_fault, held_of, held_used, holding, joined, joined_fault, joined_walked, once, rows_at_end, rules, spelled_fault, spelled_walked, step, value_fault, value_walked, wanting}
+use Rattle.ca_words.specs.Grammar.{begins_with_dash, flag_spelling, spelling_of}
+use Rattle.ca_words.specs.Words.{bare, flag}
+use Rattle.ca_words.proofs.Rows.{filled_flag, filled_rule, flag_row, flagged_once, row, used_once}
+use Rattle.ca_words.proofs.Parsing.{IsKnown, flag_fault, flag_once, flag_walked, alike, at_end_alone, clean, faults, held_fault, held_of, held_used, holding, joined, joined_fault, joined_walked, once, rows_at_end, rules, spelled_fault, spelled_walked, step, value_fault, value_walked, wanting}
 
 -- the walk fails and ends here as there
 abbrev pub IsAsGood : Walk → List Text → Walk → List Text → Type 0
@@ -29,6 +29,13 @@ pub one_word : (name : Name) (text : Text) (rows : List Row) (words : List Text)
 one_word name text rows words fresh =
     step (clean rows) (clean (rows ++ row name text ∷ [])) (joined name text) words (joined_fault name text (held_of rows None) ∙ once name text rows fresh)
     (joined_walked name text (held_of rows None) ∙ ap clean (used_once name text rows fresh))
+
+-- the option without a value
+pub flag_word : (rows : List Row) (words : List Text) → has_row flag rows ≡ false
+    → IsAsGood (clean rows) (flag_spelling ∷ words) (clean (rows ++ flag_row ∷ [])) words
+flag_word rows words fresh =
+    step (clean rows) (clean (rows ++ flag_row ∷ [])) flag_spelling words (flag_fault (held_of rows None) ∙ flag_once rows fresh)
+    (flag_walked (held_of rows None) ∙ ap clean (flagged_once rows fresh))
 
 -- the name of an option alone
 pub name_alone : (name : Name) (rows : List Row) (words : List Text) → IsAsGood (clean rows) (spelling_of name ∷ words) (wanting name rows) words
@@ -68,6 +75,16 @@ then_spelled name text rows n words fresh =
     (spelled_fault n h ∙ fine name text rows fresh ∙ sym (spelled_fault n more))
     (spelled_walked n h ∙ ap (λ x. wanting n x.rows) (used_up name text rows fresh) ∙ sym (spelled_walked n more))
 
+then_flag : (name : Name) (text : Text) (rows : List Row) (words : List Text) → has_row (bare name) rows ≡ false
+    → IsAsGood (holding name text rows) (flag_spelling ∷ words) (clean (rows ++ row name text ∷ [])) (flag_spelling ∷ words)
+then_flag name text rows words fresh =
+    let h = (holding name text rows).held in
+    let more = held_of (rows ++ row name text ∷ []) None in
+    alike (holding name text rows) (clean (rows ++ row name text ∷ [])) flag_spelling words
+    (flag_fault h ∙ ap₂ (λ k x. or_else k (use_fault false filled_flag [] x.rows)) (fine name text rows fresh)
+    (used_up name text rows fresh) ∙ sym (flag_fault more))
+    (flag_walked h ∙ ap (λ x. clean (used filled_flag [] x.rows)) (used_up name text rows fresh) ∙ sym (flag_walked more))
+
 -- the value that is held is used by the next option, or at the end
 pub used_by_next : (name : Name) (text : Text) (rows : List Row) (words : List Text) → has_row (bare name) rows ≡ false → Follows words
     → IsAsGood (holding name text rows) words (clean (rows ++ row name text ∷ [])) words
@@ -78,9 +95,12 @@ used_by_next name text rows [] fresh follows = (
 used_by_next name text rows (word ∷ words) fresh (inl k) =
     subst (λ w. IsAsGood (holding name text rows) (w ∷ words) (clean (rows ++ row name text ∷ [])) (w ∷ words)) (sym k.2)
     (then_joined name text rows k.0 k.1 words fresh)
-used_by_next name text rows (word ∷ words) fresh (inr k) =
+used_by_next name text rows (word ∷ words) fresh (inr (inl k)) =
     subst (λ w. IsAsGood (holding name text rows) (w ∷ words) (clean (rows ++ row name text ∷ [])) (w ∷ words)) (sym k.1)
     (then_spelled name text rows k.0 words fresh)
+used_by_next name text rows (word ∷ words) fresh (inr (inr e)) =
+    subst (λ w. IsAsGood (holding name text rows) (w ∷ words) (clean (rows ++ row name text ∷ [])) (w ∷ words)) (sym e)
+    (then_flag name text rows words fresh)
 
 -- an option in two words
 pub two_words : (name : Name) (text : Text) (rows : List Row) (words : List Text) → has_row (bare name) rows ≡ false → begins_with_dash text ≡ false

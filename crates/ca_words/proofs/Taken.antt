@@ -4,13 +4,13 @@ use Rattle.std.specs.Prelude.{⊤, ◌&&◌, ◌||◌, not, if◌then◌else◌}
 use Rattle.clap.specs.Walk.{Row, Text, has_row, idle, option}
 use Rattle.clap.specs.Faults.{settle_fault}
 use Rattle.ca_words.specs.declared.words.Name.{Name}
-use Rattle.ca_words.specs.declared.words.Name.TheVariants.{Keypos, Seed, Clients, Lines}
-use Rattle.ca_words.specs.Grammar.{begins_with_dash, spelling_of}
-use Rattle.ca_words.specs.Words.{bare, is_option, is_part, options_end, waits_behind}
+use Rattle.ca_words.specs.declared.words.Name.TheVariants.{Keypos, Seed, Clients, Lines, Rows, Levels, Leaf, High, Low, Calm, Heat}
+use Rattle.ca_words.specs.Grammar.{begins_with_dash, flag_spelling, spelling_of}
+use Rattle.ca_words.specs.Words.{bare, flag, is_option, is_part, options_end, waits_behind}
 use Rattle.ca_words.proofs.Choices.{first_holds, not_holds, second_holds}
-use Rattle.ca_words.proofs.Rows.{row}
-use Rattle.ca_words.proofs.Parsing.{IsKnown, at_end_alone, clean, faults, held_fault, held_of, holding, joined, joined_fault, no_value, option_passed, rows_at_end, rules, turn_passes, wanting, was_fresh}
-use Rattle.ca_words.proofs.Steps.{Follows, name_alone, one_word, used_by_next, value_behind}
+use Rattle.ca_words.proofs.Rows.{flag_row, row}
+use Rattle.ca_words.proofs.Parsing.{IsKnown, flag_fault, flag_was_fresh, at_end_alone, clean, faults, held_fault, held_of, holding, joined, joined_fault, no_value, option_passed, rows_at_end, rules, turn_passes, wanting, was_fresh}
+use Rattle.ca_words.proofs.Steps.{Follows, flag_word, name_alone, one_word, used_by_next, value_behind}
 
 -- all words are words of options
 abbrev pub are_parts : Bool → List Text → Bool
@@ -29,28 +29,37 @@ unfolding options_end
 parts_taken waits [] = refl
 parts_taken waits (word ∷ words) = parts_behind waits word words (is_part waits word) refl (parts_taken (waits_behind word) words)
 
--- an option as it is written, in one word or in two
-pub record Written : Type 0 where
-  pub name : Name
-  pub text : Text
-  pub is_joined : Bool
+-- an option as it is written: in one word, in two, or without a value
+pub data Written : Type 0 where
+  InOne : Name → Text → Written
+  InTwo : Name → Text → Written
+  Bare : Written
 
 -- the words of an option, and of options one after another
 abbrev pub words_of : Written → List Text
-words_of o = if o.is_joined then joined o.name o.text ∷ [] else spelling_of o.name ∷ o.text ∷ []
+words_of (InOne name text) = joined name text ∷ []
+words_of (InTwo name text) = spelling_of name ∷ text ∷ []
+words_of Bare = flag_spelling ∷ []
 
 abbrev pub all_words : List Written → List Text
 all_words [] = []
 all_words (o ∷ options) = words_of o ++ all_words options
 
--- its row
+-- its row, and the name of it
 abbrev pub row_of : Written → Row
-row_of o = row o.name o.text
+row_of (InOne name text) = row name text
+row_of (InTwo name text) = row name text
+row_of Bare = flag_row
+
+abbrev pub id_of : Written → Text
+id_of (InOne name text) = bare name
+id_of (InTwo name text) = bare name
+id_of Bare = flag
 
 -- no option has a row before it
 abbrev pub AreFresh : List Row → List Written → Type 0
 AreFresh rows [] = ⊤
-AreFresh rows (o ∷ options) = (has_row (bare o.name) rows ≡ false) × AreFresh (rows ++ row_of o ∷ []) options
+AreFresh rows (o ∷ options) = (has_row (id_of o) rows ≡ false) × AreFresh (rows ++ row_of o ∷ []) options
 
 -- the words are options, which add their rows
 pub record AreWritten (rows : List Row) (words : List Text) (end : List Row) : Type 0 where
@@ -59,7 +68,7 @@ pub record AreWritten (rows : List Row) (words : List Text) (end : List Row) : T
   pub rows_are : end ≡ rows ++ map row_of options
   pub fresh : AreFresh rows options
 
-one_more : (rows : List Row) (o : Written) (words : List Text) (end there : List Row) → has_row (bare o.name) rows ≡ false → end ≡ there
+one_more : (rows : List Row) (o : Written) (words : List Text) (end there : List Row) → has_row (id_of o) rows ≡ false → end ≡ there
     → AreWritten (rows ++ row_of o ∷ []) words there → AreWritten rows (words_of o ++ words) end
 one_more rows o words end there fresh same rest = record {
   options = o ∷ rest.options;
@@ -82,12 +91,26 @@ waits_not Keypos text = refl
 waits_not Seed text = refl
 waits_not Clients text = refl
 waits_not Lines text = refl
+waits_not Rows text = refl
+waits_not Levels text = refl
+waits_not Leaf text = refl
+waits_not High text = refl
+waits_not Low text = refl
+waits_not Calm text = refl
+waits_not Heat text = refl
 
 waits_for : (name : Name) → waits_behind (spelling_of name) ≡ true
 waits_for Keypos = refl
 waits_for Seed = refl
 waits_for Clients = refl
 waits_for Lines = refl
+waits_for Rows = refl
+waits_for Levels = refl
+waits_for Leaf = refl
+waits_for High = refl
+waits_for Low = refl
+waits_for Calm = refl
+waits_for Heat = refl
 
 at_joined : (name : Name) (text : Text) (words : List Text) → TakenFrom words → (rows : List Row)
     → are_parts (waits_behind (joined name text)) words ≡ true → faults (clean rows) (joined name text ∷ words) ≡ []
@@ -96,8 +119,21 @@ at_joined name text words next rows p f =
     let passes = turn_passes (clean rows) (joined name text) words f in
     let fresh = was_fresh name text rows (sym (joined_fault name text (held_of rows None)) ∙ passes) in
     let goes = one_word name text rows words fresh in
-    one_more rows (record { name = name; text = text; is_joined = true }) words _ _ fresh goes.1
+    one_more rows (InOne name text) words _ _ fresh goes.1
     (next (rows ++ row name text ∷ []) (ap (λ w. are_parts w words) (sym (waits_not name text)) ∙ p) (sym goes.0 ∙ f))
+
+flag_waits_not : waits_behind flag_spelling ≡ false
+flag_waits_not = refl
+
+at_flag : (words : List Text) → TakenFrom words → (rows : List Row) → are_parts (waits_behind flag_spelling) words ≡ true
+    → faults (clean rows) (flag_spelling ∷ words) ≡ []
+    → AreWritten rows (flag_spelling ∷ words) (rows_at_end (clean rows) (flag_spelling ∷ words))
+at_flag words next rows p f =
+    let passes = turn_passes (clean rows) flag_spelling words f in
+    let fresh = flag_was_fresh rows (sym (flag_fault (held_of rows None)) ∙ passes) in
+    let goes = flag_word rows words fresh in
+    one_more rows Bare words _ _ fresh goes.1
+    (next (rows ++ flag_row ∷ []) (ap (λ w. are_parts w words) (sym flag_waits_not) ∙ p) (sym goes.0 ∙ f))
 
 at_name : (name : Name) (words : List Text) → TakenBehind words → (rows : List Row)
     → are_parts (waits_behind (spelling_of name)) words ≡ true → faults (clean rows) (spelling_of name ∷ words) ≡ []
@@ -127,7 +163,7 @@ at_value name text words next rows undashed p f =
     let behind = follows name text rows words p (sym held.0 ∙ f) in
     let fresh = was_fresh name text rows (sym (held_fault name text rows) ∙ behind.1) in
     let goes = used_by_next name text rows words fresh behind.0 in
-    one_more rows (record { name = name; text = text; is_joined = false }) words _ _ fresh (held.1 ∙ goes.1)
+    one_more rows (InTwo name text) words _ _ fresh (held.1 ∙ goes.1)
     (next (rows ++ row name text ∷ []) p (sym goes.0 ∙ sym held.0 ∙ f))
 
 -- a word of options right behind a name is its value
@@ -148,10 +184,14 @@ at_known word words next behind rows (inl k) p f =
     subst (λ w. AreWritten rows (w ∷ words) (rows_at_end (clean rows) (w ∷ words))) (sym k.2)
     (at_joined k.0 k.1 words next rows (subst (λ w. are_parts (waits_behind w) words ≡ true) k.2 p)
     (subst (λ w. faults (clean rows) (w ∷ words) ≡ []) k.2 f))
-at_known word words next behind rows (inr k) p f =
+at_known word words next behind rows (inr (inl k)) p f =
     subst (λ w. AreWritten rows (w ∷ words) (rows_at_end (clean rows) (w ∷ words))) (sym k.1)
     (at_name k.0 words behind rows (subst (λ w. are_parts (waits_behind w) words ≡ true) k.1 p)
     (subst (λ w. faults (clean rows) (w ∷ words) ≡ []) k.1 f))
+at_known word words next behind rows (inr (inr e)) p f =
+    subst (λ w. AreWritten rows (w ∷ words) (rows_at_end (clean rows) (w ∷ words))) (sym e)
+    (at_flag words next rows (subst (λ w. are_parts (waits_behind w) words ≡ true) e p)
+    (subst (λ w. faults (clean rows) (w ∷ words) ≡ []) e f))
 
 taken : (words : List Text) → TakenFrom words × TakenBehind words
 taken [] = (

@@ -43,9 +43,24 @@ fn fault_in_value(
     Ok(Some(fault))
 }
 
+// The options that have values, in the order of their list.
+const NAMES: [Name; 11] = [
+    Name::Keypos,
+    Name::Seed,
+    Name::Clients,
+    Name::Lines,
+    Name::Rows,
+    Name::Levels,
+    Name::Leaf,
+    Name::High,
+    Name::Low,
+    Name::Calm,
+    Name::Heat,
+];
+
 // What is wrong with the values of the options: the first of them, in the order of the list of options.
 fn fault_in_values(alloc: Global, matches: &ArgMatches<'_>) -> Result<Option<String>, AllocError> {
-    for name in [Name::Keypos, Name::Seed, Name::Clients, Name::Lines] {
+    for name in NAMES {
         if let Some(fault) = fault_in_value(alloc, matches, name)? {
             return Ok(Some(fault));
         }

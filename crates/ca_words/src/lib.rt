@@ -3,7 +3,9 @@
 
 mod fault;
 mod options;
+mod tree;
 mod words;
 
 pub use fault::fault_in;
-pub use words::{Request, request_of};
+pub use tree::TreeOptions;
+pub use words::{CommandLine, Request, command_line_of, request_of};

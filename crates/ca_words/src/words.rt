@@ -2,10 +2,12 @@
 ghost use Rattle.std.specs.Prelude.{◌≡◌, ◌≤◌, IfOk, Some, false, length, map, not, option_map};
 ghost use Rattle.std.specs.List.{list_all};
 ghost use Rattle.std.specs.String.{string_bytes};
-ghost use Rattle.ca_words.specs.Grammar.{IsLine, Request as Asked, are_undashed, begins_with_dash};
-ghost use Rattle.ca_words.specs.Words.{has_equals, is_option, names_in, options_end, request_behind, request_in, request_of, request_with, texts_of};
+ghost use Rattle.ca_words.specs.Grammar.{IsLine, IsLineOf, Request as Asked, are_undashed, begins_with_dash, no_tree};
+ghost use Rattle.ca_words.specs.declared.tree.TreeOptions.{TreeOptions};
+ghost use Rattle.ca_words.specs.Words.{asking_in, has_equals, is_option, line_behind, line_of, line_with, names_in, options_end, request_in, request_with, texts_of};
 
 use crate::options::{Options, options_in};
+use crate::tree::TreeOptions;
 use std::alloc::{AllocError, Global};
 
 // The most files that a call names.
@@ -20,6 +22,13 @@ pub enum Request<'a> {
     Generated { seed: u32, clients: u32, lines: u32 },
 }
 
+/// What a command line asks for, and what it says of the tree.
+#[derive(Clone, Copy)]
+pub struct CommandLine<'a> {
+    pub request: Request<'a>,
+    pub tree: TreeOptions,
+}
+
 // The options.
 #[derive(Clone, Copy)]
 pub(crate) enum Name {
@@ -27,6 +36,13 @@ pub(crate) enum Name {
     Seed,
     Clients,
     Lines,
+    Rows,
+    Levels,
+    Leaf,
+    High,
+    Low,
+    Calm,
+    Heat,
 }
 
 // What these options ask for together with these file words.
@@ -96,7 +112,7 @@ pub(crate) fn options_end(words: &[String]) -> usize
     let mut rest = words;
     while let [word, after @ ..] = rest {
         if is_option(word.as_bytes()) {
-            waits = !has_equals(word.as_bytes());
+            waits = !has_equals(word.as_bytes()) && word.as_str() != "--shape";
         } else if waits && !begins_with_dash(word.as_str()) {
             waits = false;
         } else {
@@ -119,39 +135,79 @@ fn names_in(words: &[String]) -> Option<&[String]>
     }
 }
 
+// What these options ask for together with these file words, and what they say of the tree.
+fn line_with(given: Options, names: &[String]) -> Option<CommandLine<'_>>
+    ensures { option_map asking_in result ≡ line_with given (map string_bytes names.now) }
+{
+    let request = request_with(given, names)?;
+    Some(CommandLine {
+        request,
+        tree: given.tree,
+    })
+}
+
 // What is asked for by the words behind the word `run`.
-fn request_behind(alloc: Global, words: &[String]) -> Result<Option<Request<'_>>, AllocError>
-    ensures { IfOk result (λ r. option_map request_in r ≡ request_behind (map string_bytes words.now)) }
+fn line_behind(alloc: Global, words: &[String]) -> Result<Option<CommandLine<'_>>, AllocError>
+    ensures { IfOk result (λ r. option_map asking_in r ≡ line_behind (map string_bytes words.now)) }
 {
     let (options, rest) = words.split_at(options_end(words));
     let Some(names) = names_in(rest) else {
         return Ok(None);
     };
     match options_in(alloc, options)? {
-        Some(given) => Ok(request_with(given, names)),
+        Some(given) => Ok(line_with(given, names)),
         None => Ok(None),
     }
 }
 
 // What the words ask for, word for word as the reader's definition says.
-fn read(alloc: Global, words: &[String]) -> Result<Option<Request<'_>>, AllocError>
-    ensures { IfOk result (λ r. option_map request_in r ≡ request_of (map string_bytes words.now)) }
+fn read(alloc: Global, words: &[String]) -> Result<Option<CommandLine<'_>>, AllocError>
+    ensures { IfOk result (λ r. option_map asking_in r ≡ line_of (map string_bytes words.now)) }
 {
     match words {
-        [run, rest @ ..] if run.as_str() == "run" => request_behind(alloc, rest),
+        [run, rest @ ..] if run.as_str() == "run" => line_behind(alloc, rest),
         _ => Ok(None),
     }
 }
 
-/// What the words after the program's name ask for, or `None` where they are no command line; `Err` where memory lacks.
+/// What the words after the program's name ask for, and what they say of the tree, or `None` where they are no command line; `Err` where memory lacks.
 ///
 /// The first word is `run`. Options follow, each at most once, as `--name value` or `--name=value`, with 1 to 10 decimal digits as the value:
-/// `--keypos` (1 to 120, else 1), `--seed` (0 to 2,147,483,647), `--clients` (1 to 64) and `--lines` (1 to 20,000). Then stand, perhaps behind the
-/// word `--`, 1 to 64 file words without the last three options, or none with all three, and then `--keypos` is 1 or absent.
+/// `--keypos` (1 to 120, else 1), `--seed` (0 to 2,147,483,647), `--clients` (1 to 64), `--lines` (1 to 20,000), and of the tree `--rows` (384 to
+/// 16,777,215), `--levels` (0 to 4,096), `--leaf` (2 to 120), and `--high`, `--low`, `--calm` and `--heat` (0 to 1,000,000), and `--shape`, which has no value. Then stand, perhaps behind
+/// the word `--`, 1 to 64 file words without `--seed`, `--clients` and `--lines`, or none with all three, and then `--keypos` is 1 or absent.
 /// Without `--` no file word begins with `-`, and no option follows a file word.
+pub fn command_line_of(
+    alloc: Global,
+    words: &[String],
+) -> Result<Option<CommandLine<'_>>, AllocError>
+    ensures sound { IfOk result (λ r. (request : Asked) (tree : TreeOptions) → option_map asking_in r ≡ Some (request, tree)
+        → IsLineOf (map string_bytes words.now) request tree) }
+    ensures complete { IfOk result (λ r. (request : Asked) (tree : TreeOptions) → IsLineOf (map string_bytes words.now) request tree
+        → option_map asking_in r ≡ Some (request, tree)) }
+{
+    read(alloc, words)
+}
+
+// The request of a line that says nothing of the tree.
+fn request_alone(line: CommandLine<'_>) -> Option<Request<'_>>
+    ensures alone { (request : Asked) → option_map request_in result ≡ Some request → asking_in line.entry ≡ (request, no_tree) }
+    ensures all { (request : Asked) → asking_in line.entry ≡ (request, no_tree) → option_map request_in result ≡ Some request }
+{
+    if line.tree == TreeOptions::NONE {
+        Some(line.request)
+    } else {
+        None
+    }
+}
+
+/// What the words after the program's name ask for, or `None` where they are no command line, or say something of the tree; `Err` where memory lacks.
 pub fn request_of(alloc: Global, words: &[String]) -> Result<Option<Request<'_>>, AllocError>
     ensures sound { IfOk result (λ r. (request : Asked) → option_map request_in r ≡ Some request → IsLine (map string_bytes words.now) request) }
     ensures complete { IfOk result (λ r. (request : Asked) → IsLine (map string_bytes words.now) request → option_map request_in r ≡ Some request) }
 {
-    read(alloc, words)
+    match command_line_of(alloc, words)? {
+        Some(line) => Ok(request_alone(line)),
+        None => Ok(None),
+    }
 }
