@@ -1,3 +1,4 @@
 pub mod Commands
+pub mod Crossing
 pub mod Refusals
 pub mod Trying

@@ -3,6 +3,7 @@ pub mod Carried
 pub mod CarriedUpdates
 pub mod Changing
 pub mod Collecting
+pub mod Crossing
 pub mod Inserting
 pub mod KeyParts
 pub mod KeyRead

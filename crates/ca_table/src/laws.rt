@@ -1,6 +1,9 @@
 //! What follows from the definitions alone.
 ghost use Rattle.ca_table.specs.ComesTo.{SureAndAloneIsDone, SureAndAloneIsDoneFrom};
 
+use crate::table::Table;
+use ca_model::OrderedStore;
+
 /// Over a store that refuses nothing and that nobody else edits, each call of a table answers `Done` or `Err`.
 pub fn sure_and_alone_is_done()
     ensures { SureAndAloneIsDone }
@@ -10,3 +13,10 @@ pub fn sure_and_alone_is_done()
 pub fn sure_and_alone_is_done_from()
     ensures { SureAndAloneIsDoneFrom }
 {}
+
+/// A table may be handed to another thread where its store may.
+pub fn tables_cross<S: OrderedStore + Drop + Send>() {
+    may_cross::<Table<S>>();
+}
+
+fn may_cross<T: Send>() {}

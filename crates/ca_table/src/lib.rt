@@ -13,7 +13,7 @@ mod select;
 mod table;
 mod update;
 
-pub use laws::{sure_and_alone_is_done, sure_and_alone_is_done_from};
+pub use laws::{sure_and_alone_is_done, sure_and_alone_is_done_from, tables_cross};
 pub use listing::objects;
 pub use outcome::Played;
 pub use table::Table;
