@@ -174,9 +174,9 @@ fn read(alloc: Global, words: &[String]) -> Result<Option<CommandLine<'_>>, Allo
 ///
 /// The first word is `run`. Options follow, each at most once, as `--name value` or `--name=value`, with 1 to 10 decimal digits as the value:
 /// `--keypos` (1 to 120, else 1), `--seed` (0 to 2,147,483,647), `--clients` (1 to 64), `--lines` (1 to 20,000), and of the tree `--rows` (384 to
-/// 16,777,215), `--levels` (0 to 4,096), `--leaf` (2 to 120), and `--high`, `--low`, `--calm` and `--heat` (0 to 1,000,000), and `--shape`, which has no value. Then stand, perhaps behind
-/// the word `--`, 1 to 64 file words without `--seed`, `--clients` and `--lines`, or none with all three, and then `--keypos` is 1 or absent.
-/// Without `--` no file word begins with `-`, and no option follows a file word.
+/// 16,777,215), `--levels` (0 to 4,096), `--leaf` (2 to 120), `--high`, `--low`, `--calm` and `--heat` (0 to 1,000,000), and `--shape`, which has no value.
+/// Then stand, perhaps behind the word `--`, 1 to 64 file words without `--seed`, `--clients` and `--lines`, or none with all three, and then `--keypos` is 1
+/// or absent. Without `--` no file word begins with `-`, and no option follows a file word.
 pub fn command_line_of(
     alloc: Global,
     words: &[String],
