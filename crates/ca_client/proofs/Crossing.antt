@@ -1,9 +1,33 @@
--- Several threads may read a term at once.
-use denote.Param.Send.{IsSync, sendable}
+-- What threads are handed of clients, and what they read together.
+use denote.RattleType.{RattleType}
+use denote.Ref.{NamedLft}
+use denote.Param.Send.{IsSend, IsSync, sendable}
 use Rattle.std.proofs.Crossing.{crosses as of_std}
 use Rattle.std.proofs.string.String.TheSendSync as string
 use Rattle.ca_term.proofs.term.Term.TheLaws.TheKnot.{crosses as of_terms}
 use Rattle.ca_term.specs.contracts.term.Term as term
+use Rattle.ca_ets.proofs.Crossing.{term_send, terms_send}
+use Rattle.ca_model.specs.declared.store.OrderedStore.{Ghosts}
+use Rattle.ca_table.proofs.Crossing.{spec_send}
+use Rattle.ca_table.specs.contracts.table.Table as table
+use Rattle.ca_cmd.specs.contracts.answers.Answers as answers
+use Rattle.ca_cmd.specs.contracts.line.Lines as lines
+use Rattle.ca_client.specs.contracts.clients.Client as client
 
 pub term_sync : IsSync term.the_row
 term_sync = search (sendable, of_terms, of_std, string.the_sync) depth 30
+
+pub lines_sync : IsSync lines.the_row
+lines_sync = search (sendable, of_std, term_sync) depth 40
+
+pub answers_send : IsSend answers.the_row
+answers_send = search (sendable, of_std, term_send, terms_send) depth 40
+
+pub table_send : (T : RattleType) (g : Ghosts T.Denot) → IsSend T → IsSend (table.the_row T g)
+table_send T g s = search (sendable, of_std, spec_send) depth 40
+
+pub client_send : (a : NamedLft) (T : RattleType) (g : Ghosts T.Denot) → IsSend T → IsSend (client.the_row a T g)
+client_send a T g s = by (table_send T g s)
+  where
+    by : IsSend (table.the_row T g) → IsSend (client.the_row a T g)
+    by t = search (sendable, of_std, answers_send, lines_sync) depth 40

@@ -1,5 +1,5 @@
 -- What a client's commands come to over any store: what its log tells, and how its refusals are counted.
-use Rattle.std.specs.Prelude.{◌≡◌, ℕ, ◌+◌, ◌≤◌, List, [], ◌∷◌, ◌++◌, length, take, None, Ok, Err}
+use Rattle.std.specs.Prelude.{◌≡◌, ℕ, ◌+◌, ◌≤◌, List, [], ◌∷◌, ◌++◌, length, take, None, Some, Ok, Err}
 use Rattle.ca_ets.specs.Command.{Command, Continuation, Never, Answer, Full, Deep, Worn}
 use Rattle.ca_model.specs.Event.{Entry}
 use Rattle.ca_model.specs.History.{History, after}
@@ -88,3 +88,9 @@ pub record HasStopped (a b : Known) (commands : List Command) : Type 0 where
   pub reads : AreReads left
   pub learnt : History
   pub grown : HasGrown a b learnt (log_of parts ++ left)
+
+-- Where the log was empty before, it is that of the parts.
+abbrev pub LogsAreParts : Type 0
+LogsAreParts = (a b : Known) (commands : List Command) (answers : List Answer) (before behind : History) (log : List Entry)
+    (played : HasPlayed a b commands answers) → a.seen ≡ Some (record { history = before; log = [] })
+    → b.seen ≡ Some (record { history = behind; log = log }) → log ≡ log_of played.parts

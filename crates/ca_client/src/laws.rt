@@ -1,5 +1,12 @@
-//! What threads need of what a client is handed.
+//! What follows from the definitions alone, and what threads need of what a client is handed.
+ghost use Rattle.ca_client.specs.Played.{LogsAreParts};
+
 use ca_cmd::Lines;
+
+/// A client that played from an empty log has the log of its parts.
+pub fn logs_are_parts()
+    ensures { LogsAreParts }
+{}
 
 /// The lines of a client may be read by several threads at once.
 pub fn lines_are_shared() {

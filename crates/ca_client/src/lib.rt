@@ -1,12 +1,14 @@
 //! Clients that play command lines on a table.
 #![tactic(auto)]
 
+mod clients;
 mod gate;
 mod laws;
 mod playing;
 mod rendezvous;
 
+pub use clients::{Client, play_all};
 pub use gate::{Gate, OpenGate};
-pub use laws::lines_are_shared;
+pub use laws::{lines_are_shared, logs_are_parts};
 pub use playing::play;
 pub use rendezvous::Rendezvous;

@@ -1,0 +1,7 @@
+use denote.Exit.{yes}
+use denote.Param.Send.{param_send, arg_send}
+use Rattle.ca_client.proofs.Crossing.{client_send}
+use Rattle.ca_client.proofs.clients.play_all.Goals as goal
+
+pub for_each_mut-requires-send-T : goal.for_each_mut-requires-send-T
+for_each_mut-requires-send-T g c κs within = param_send 1 _ (arg_send _ yes _ (client_send _ _ g.S.OrderedStore c.type_bounds.send-S))

@@ -1,0 +1,58 @@
+//! Clients that play on threads, each on a table of its own.
+ghost use Rattle.std.specs.Prelude.{◌≡◌, length};
+ghost use Rattle.ca_client.specs.Clients.{IsBehind, HavePlayed};
+
+use crate::gate::Gate;
+use crate::playing::play;
+use ca_cmd::{Answers, Lines};
+use ca_model::OrderedStore;
+use ca_table::Table;
+use std::alloc::Global;
+use std::sync::Wait;
+use std::thread::{Threads, for_each_mut};
+
+// On how many threads clients play at most.
+const MOST_THREADS: usize = 64;
+
+/// A client: its number, counted from 1, its table, its lines, and its answers, once it has played. There are none where memory wasn't found.
+#[derive(Drop)]
+pub struct Client<'l, S: OrderedStore + Drop> {
+    pub number: u32,
+    pub table: Table<S>,
+    pub lines: &'l Lines,
+    pub answers: Option<Answers>,
+}
+
+impl<S: OrderedStore + Drop> Client<'_, S> {
+    // Plays its lines.
+    fn play<R: Wait, G: Gate>(&mut self, rt: &R, alloc: Global, gate: &G)
+        ensures { IsBehind self.old self.new }
+    {
+        let played = play(rt, alloc, self.number, &mut self.table, self.lines, gate);
+        self.answers = match played {
+            Ok(answers) => Some(answers),
+            Err(_) => None,
+        };
+    }
+}
+
+/// Plays the clients, each on a thread of its own as far as threads can be made, and else behind another one. One that finds no memory has no answers, and
+/// the others play to their ends.
+pub fn play_all<R: Threads + Wait + Sync, S: OrderedStore + Drop + Send, G: Gate + Sync>(
+    rt: &R,
+    alloc: Global,
+    clients: &mut [Client<'_, S>],
+    gate: &G,
+)
+    ensures same { length clients.new ≡ length clients.old }
+    ensures played { HavePlayed clients.old clients.new }
+{
+    for_each_mut(
+        rt,
+        clients,
+        MOST_THREADS,
+        &|_place, client: &mut Client<'_, S>|
+            ensures { IsBehind client.entry.now client.exit.now }
+        { client.play(rt, alloc, gate) },
+    );
+}
