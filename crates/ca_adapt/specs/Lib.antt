@@ -1,4 +1,5 @@
 pub mod Allowed
+pub mod Joins
 pub mod Splits
 pub mod Statistics
 pub mod Tuned

@@ -18,7 +18,7 @@ use ca_model::Spent;
 use ca_node::{Cursor, TreePass, TreeSpace};
 
 // The last value of an attempt to join what is under a route. No space is made with a greater one.
-const LAST_ATTEMPT: u64 = (1 << 62) - 1;
+pub(crate) const LAST_ATTEMPT: u64 = (1 << 62) - 1;
 
 /// Splits the base under the cursor, which was shown last and which no range has: a route takes its place, over two bases with its halves, whose
 /// statistic is 0. That is `NotSplit` with `OneObject` where it has fewer than two objects, with `AtLevel` where it stands at the last level, with

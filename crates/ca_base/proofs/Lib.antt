@@ -1,5 +1,7 @@
 pub mod Alone
 pub mod Behind
+pub mod CopiedRows
+pub mod CopyWords
 pub mod Counts
 pub mod Divisions
 pub mod Filling
@@ -23,6 +25,7 @@ pub mod Replacing
 pub mod Rest
 pub mod RouteWords
 pub mod Searching
+pub mod ShownWords
 pub mod Spelling
 pub mod SplitKeys
 pub mod TakingOut

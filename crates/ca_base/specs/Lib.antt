@@ -1,3 +1,4 @@
+pub mod Copied
 pub mod Counting
 pub mod Finding
 pub mod Holding

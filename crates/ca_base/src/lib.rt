@@ -3,6 +3,7 @@
 #![tactic(auto)]
 
 mod comparing;
+mod copies;
 mod copying;
 mod lending;
 mod place;
@@ -19,6 +20,7 @@ mod target;
 mod updating;
 mod writing;
 
+pub use copies::write_copy;
 pub use lending::retire_border;
 pub use place::search;
 pub use reading::{append, copy_object, count, item, statistic_word};

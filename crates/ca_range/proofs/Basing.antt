@@ -1,21 +1,12 @@
 -- Words of bases and of rows with a key that were shown.
 use Rattle.std.proofs.Common.{◌≡◌, ℕ, ◌<◌, ◌≤◌, List, get_or, refl, inl, inr, ⊎_elim, arith}
-use Rattle.ca_rows.specs.declared.sizes.Sizes.{Sizes}
 use Rattle.ca_node.specs.Marks.{IsMark, IsOfRange, IsOfJoin}
 use Rattle.ca_node.specs.Place.{Place}
 use Rattle.ca_node.specs.Row.{count, mark, mark_owner, IsUnmarked}
 use Rattle.ca_node.specs.Told.{IsShownWord}
-use Rattle.ca_node.specs.TreeView.{Note, Border, TreeView}
-use Rattle.ca_base.specs.Finding.{IsBaseShown}
+use Rattle.ca_node.specs.TreeView.{Border, TreeView}
+pub use Rattle.ca_base.proofs.ShownWords.{base_word, some_word}
 use Rattle.ca_range.specs.Reaching.{IsBorderShown, IsKeyShown}
-
--- A word of a base that was shown.
-pub base_word : (z : Sizes) (u : TreeView) (base index : ℕ) (note : Note) → IsBaseShown z u base note → IsShownWord u base index (get_or note.its index 0)
-base_word z u base index note s = (note.its, inl (note, s.noted, inl (s.here, refl)), refl)
-
--- Some word of it was shown.
-pub some_word : (z : Sizes) (u : TreeView) (base index : ℕ) → (note : Note) × IsBaseShown z u base note → (word : ℕ) × IsShownWord u base index word
-some_word z u base index s = (get_or s.0.its index 0, base_word z u base index s.0 s.1)
 
 -- A base that a range marked has the number of a pass in its mark.
 pub of_range : (place : Place) (its : List ℕ) → IsMark place its → mark its ≡ 1 → (0 < mark_owner its) × (mark_owner its ≤ 64)

@@ -1,53 +1,23 @@
 -- A copy that was written takes a base's place.
-use Rattle.std.proofs.Common.{◌≡◌, ℕ, ◌<◌, ◌≤◌, true, List, [], ◌∷◌, length, sym, refl, ap, ◌∙◌, subst, inl, inr, arith}
-use mathlib.Core.Option.{some, none}
-use Rattle.ca_node.specs.Copies.{Copy, IsCopy, IsCopied, IsNextCopy, copied, copy_note}
+use Rattle.std.proofs.Common.{◌≡◌, ℕ, ◌<◌, ◌≤◌, true, List, [], length, sym, refl, ap, ◌∙◌, subst, inl, inr}
+use mathlib.Core.Option.{some}
+use Rattle.ca_node.specs.Copies.{Copy, IsCopy, IsNextCopy, copied, copy_note}
 use Rattle.ca_base.specs.Finding.{IsBaseShown}
-use Rattle.ca_node.specs.Laws.{in_nothing}
 use Rattle.ca_node.specs.Links.{IsIn}
 use Rattle.ca_node.specs.Notes.{IsBaseNote}
 use Rattle.ca_node.specs.Row.{mark_owner, mark_number}
-use Rattle.ca_node.specs.Told.{MyTree, IsSettled, IsLastThere, given, taken_out, with_upper}
-use Rattle.ca_node.specs.TreeView.{KnownRanges, Note, Ranging, TreeView}
-use Rattle.ca_node.proofs.HeldRows.{given_fewer, taken_out_more}
+use Rattle.ca_node.specs.Told.{MyTree, IsSettled, IsLastThere, with_upper}
+use Rattle.ca_node.specs.TreeView.{Note, TreeView}
 use Rattle.ca_base.specs.Putting.{first_note, words_of}
-use Rattle.ca_base.specs.Taking.{AreHeld, HasUnlinked, AreUnlinked, lent_of}
+pub use Rattle.ca_base.proofs.CopiedRows.{copied_rows, shown_still}
 use Rattle.ca_base.proofs.Rebasing.{last_there}
-use Rattle.ca_base.proofs.Rest.{is_one}
-use Rattle.ca_base.proofs.Unlinking.{few_at_once, unlinked_then}
 use Rattle.ca_rows.specs.Claims.{claim_of}
-use Rattle.ca_rows.specs.declared.kept.KeptRows.{KeptRows}
 use Rattle.ca_rows.specs.declared.sizes.Sizes.{Sizes}
 use Rattle.ca_rows.specs.declared.view.Claim.TheVariants.{Holds}
 use Rattle.ca_rows.specs.declared.view.Pin.{Pin}
 use Rattle.ca_range.specs.Copying.{SpellsCopy}
 use Rattle.ca_range.specs.Marked.{IsMarkedNow, IsNextTo, copy_of, second_note}
 use Rattle.ca_range.specs.declared.copying.Mark.{Mark}
-
--- The base that was shown last was shown still, where the same is known of the tree.
-pub shown_still : (z : Sizes) (m m' : MyTree) (base : ℕ) → m'.0.upper ≡ m.0.upper → IsBaseShown z m.0.upper base (first_note m.0.upper.notes)
-    → IsBaseShown z m'.0.upper base (first_note m.0.upper.notes)
-shown_still z m m' base same shown = subst (λ (u : TreeView). IsBaseShown z u base (first_note m.0.upper.notes)) (sym same) shown
-
--- After the exchange the old base is unlinked, and the pass has no other row.
-pub copied_rows : (rows : ℕ) (kept kept' : KeptRows) (m m' : MyTree) (ranges : KnownRanges) (new : ℕ) (x : Copy) (base : ℕ) → x.old.row ≡ base
-    → ranges.own ≡ m.0.upper.ranges.own → IsCopied [] ranges new x m m' → kept' ≡ kept → AreHeld rows kept.rows m.0 (new ∷ []) → AreUnlinked rows kept'.rows m'.0 (base ∷ [])
-copied_rows rows kept kept' m m' ranges new x base same own d too h =
-    let comes : List ℕ = new ∷ [] in let goes : List ℕ = x.old.row ∷ [] in
-    let then = unlinked_then rows kept.rows m.0.claims (lent_of m.0.upper.ranges.own) comes goes h.0
-    (λ r i. subst (λ (y : ℕ). claim_of m.0.claims y ≡ none) (is_one r x.old.row i) d.unclaimed) in
-    let came = given_fewer comes m.0.claims (in_nothing new [] refl, tt) (λ r i. let own = (h.0.each r i).2 in (own.0, own.2)) in
-    let went = taken_out_more goes (given comes m.0.claims) in
-    let before = h.1.now in let ever = h.1.ever in
-    let now = subst (λ (y : MyTree × KeptRows). AreUnlinked rows y.1.rows y.0.0 goes)
-    (λ i. (sym d.now i, sym too i)) (
-      subst (λ (r : Ranging). HasUnlinked rows kept.rows (taken_out goes (given comes m.0.claims)) (lent_of r) goes) (sym own) then,
-      record {
-        now = omega arith;
-        ever = few_at_once goes (given comes m.0.claims) m.0.most ever (omega arith);
-      },
-    ) in
-    subst (λ (y : ℕ). AreUnlinked rows kept'.rows m'.0 (y ∷ [])) same now
 
 module _ (z : Sizes) (m0 m : MyTree) (row base : ℕ) (its : List ℕ) (mark : Mark) (upper : m.0.upper ≡ m0.0.upper)
     (has : claim_of m.0.claims row ≡ some (Holds its)) (spells : SpellsCopy (first_note m0.0.upper.notes) mark its) where

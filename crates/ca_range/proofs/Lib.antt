@@ -26,7 +26,6 @@ pub mod OwnTaken
 pub mod Ranking
 pub mod Readied
 pub mod SnapshotSteps
-pub mod Spelled
 pub mod Spends
 pub mod Stepping
 pub mod Unjoined

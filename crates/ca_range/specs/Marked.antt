@@ -1,16 +1,15 @@
 -- A base is marked as the next one of a range.
 use Rattle.std.specs.Prelude.{◌≡◌, ℕ, List, [], ◌∷◌, Result, Ok, Err, slice_index}
 use Rattle.ca_model.specs.Edges.{Excluded}
-use Rattle.ca_base.specs.Putting.{first_note, stopped, words_of}
+pub use Rattle.ca_base.specs.Copied.{copy_of, HasPut}
+use Rattle.ca_base.specs.Putting.{first_note, stopped}
 use Rattle.ca_base.specs.declared.stop.Stop.{Stop}
 use Rattle.ca_node.specs.Copies.{Copy, copied, copy_note}
 use Rattle.ca_node.specs.Links.{IsIn}
 use Rattle.ca_node.specs.Notes.{IsBaseNote}
 use Rattle.ca_node.specs.Place.{HasKey}
-use Rattle.ca_node.specs.Row.{mark_back, mark_bound, mark_number, mark_owner, IsMarkedBy}
-use Rattle.ca_node.specs.Told.{MyTree}
+use Rattle.ca_node.specs.Row.{mark_back, mark_bound, IsMarkedBy}
 use Rattle.ca_node.specs.TreeView.{Note, TreeView, no_note}
-use Rattle.ca_rows.specs.Claims.{claim_of}
 use Rattle.ca_rows.specs.declared.sizes.Sizes.{Sizes}
 use Rattle.ca_range.specs.declared.copying.Mark.{Mark}
 
@@ -18,15 +17,6 @@ use Rattle.ca_range.specs.declared.copying.Mark.{Mark}
 abbrev pub second_note : List Note → Note
 second_note [] = no_note
 second_note (note ∷ notes) = first_note notes
-
--- the copy that a seat wrote to this row, of the base that it was shown last
-abbrev pub copy_of : MyTree → ℕ → Copy
-copy_of m row = record {
-  old = first_note m.0.upper.notes;
-  its = words_of (claim_of m.0.claims row);
-  pass = mark_owner (words_of (claim_of m.0.claims row));
-  number = mark_number (words_of (claim_of m.0.claims row));
-}
 
 -- The base is the next one behind this one, which was shown, too, and which the range marked.
 pub record IsNextTo (u : TreeView) (mark : Mark) (left note : Note) : Type 0 where
@@ -53,8 +43,3 @@ pub record IsMarkedNow (z : Sizes) (note : Note) (mark : Mark) (row : ℕ) (u v 
 abbrev pub HasMarked : Sizes → Note → Mark → Result ℕ Stop → TreeView → TreeView → Type 0
 HasMarked z note mark (Ok row) u v = IsMarkedNow z note mark row u v
 HasMarked z note mark (Err why) u v = v ≡ stopped why u
-
--- The copy took the base's place, or it came to nothing.
-abbrev pub HasPut : Copy → ℕ → Result (Unit {0}) Stop → TreeView → TreeView → Type 0
-HasPut copy row (Ok x) u v = v ≡ copied [] u.ranges row copy u
-HasPut copy row (Err why) u v = v ≡ stopped why u

@@ -1,5 +1,6 @@
 mod Alike
 mod Numbers
 mod Opened
+mod Prepared
 mod SampleObjects
 mod Taking

@@ -16,6 +16,8 @@ mod drawing;
 #[cfg(test)]
 mod events;
 #[cfg(test)]
+mod joins;
+#[cfg(test)]
 mod leaves;
 #[cfg(test)]
 mod marked;

@@ -46,7 +46,8 @@ pub(crate) fn tree_of(
     tuning: Tuning,
     starts: Starts,
 ) -> Result<Tree, TreeFault>
-    ensures { IfOk result (λ tree. tree.space.sizes.keypos ≡ 1) }
+    ensures keypos { IfOk result (λ tree. tree.space.sizes.keypos ≡ 1) }
+    ensures passes { IfOk result (λ tree. tree.space.sizes.passes ≡ passes) }
 {
     Tree::new(alloc, rows, passes, 1, tuning, starts)
 }

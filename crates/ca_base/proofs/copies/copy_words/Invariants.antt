@@ -2,7 +2,7 @@ use Rattle.std.proofs.Common.{◌≡◌, ◌+◌, get_or}
 use Rattle.ca_base.proofs.Filling.{IsFilling}
 use Rattle.ca_base.specs.Finding.{IsBaseShown}
 use Rattle.ca_node.specs.TreeView.{Note}
-use Rattle.ca_range.proofs.copying.copy_words.Given as goal
+use Rattle.ca_base.proofs.copies.copy_words.Given as goal
 
 abbrev pub invariant-loop-place : goal.invariant-loop-place
 invariant-loop-place l = record {

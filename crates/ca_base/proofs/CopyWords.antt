@@ -1,5 +1,5 @@
 -- What a row spells that a copy of a base was written to.
-use Rattle.std.proofs.Common.{◌≡◌, ℕ, ◌+◌, ◌-◌, ◌/◌, ◌%◌, ◌<◌, ◌≤◌, List, [], ◌∷◌, length, map, take, drop, get_or, sym, ap, ◌∙◌, subst, arith, length-drop}
+use Rattle.std.proofs.Common.{◌≡◌, ℕ, ◌+◌, ◌-◌, ◌/◌, ◌%◌, ◌<◌, ◌≤◌, List, [], ◌∷◌, zero, suc, length, map, take, drop, get_or, sym, ap, ◌∙◌, subst, arith, length-drop}
 use Rattle.std.proofs.lemmas.List.{get_or-take, get_or-drop, length-take-le}
 use Rattle.std.proofs.lemmas.Grind.{same_number_lists}
 use Rattle.ca_rows.specs.declared.sizes.Sizes.{Sizes}
@@ -9,8 +9,7 @@ use Rattle.ca_node.specs.Notes.{IsBaseNote}
 use Rattle.ca_node.specs.Row.{bytes_in, count, head_in, head_of, row_in, item_words, key, prefix_length, prefix_words, IsHeaded}
 use Rattle.ca_node.specs.TreeView.{Note}
 use Rattle.ca_base.specs.Writing.{IsFilled}
-use Rattle.ca_range.specs.Copying.{SpellsCopy}
-use Rattle.ca_range.specs.declared.copying.Mark.{Mark}
+use Rattle.ca_base.specs.Copied.{SpellsCopy}
 
 -- A base is headed as another one that has the same prefix, and the same words for its items.
 headed_as : (old new : List ℕ) (objects : List (List ℕ)) → prefix_length new ≡ prefix_length old → prefix_words new ≡ prefix_words old
@@ -34,30 +33,39 @@ same_part from many old new long long' inside same =
     get_or-take many (drop from new) k 0 low ∙ (get_or-drop from new k 0 ∙ (same (from + k) (omega arith) (omega arith)
     ∙ sym (get_or-take many (drop from old) k 0 low ∙ get_or-drop from old k 0))))
 
+-- the first words of a row, by its first one and those behind that
+abbrev pub front_words : ℕ → List ℕ → List ℕ
+front_words form words = form ∷ get_or words 0 0 ∷ get_or words 1 0 ∷ get_or words 2 0 ∷ get_or words 3 0 ∷ get_or words 4 0 ∷ get_or words 5 0 ∷ []
+
 -- The first words were written, and then those behind the mark.
-pub spells_copy : (z : Sizes) (note : Note) (mark : Mark) (form owner back bound : ℕ) (its one new : List ℕ) → z.leaf ≤ 120 → IsBaseNote z note
-    → form ≡ get_or note.its 0 0 → owner ≡ mark.range.owner → back ≡ mark.back → bound ≡ mark.bound → length its ≡ row_words
-    → IsFilled 0 7 (λ k word. word ≡ get_or (form ∷ mark.statistic ∷ 1 ∷ owner ∷ mark.range.number ∷ back ∷ bound ∷ []) k 0) its one
-    → IsFilled 7 (4 + form % 65536) (λ k word. word ≡ get_or note.its (7 + k) 0) one new → SpellsCopy note mark new
-spells_copy z note mark form owner back bound its one new leaf is form_is owner_is back_is bound_is long f g = record {
+pub spells_copy : (z : Sizes) (note : Note) (words : List ℕ) (form : ℕ) (its one new : List ℕ) → z.leaf ≤ 120 → IsBaseNote z note
+    → form ≡ get_or note.its 0 0 → length its ≡ row_words
+    → IsFilled 0 7 (λ k word. word ≡ get_or (front_words form words) k 0) its one
+    → IsFilled 7 (4 + form % 65536) (λ k word. word ≡ get_or note.its (7 + k) 0) one new → SpellsCopy note words new
+spells_copy z note words form its one new leaf is form_is long f g = record {
   long = whole;
   is_base = ap (λ (n : ℕ). n / form_unit) zeroth ∙ is.is_base;
   level_is = ap (λ (n : ℕ). n / 65536 % 65536) zeroth;
   count_is = many;
   items_are = ap (λ (ws : List ℕ). map row_in ws) same_items;
   headed = headed_as note.its new note.objects (ap (λ (n : ℕ). n / 4294967296 % 16777216) zeroth) same_prefix same_items is.headed;
-  statistic_is = first 1 (omega arith);
-  marked = (first 2 (omega arith), first 3 (omega arith) ∙ owner_is, first 4 (omega arith));
-  back_is = first 5 (omega arith) ∙ back_is;
-  bound_is = first 6 (omega arith) ∙ bound_is;
+  words_are = words_are;
 }
   where
     whole : length new ≡ row_words
     whole = g.long ∙ (f.long ∙ long)
 
-    first : (k : ℕ) → k < 7 → get_or new k 0 ≡ get_or (form ∷ mark.statistic ∷ 1 ∷ owner ∷ mark.range.number ∷ back ∷ bound ∷ []) k 0
-    first k l = let none : 0 + k ≡ k = omega arith in g.before k l
-        ∙ subst (λ (i : ℕ). get_or one i 0 ≡ get_or (form ∷ mark.statistic ∷ 1 ∷ owner ∷ mark.range.number ∷ back ∷ bound ∷ []) k 0) none (f.inside k l)
+    first : (k : ℕ) → k < 7 → get_or new k 0 ≡ get_or (front_words form words) k 0
+    first k l = let none : 0 + k ≡ k = omega arith in g.before k l ∙ subst (λ (i : ℕ). get_or one i 0 ≡ get_or (front_words form words) k 0) none (f.inside k l)
+
+    words_are : (k : ℕ) → k < 6 → get_or new (1 + k) 0 ≡ get_or words k 0
+    words_are zero l = first 1 (omega arith)
+    words_are (suc zero) l = first 2 (omega arith)
+    words_are (suc (suc zero)) l = first 3 (omega arith)
+    words_are (suc (suc (suc zero))) l = first 4 (omega arith)
+    words_are (suc (suc (suc (suc zero)))) l = first 5 (omega arith)
+    words_are (suc (suc (suc (suc (suc zero))))) l = first 6 (omega arith)
+    words_are (suc (suc (suc (suc (suc (suc k)))))) l = absurd (omega arith)
 
     zeroth : get_or new 0 0 ≡ get_or note.its 0 0
     zeroth = first 0 (omega arith) ∙ form_is

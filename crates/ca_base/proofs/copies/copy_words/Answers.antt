@@ -5,8 +5,8 @@ use Rattle.ca_base.proofs.Filling.{begins, goes_on_behind}
 use Rattle.ca_node.specs.Told.{MyTree, IsShownWord}
 use Rattle.ca_node.specs.TreeView.{TreeView}
 use Rattle.ca_rows.specs.declared.view.Pin.{Pin}
-use Rattle.ca_range.proofs.Basing.{base_word, some_word}
-use Rattle.ca_range.proofs.copying.copy_words.Goals as goal
+use Rattle.ca_base.proofs.ShownWords.{base_word, some_word}
+use Rattle.ca_base.proofs.copies.copy_words.Goals as goal
 
 pub loop-place-init : goal.loop-place-init
 loop-place-init c = record {
