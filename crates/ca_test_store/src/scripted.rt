@@ -35,6 +35,8 @@ pub struct Scripted {
     made: usize,
     // others' edits behind the state of the open run: they are known, and made in `objects` once the run is ended
     waiting: Vec<Foreign>,
+    // the budget of the last call that took a turn
+    last_budget: u32,
 }
 
 impl Model for Scripted {
@@ -72,6 +74,7 @@ impl Scripted {
             spare: 0,
             made: 0,
             waiting: Vec::new(alloc),
+            last_budget: 0,
         }
     }
 
@@ -81,6 +84,11 @@ impl Scripted {
         ensures range { (1 ≤ result) × (result ≤ MOST_ELEMENTS) }
     {
         self.objects.keypos()
+    }
+
+    /// The budget of the last call that took a turn; 0 where none did. Contracts don't tell it.
+    pub fn last_budget(&self) -> u32 {
+        self.last_budget
     }
 
     /// Adds a turn behind the others, and makes room for its edits. Without memory for them the script stays as it is.
@@ -113,6 +121,7 @@ impl Scripted {
         ensures begins { IfOk result (λ turn. Begins self.old self.new asked turn) }
         ensures refuses { IfErr result (λ refusal. Refuses self.old self.new asked budget refusal) }
     {
+        self.last_budget = budget;
         let turn = take_turn(&mut self.turns, self.alloc);
         inner::make(&mut self.objects, turn.before());
         let Some(refusal) = turn.refusal_at(asked) else {

@@ -1,0 +1,14 @@
+//! Tests of clients that play command lines, and nothing else: over a store that refuses calls by a script, over a tree, on threads, and
+//! with gates.
+#![tactic(auto)]
+
+#[cfg(test)]
+mod files;
+#[cfg(test)]
+mod gates;
+#[cfg(test)]
+mod meeting;
+#[cfg(test)]
+mod refusals;
+#[cfg(test)]
+mod trees;
