@@ -1,4 +1,4 @@
-//! Tests of clients that play command lines, and nothing else: over a store that refuses calls by a script, over a tree, on threads, and
+//! Tests of clients that play command lines, and nothing else: over a store that refuses calls by a script, on threads, and
 //! with gates.
 #![tactic(auto)]
 
@@ -10,5 +10,3 @@ mod gates;
 mod meeting;
 #[cfg(test)]
 mod refusals;
-#[cfg(test)]
-mod trees;
