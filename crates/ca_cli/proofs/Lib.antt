@@ -1,7 +1,6 @@
 pub mod Accepted
-pub mod Answered
+pub mod Bounded
 pub mod Firsts
-pub mod InTurn
+pub mod Left
+pub mod Made
 pub mod Outcomes
-pub mod Playing
-pub mod Summed

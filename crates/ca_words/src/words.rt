@@ -2,7 +2,7 @@
 ghost use Rattle.std.specs.Prelude.{◌≡◌, ◌≤◌, IfOk, IfSome, Some, false, length, map, not, option_map};
 ghost use Rattle.std.specs.List.{list_all};
 ghost use Rattle.std.specs.String.{string_bytes};
-ghost use Rattle.ca_words.specs.Grammar.{IsLine, IsLineOf, IsWithin, Request as Asked, are_undashed, begins_with_dash, no_tree};
+ghost use Rattle.ca_words.specs.Grammar.{IsBounded, IsLine, IsLineOf, IsWithin, Request as Asked, are_undashed, begins_with_dash, no_tree};
 ghost use Rattle.ca_words.specs.declared.tree.TreeOptions.{TreeOptions};
 ghost use Rattle.ca_words.specs.Words.{asking_in, has_equals, is_option, line_behind, line_of, line_with, names_in, options_end, request_in, request_with, texts_of};
 
@@ -185,6 +185,7 @@ pub fn command_line_of(
         → IsLineOf (map string_bytes words.now) request tree) }
     ensures complete { IfOk result (λ r. (request : Asked) (tree : TreeOptions) → IsLineOf (map string_bytes words.now) request tree
         → option_map asking_in r ≡ Some (request, tree)) }
+    ensures bounded { IfOk result (λ r. IfSome r (λ line. IsBounded (request_in line.request))) }
     ensures within { IfOk result (λ r. IfSome r (λ line. IsWithin line.tree)) }
 {
     read(alloc, words)
