@@ -1,6 +1,7 @@
 pub mod Call
 pub mod Headline
 pub mod InTurn
+pub mod Opening
 pub mod Outcome
 pub mod Played
 pub mod Reading

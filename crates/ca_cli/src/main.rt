@@ -9,6 +9,7 @@ mod answer;
 mod explain;
 mod files;
 mod message;
+mod opening;
 mod play;
 mod status;
 mod summary;
