@@ -4,6 +4,7 @@ pub mod Causes
 pub mod Complete
 pub mod Headline
 pub mod Kept
+pub mod Opening
 pub mod Printed
 pub mod Reading
 pub mod Run

@@ -12,6 +12,7 @@ mod lines;
 #[cfg(test)]
 mod meeting;
 mod message;
+mod opening;
 mod printed;
 mod status;
 mod stub;
