@@ -1,12 +1,11 @@
 -- What the bounds of a request bound.
-use Rattle.std.proofs.Common.{◌≡◌, ℕ, suc, ◌≤◌, List, [], ◌∷◌, length, refl, sym, ◌∙◌, ap, subst, arith}
+use Rattle.std.proofs.Common.{◌≡◌, ℕ, suc, ◌≤◌, List, [], ◌∷◌, length, refl, ◌∙◌, ap, arith}
 use Rattle.ca_outside.specs.Fetches.{Fetched}
 use Rattle.ca_outside.specs.Known.{Content}
 use Rattle.ca_cmd.specs.File.{Numbered}
 use Rattle.ca_words.specs.Grammar.{Request, Files, Generated, IsBounded}
 use Rattle.ca_cli.specs.Accepted.{AreLinesOf, ArePairs}
 use Rattle.ca_cli.specs.Call.{Change}
-use Rattle.ca_cli.specs.Printed.{keypos_of}
 use Rattle.ca_cli.proofs.Made.{made_length}
 
 pairs_length : {X Y : Type 0} (R : X → Y → Type 0) (xs : List X) (ys : List Y) → ArePairs R xs ys → length ys ≡ length xs
@@ -25,8 +24,3 @@ clients_bounded content shelf (Files keypos names) lines b read =
 clients_bounded content shelf (Generated seed clients count) lines b made =
     let same : length lines ≡ clients = ap (λ (l : List (List Numbered)). length l) made.0 ∙ made_length seed count 1 clients in
     (omega (arith, b.0, same), omega (arith, b.1, same))
-
--- The place of the key is within its bounds.
-pub keypos_bounded : (request : Request) → IsBounded request → (1 ≤ keypos_of request) × (keypos_of request ≤ 120)
-keypos_bounded (Files keypos names) b = (b.0, b.1)
-keypos_bounded (Generated seed clients count) b = (omega arith, omega arith)

@@ -1,6 +1,5 @@
 pub mod Accepted
 pub mod Bounded
+pub mod Explained
 pub mod Firsts
-pub mod Left
 pub mod Made
-pub mod Outcomes

@@ -5,7 +5,7 @@ use Rattle.ca_cli.specs.Causes.{IsCause}
 use Rattle.ca_cli.specs.Run.{HasPlayed}
 use Rattle.ca_cli.specs.StatusText.{text_of_status}
 use Rattle.ca_cli.specs.Written.{IsCutOff}
-use Rattle.ca_cli.specs.declared.stub.Ran.{Ran}
+use Rattle.ca_client.specs.declared.running.Ran.{Ran}
 use Rattle.ca_cli.specs.declared.status.Status.{Status}
 use Rattle.ca_cli.specs.declared.status.Status.TheVariants.{Done, Usage, ShelfFault, SinkFault, BadLine, NoMemory, TooLong}
 

@@ -9,6 +9,5 @@ pub mod Printed
 pub mod Reading
 pub mod Run
 pub mod StatusText
-pub mod Stub
 pub mod Summary
 pub mod Written

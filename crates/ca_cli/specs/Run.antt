@@ -6,9 +6,10 @@ use Rattle.ca_words.specs.declared.tree.TreeOptions.{TreeOptions}
 use Rattle.ca_cli.specs.Call.{Call}
 use Rattle.ca_cli.specs.Accepted.{IsAccepted}
 use Rattle.ca_cli.specs.Printed.{keypos_of, shape_text, text_of}
-use Rattle.ca_cli.specs.Stub.{HasRun, IsOpened, all_answers_of}
-use Rattle.ca_cli.specs.declared.stub.Ran.{Ran}
-use Rattle.ca_cli.specs.declared.stub.Tree.{Tree}
+use Rattle.ca_client.specs.Ran.{HasRun, all_answers_of}
+use Rattle.ca_cli.specs.Opening.{IsOpened}
+use Rattle.ca_client.specs.declared.running.Ran.{Ran}
+use Rattle.ca_replace.specs.declared.tree.Tree.{Tree}
 
 -- these bytes tell of the run: of its answers and its table, and of the shape that it left, where that is asked for
 abbrev pub text_of_ran : Request → TreeOptions → List (List Numbered) → Ran → List ℕ

@@ -4,7 +4,7 @@ use Rattle.ca_cli.specs.Call.{Call, Change, Adds, HasFailed}
 use Rattle.ca_cli.specs.Causes.{IsCause}
 use Rattle.ca_cli.specs.Run.{HasPlayed}
 use Rattle.ca_cli.specs.StatusText.{text_of_status}
-use Rattle.ca_cli.specs.declared.stub.Ran.{Ran}
+use Rattle.ca_client.specs.declared.running.Ran.{Ran}
 use Rattle.ca_cli.specs.declared.status.Status.{Status}
 use Rattle.ca_cli.specs.declared.status.Status.TheVariants.{Done, SinkFault}
 

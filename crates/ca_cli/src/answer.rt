@@ -3,7 +3,7 @@ ghost use Rattle.std.specs.Prelude.{◌≡◌, ◌++◌, map, OnOk};
 ghost use Rattle.ca_cmd.specs.Answers.{answers_of};
 ghost use Rattle.ca_cmd.specs.Lines.{numbered};
 ghost use Rattle.ca_cmd.specs.Output.{answer_lines, client_lines, table_text, text_of_run};
-ghost use Rattle.ca_cli.specs.Stub.{all_answers_of};
+ghost use Rattle.ca_client.specs.Ran.{all_answers_of};
 
 use ca_cmd::{Answer, Answers, Line, Lines, show_answer, show_client, show_table};
 use ca_term::Term;

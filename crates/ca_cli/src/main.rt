@@ -15,14 +15,13 @@ mod message;
 mod opening;
 mod printed;
 mod status;
-mod stub;
 mod summary;
 mod top;
 
 use crate::explain::tell;
 use crate::status::{Status, finish};
 use crate::top::run;
-use crate::stub::OpenGate;
+use ca_client::OpenGate;
 use ca_outside::{DirShelf, OutSink};
 use std::process::ExitCode;
 use std::{env, io};

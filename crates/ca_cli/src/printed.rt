@@ -4,10 +4,10 @@ ghost use Rattle.ca_cmd.specs.Lines.{numbered};
 ghost use Rattle.ca_words.specs.Words.{request_in};
 ghost use Rattle.ca_cli.specs.Printed.{keypos_of, shape_if, shape_line, text_of};
 ghost use Rattle.ca_cli.specs.Run.{text_of_ran};
-ghost use Rattle.ca_cli.specs.Stub.{all_answers_of};
+ghost use Rattle.ca_client.specs.Ran.{all_answers_of};
 
 use crate::answer::put_run;
-use crate::stub::Ran;
+use ca_client::Ran;
 use crate::summary::{put_number_line, put_summary};
 use ca_cmd::Lines;
 use ca_text::{put, put_number};

@@ -1,7 +1,7 @@
 //! What is printed of runs of lines that are made from a seed.
 ghost use Rattle.std.specs.Prelude.{◌≡◌, [], ◌∷◌, ◌++◌, codes, sum_by, OnOk};
 ghost use Rattle.ca_cmd.specs.Answers.{answer_of, answers_of};
-ghost use Rattle.ca_cli.specs.Stub.{all_answers_of};
+ghost use Rattle.ca_client.specs.Ran.{all_answers_of};
 ghost use Rattle.ca_cli.specs.Summary.{generated_line, integer_of, number_line, refusals, second_in, second_of, sum_line, sum_of, summary_text};
 
 use ca_cmd::{Answer, Answers};

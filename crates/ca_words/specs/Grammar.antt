@@ -176,7 +176,3 @@ pub data IsLineOf : List (List ℕ) → Request → TreeOptions → Type 0 where
       → IsAsked given names request → IsLineOf (codes "run" ∷ (options ++ names)) request given.tree
   WithParting : (options names : List (List ℕ)) (given : Values) (request : Request) → AreOptions options given
       → IsAsked given names request → IsLineOf (codes "run" ∷ (options ++ codes "--" ∷ names)) request given.tree
-
--- The same of a line that says nothing of the tree.
-abbrev pub IsLine : List (List ℕ) → Request → Type 0
-IsLine words request = IsLineOf words request no_tree

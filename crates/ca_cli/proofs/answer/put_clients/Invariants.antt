@@ -1,7 +1,7 @@
 use Rattle.std.proofs.Common.{◌≡◌, ◌+◌, ◌++◌, drop, map}
 use Rattle.ca_cmd.specs.Lines.{numbered}
 use Rattle.ca_cmd.specs.Output.{client_lines}
-use Rattle.ca_cli.specs.Stub.{all_answers_of}
+use Rattle.ca_client.specs.Ran.{all_answers_of}
 use Rattle.ca_cli.proofs.answer.put_clients.Given as goal
 
 -- the clients so far, and those that are left

@@ -1,6 +1,6 @@
 use Rattle.std.proofs.Common.{◌≡◌, ◌+◌, ◌*◌, ◌≤◌, drop}
 use Rattle.std.specs.Prelude.{sum_by}
-use Rattle.ca_cli.specs.Stub.{all_answers_of}
+use Rattle.ca_client.specs.Ran.{all_answers_of}
 use Rattle.ca_cli.specs.Summary.{refusals}
 use Rattle.ca_cli.proofs.summary.all_refusals.Given as goal
 

@@ -1,5 +1,5 @@
 use Rattle.std.proofs.Common.{refl, inr}
-use Rattle.ca_cli.proofs.Left.{headline_whole}
+use Rattle.ca_cli.proofs.Explained.{headline_whole}
 use Rattle.ca_cli.proofs.top.run.Goals as goal
 
 pub returns-in-Ok-clause-headline : goal.returns-in-Ok-clause-headline
