@@ -1,9 +1,11 @@
 //! Clients that share a tree: from their lines to their answers and the final table.
-ghost use Rattle.std.specs.Prelude.{◌≡◌, ◌×◌, ◌≤◌, IfOk, OnOk, length, map, vec_len};
+ghost use Rattle.std.specs.Prelude.{◌≡◌, ℕ, ◌≤◌, IfOk, IfSome, OnOk, length, map, vec_len};
 ghost use Rattle.ca_cmd.specs.File.{commands_in};
 ghost use Rattle.ca_cmd.specs.Lines.{numbered};
 ghost use Rattle.ca_client.specs.Ran.{HasRun};
-ghost use Rattle.ca_client.specs.Sharing.{AreNew, AreParts, AreReady};
+ghost use Rattle.ca_node.specs.Tallied.{IsTallied};
+ghost use Rattle.ca_node.specs.TreePasses.{tree_of};
+ghost use Rattle.ca_client.specs.Sharing.{AreLeft, AreNew, AreReady, IsNew, IsPart, IsReady};
 
 use crate::clients::{Client, play_all};
 use crate::gate::Gate;
@@ -48,7 +50,7 @@ fn enroll_all(alloc: Global, tree: &mut Tree, count: usize) -> Result<Vec<TreePa
         × AreNew tree.new.space.table.shared.table_id tree.new.space.table.shared.key 1 passes.items) }
 {
     let mut passes = Vec::with_capacity(alloc, count)?;
-    for _ in 0..count {
+    while passes.len() < count {
         let Ok(pass) = tree.enroll(alloc) else {
             return Err(AllocError);
         };
@@ -80,13 +82,18 @@ fn clients_of<'t, 'l>(
     Ok(clients)
 }
 
-// The client of a pass that plays these lines.
+// The client that plays these lines by a pass of its own.
 fn client_on<'t, 'l>(
     tree: &'t Tree,
     keypos: u32,
     pass: TreePass,
     lines: &'l Lines,
-) -> Client<'l, TreeStore<'t>> {
+) -> Client<'l, TreeStore<'t>>
+    requires keypos { (keypos ≡ tree.now.space.table.shared.key.keypos) × (1 ≤ keypos) }
+    requires pass { (number : ℕ) × IsNew tree.now.space.table.shared.table_id tree.now.space.table.shared.key number pass }
+    ensures { (number : ℕ) → IsNew tree.now.space.table.shared.table_id tree.now.space.table.shared.key number pass
+        → IsReady tree.now.space.table.shared.table_id tree.now.space.table.shared.key number lines.now result }
+{
     Client {
         number: pass.number(),
         table: Table::new(TreeStore::new(tree, pass), keypos),
@@ -95,29 +102,41 @@ fn client_on<'t, 'l>(
     }
 }
 
+// What a client that played leaves: its answers and its pass. There is nothing where it found no memory.
+fn part_of(client: Client<'_, TreeStore<'_>>) -> Option<(Answers, TreePass)>
+    ensures { IfSome result (λ part. IsPart client.entry part.0 part.1 × IsTallied part.1.tally (tree_of part.1)) }
+{
+    let answers = client.answers?;
+    Some((answers, client.table.into_store().into_pass()))
+}
+
 // What clients that played leave. `Err` where one of them found no memory.
 fn parts_of(
     alloc: Global,
     clients: Vec<Client<'_, TreeStore<'_>>>,
-) -> Result<Parts, AllocError> {
-    let mut parts = Parts {
-        answers: Vec::with_capacity(alloc, clients.len())?,
-        passes: Vec::with_capacity(alloc, clients.len())?,
-        splits: 0,
-        joins: 0,
-    };
+) -> Result<Parts, AllocError>
+    ensures { IfOk result (λ parts. AreLeft clients.entry.items parts) }
+{
+    let mut all = Vec::with_capacity(alloc, clients.len())?;
+    let mut passes = Vec::with_capacity(alloc, clients.len())?;
+    let mut splits = 0_u64;
+    let mut joins = 0_u64;
     for client in clients {
-        let Some(answers) = client.answers else {
+        let Some((answers, pass)) = part_of(client) else {
             return Err(AllocError);
         };
-        let pass = client.table.into_store().into_pass();
-        let (splits, joins) = adapted(&pass);
-        parts.answers.push_reserved(answers);
-        parts.passes.push_reserved(pass);
-        parts.splits = parts.splits.saturating_add(splits);
-        parts.joins = parts.joins.saturating_add(joins);
+        let (splits_more, joins_more) = adapted(&pass);
+        splits = splits.saturating_add(splits_more);
+        joins = joins.saturating_add(joins_more);
+        all.push_reserved(answers);
+        passes.push_reserved(pass);
     }
-    Ok(parts)
+    Ok(Parts {
+        answers: all,
+        passes,
+        splits,
+        joins,
+    })
 }
 
 /// Plays a client for each file on the tree, each by a pass of its own, on threads as `play_all` has it; closes the tree, and gives back the clients'
