@@ -57,6 +57,49 @@ pub(crate) fn say_request(alloc: Global, text: &[u8], into: &mut Vec<u8>) {
     }
 }
 
+fn say_word(word: &[u8], arguments: &[&Term], into: &mut Vec<u8>) {
+    say(word, into);
+    for argument in arguments {
+        say(b" ", into);
+        say_term(argument, into);
+    }
+}
+
+fn say_command(cmd: &Cmd, into: &mut Vec<u8>) {
+    match cmd {
+        Cmd::Insert(object) => say_word(b"insert", &[object], into),
+        Cmd::InsertNew(object) => say_word(b"insert_new", &[object], into),
+        Cmd::Lookup(key) => say_word(b"lookup", &[key], into),
+        Cmd::Member(key) => say_word(b"member", &[key], into),
+        Cmd::Delete(key) => say_word(b"delete", &[key], into),
+        Cmd::Take(key) => say_word(b"take", &[key], into),
+        Cmd::UpdateCounter(key, op) => say_word(b"update_counter", &[key, op], into),
+        Cmd::UpdateElement(key, op) => say_word(b"update_element", &[key, op], into),
+        Cmd::First => say(b"first", into),
+        Cmd::Last => say(b"last", into),
+        Cmd::Next(key) => say_word(b"next", &[key], into),
+        Cmd::Prev(key) => say_word(b"prev", &[key], into),
+        Cmd::Select(spec) => say_word(b"select", &[spec], into),
+        Cmd::SelectRange(lo, hi, spec) => say_word(b"select_range", &[lo, hi, spec], into),
+        Cmd::Batch(spec, limit) => say_word(b"batch", &[spec, limit], into),
+        Cmd::More => say(b"more", into),
+    }
+}
+
+// The commands of the lines from number `from` on, each with its line's number and a dot.
+fn say_commands(alloc: Global, from: u32, lines: &Lines, into: &mut Vec<u8>) {
+    say(b"commands:", into);
+    for line in lines.as_slice() {
+        if from <= line.number {
+            say(b" ", into);
+            say_value(alloc, &line.number, into);
+            say(b" ", into);
+            say_command(&line.cmd, into);
+            say(b".", into);
+        }
+    }
+}
+
 /// The commands of a file.
 pub(crate) fn say_file(alloc: Global, bytes: &[u8], into: &mut Vec<u8>) {
     if bytes.len() > MOST_FILE_BYTES {
