@@ -1,6 +1,6 @@
 //! `ca run [OPTIONS] [--] FILE...`: reads command files, runs their commands on one table that behaves as an `ordered_set` of Erlang's
-//! `ets`, a file a client, one client after the other, and prints every answer and the final table. `ca run --seed S --clients C --lines L`
-//! makes the commands itself, and prints a summary. Where a call ends early, standard error tells a person why.
+//! `ets`, a file a client and each client on a thread of its own, and prints every answer and the final table. `ca run --seed S --clients C
+//! --lines L` makes the commands itself, and prints a summary. Where a call ends early, standard error tells a person why.
 #![tactic(auto)]
 
 ghost use Rattle.std.specs.Prelude.{◌≡◌, IfErr};
@@ -8,8 +8,12 @@ ghost use Rattle.std.specs.Prelude.{◌≡◌, IfErr};
 mod answer;
 mod explain;
 mod files;
+mod lines;
+#[cfg(test)]
+mod meeting;
 mod message;
-mod play;
+mod opening;
+mod printed;
 mod status;
 mod summary;
 mod top;
@@ -17,6 +21,7 @@ mod top;
 use crate::explain::tell;
 use crate::status::{Status, finish};
 use crate::top::run;
+use ca_client::OpenGate;
 use ca_outside::{DirShelf, OutSink};
 use std::process::ExitCode;
 use std::{env, io};
@@ -45,7 +50,16 @@ fn main(rt: HostRuntime) -> ExitCode {
         Ok(words) => {
             let mut shelf = DirShelf::new(rt.alloc(), &rt);
             let mut sink = OutSink::new(io::writer(&rt));
-            let status = run(rt.alloc(), words.as_slice(), &mut shelf, &mut sink);
+            let mut ran = None;
+            let status = run(
+                &rt,
+                rt.alloc(),
+                words.as_slice(),
+                &mut shelf,
+                &mut sink,
+                &OpenGate,
+                &mut ran,
+            );
             tell(&rt, words.as_slice(), status);
             status
         }

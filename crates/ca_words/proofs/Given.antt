@@ -85,7 +85,7 @@ set_named given Calm value = refl
 set_named given Heat value = refl
 
 -- another option has another name, and keeps its value
-abbrev IsOther : Name → Name → Type 0
+abbrev pub IsOther : Name → Name → Type 0
 IsOther name other = (bytes_eq (bare name) (bare other) ≡ false)
     × ((given : Values) (value : ℕ) → value_named (with_named given name value) other ≡ value_named given other)
 
@@ -228,7 +228,7 @@ shape_stays : (given : Values) (name : Name) (value : ℕ) → (with_named given
 shape_stays given Keypos value = refl
 shape_stays given other value = refl
 
-values_stay : (given : Values) (name : Name) → value_named (with_flag given) name ≡ value_named given name
+pub values_stay : (given : Values) (name : Name) → value_named (with_flag given) name ≡ value_named given name
 values_stay given Keypos = refl
 values_stay given other = refl
 

@@ -7,7 +7,7 @@
 --            --name value              in two words
 --            --shape                   which has no value
 --   value    1 to 10 decimal digits, of a number within the bounds of the name
-use Rattle.std.specs.Prelude.{◌≡◌, ◌≤◌, ℕ, ◌+◌, ◌*◌, ◌-◌, ◌==◌, ◌&&◌, Bool, true, false, not, nat_le, List, [], ◌∷◌, ◌++◌, length, Option, None, Some, unwrap_or, codes}
+use Rattle.std.specs.Prelude.{◌≡◌, ◌≤◌, ℕ, ◌+◌, ◌*◌, ◌-◌, ◌==◌, ◌&&◌, Bool, true, false, not, nat_le, List, [], ◌∷◌, ◌++◌, length, Option, None, Some, unwrap_or, IfSome, codes}
 use Rattle.std.specs.List.{list_all}
 use Rattle.ca_words.specs.declared.tree.TreeOptions.{TreeOptions}
 use Rattle.ca_words.specs.declared.words.Name.{Name}
@@ -136,6 +136,25 @@ pub data AreOptions : List (List ℕ) → Values → Type 0 where
   WithoutValue : (words : List (List ℕ)) (given : Values) → AreOptions words given → given.tree.shape ≡ false
       → AreOptions (words ++ flag_spelling ∷ []) (with_flag given)
 
+-- A value of an option, where one is given, is within the bounds of the option's name.
+abbrev pub IsGivenWithin : Name → Option ℕ → Type 0
+IsGivenWithin name given = IfSome given (λ value. (least_of name ≤ value) × (value ≤ most_of name))
+
+-- Each value that is given of the tree is within its bounds.
+pub record IsWithin (tree : TreeOptions) : Type 0 where
+  pub rows : IsGivenWithin Rows tree.rows
+  pub levels : IsGivenWithin Levels tree.levels
+  pub leaf : IsGivenWithin Leaf tree.leaf
+  pub high : IsGivenWithin High tree.high
+  pub low : IsGivenWithin Low tree.low
+  pub calm : IsGivenWithin Calm tree.calm
+  pub heat : IsGivenWithin Heat tree.heat
+
+-- A request is for 1 to 64 clients, and its key place is within its bounds.
+abbrev pub IsBounded : Request → Type 0
+IsBounded (Files keypos names) = (1 ≤ keypos) × (keypos ≤ 120) × (1 ≤ length names) × (length names ≤ 64)
+IsBounded (Generated seed clients count) = (1 ≤ clients) × (clients ≤ 64)
+
 -- What values and file words ask for together: 1 to 64 files and no option but the key place, or no file and the three other options, and
 -- then the key place is 1 or isn't given.
 pub data IsAsked : Values → List (List ℕ) → Request → Type 0 where
@@ -157,7 +176,3 @@ pub data IsLineOf : List (List ℕ) → Request → TreeOptions → Type 0 where
       → IsAsked given names request → IsLineOf (codes "run" ∷ (options ++ names)) request given.tree
   WithParting : (options names : List (List ℕ)) (given : Values) (request : Request) → AreOptions options given
       → IsAsked given names request → IsLineOf (codes "run" ∷ (options ++ codes "--" ∷ names)) request given.tree
-
--- The same of a line that says nothing of the tree.
-abbrev pub IsLine : List (List ℕ) → Request → Type 0
-IsLine words request = IsLineOf words request no_tree
