@@ -14,14 +14,15 @@ mod meeting;
 mod message;
 mod opening;
 mod printed;
+mod progress;
 mod status;
 mod summary;
 mod top;
 
 use crate::explain::tell;
+use crate::progress::Progress;
 use crate::status::{Status, finish};
 use crate::top::run;
-use ca_client::OpenGate;
 use ca_outside::{DirShelf, OutSink};
 use std::process::ExitCode;
 use std::{env, io};
@@ -50,6 +51,7 @@ fn main(rt: HostRuntime) -> ExitCode {
         Ok(words) => {
             let mut shelf = DirShelf::new(rt.alloc(), &rt);
             let mut sink = OutSink::new(io::writer(&rt));
+            let gate = Progress::new(&rt);
             let mut ran = None;
             let status = run(
                 &rt,
@@ -57,7 +59,7 @@ fn main(rt: HostRuntime) -> ExitCode {
                 words.as_slice(),
                 &mut shelf,
                 &mut sink,
-                &OpenGate,
+                &gate,
                 &mut ran,
             );
             tell(&rt, words.as_slice(), status);

@@ -10,6 +10,7 @@ const BETWEEN: u64 = 1_000;
 
 /// A gate that tells how many lines were answered so far, at most once a second, where standard error is a terminal. Elsewhere, and where no clock
 /// is to be had, it does nothing.
+#[derive(Drop)]
 pub struct Progress<'r> {
     rt: &'r HostRuntime,
     // when the first client began; none where nothing is told
