@@ -1,9 +1,9 @@
 -- What clients that shared a tree come to, once the tree is closed.
-use Rattle.std.proofs.Common.{◌≡◌, ℕ, zero, suc, ◌+◌, ◌-◌, ◌≤◌, ◌<◌, List, [], ◌∷◌, ◌++◌, length, map, take, get_or, drop, refl, sym, ◌∙◌, ap, subst, arith, Some, None}
-use Rattle.std.specs.Prelude.{Option, All}
+use Rattle.std.proofs.Common.{◌≡◌, ℕ, zero, suc, ◌+◌, ◌≤◌, ◌<◌, List, [], ◌∷◌, ◌++◌, length, map, take, get_or, drop, refl, sym, ◌∙◌, ap, subst, arith}
+use Rattle.std.specs.Prelude.{All}
 use Rattle.std.proofs.lemmas.List.{take_all}
-use mathlib.Core.Option.{some}
-use lib.ListN.{get_elem?}
+use Rattle.std.proofs.lemmas.List.Elements.{All-cons}
+use Rattle.std.proofs.Math.Seq.{take-append_seam}
 use Rattle.atomic_table.specs.Seated.{TableId}
 use Rattle.ca_term.specs.Tree.{Tree}
 use Rattle.ca_ets.specs.Command.{Command, Never, Answer as PlainAnswer}
@@ -15,15 +15,15 @@ use Rattle.ca_cmd.specs.declared.answer.Answer.{Answer}
 use Rattle.ca_cmd.specs.declared.line.Line.{Line}
 use Rattle.ca_model.specs.Event.{Entry}
 use Rattle.ca_model.specs.History.{History, state, after, AreByPasses}
-use Rattle.ca_model.specs.Known.{Known, Seen, Counts}
+use Rattle.ca_model.specs.Known.{Known}
 use Rattle.ca_model.specs.Lawful.{IsLawful}
 use Rattle.ca_model.specs.StoreMap.{StoreMap, IsStoreMap}
 use Rattle.ca_model.proofs.Edits.{map_after}
 use Rattle.ca_node.specs.Links.{IsIn}
 use Rattle.ca_node.specs.TreePasses.{tree_of}
-use Rattle.ca_node.specs.TreeView.{TreeView, blank, no_refusals}
+use Rattle.ca_node.specs.TreeView.{TreeView, no_refusals}
 use Rattle.ca_replace.specs.Closing.{IsClosed}
-use Rattle.ca_replace.specs.Resting.{known_of, numbers_of}
+use Rattle.ca_replace.specs.Resting.{numbers_of}
 use Rattle.ca_rows.specs.Closed.{IsClosable}
 use Rattle.ca_rows.specs.declared.sizes.Sizes.{Sizes}
 use Rattle.ca_rows.specs.declared.space.Pass.{Pass}
@@ -32,7 +32,7 @@ use Rattle.ca_explain.specs.Explaining.{HaveLogs, client_of, merge_of, nobody}
 use Rattle.ca_explain.specs.Stands.{Stands}
 use Rattle.ca_explain.proofs.Explains.{explains}
 use Rattle.ca_client.specs.Clients.{IsBehind, HavePlayed}
-use Rattle.ca_client.specs.Played.{AreCounted, HasPlayed, LogsAreParts}
+use Rattle.ca_client.specs.Played.{AreCounted, HasPlayed}
 use Rattle.ca_client.specs.Ran.{HasRun, IsPlayedBy, ArePlayedBy, all_answers_of, splits_of, joins_of}
 use Rattle.ca_client.specs.Sharing.{IsReady, AreReady, IsPart, AreParts, AreLeft}
 use Rattle.ca_client.specs.declared.clients.Client.{Client}
@@ -110,10 +110,6 @@ module _ {S R : Type 0} (table : TableId) (z : Sizes) where
     shares (suc first) files olds news all passes (omega (arith, e)) ready.1 (λ i d l. played (suc i) d (omega (arith, l))) parts.1,
   )
 
-take_front : {A : Type 0} (xs ys : List A) → take (length xs) (xs ++ ys) ≡ xs
-take_front [] ys = refl
-take_front (x ∷ xs) ys = ap (λ zs. x ∷ zs) (take_front xs ys)
-
 -- The same of clients that were lent to be played, and came back.
 pub shares_left : {S : Type 0} (table : TableId) (z : Sizes) (files : List (List Line)) (n : ℕ) (olds lent news : List (Client S)) (parts : Parts)
     → n ≡ length olds → lent ≡ olds → length news ≡ length lent → AreReady table z 1 files olds → HavePlayed lent news
@@ -121,7 +117,7 @@ pub shares_left : {S : Type 0} (table : TableId) (z : Sizes) (files : List (List
 shares_left table z files n olds lent news parts many same all ready played left =
     let count : length news ≡ length olds = all ∙ ap (λ cs. length cs) same in
     let whole : take n (news ++ drop (length news) olds) ≡ news =
-    ap (λ (k : ℕ). take k (news ++ drop (length news) olds)) (many ∙ sym count) ∙ take_front news (drop (length news) olds) in
+    ap (λ (k : ℕ). take k (news ++ drop (length news) olds)) (many ∙ sym count) ∙ take-append_seam news (drop (length news) olds) in
     shares table z 1 files olds news parts.answers.items parts.passes.items count ready (subst (λ cs. HavePlayed cs news) same played)
     (subst (λ cs. AreParts cs parts.answers.items parts.passes.items) whole left.each)
 
@@ -129,10 +125,6 @@ shares_left table z files n olds lent news parts many same all ready played left
 pub closed_map : (keypos made : ℕ) (passes : List TreeView) (objects : StoreMap) → IsClosed keypos made passes objects → IsStoreMap keypos objects
 closed_map keypos made passes objects closed =
     subst (λ (m : StoreMap). IsStoreMap keypos m) (sym closed.has) (map_after keypos closed.history [] closed.edits tt)
-
-all_cons : {A : Type 0} (P : A → Type 0) (x : A) (xs : List A) → P x → All P xs → (k : ℕ) (d : A) → k < length (x ∷ xs) → P (get_or (x ∷ xs) k d)
-all_cons P x xs h all zero d l = h
-all_cons P x xs h all (suc k) d l = all k d (omega (arith, l))
 
 -- Clients that played these files by these passes, with these answers.
 pub record ArePlayers (keypos first : ℕ) (files : List (List Line)) (all : List (List Answer)) (passes : List TreeView) : Type 0 where
@@ -153,7 +145,7 @@ module _ {R : Type 0} (table : TableId) (z : Sizes) where
   closable first (f ∷ files) [] passes shares = absurd shares
   closable first (f ∷ files) (x ∷ all) [] shares = absurd shares
   closable first (f ∷ files) (x ∷ all) (p ∷ passes) shares =
-      all_cons (λ (pass : Pass R TreeView). IsClosable table pass.seat) p passes shares.0.closable (closable (suc first) files all passes shares.1)
+      All-cons (λ (pass : Pass R TreeView). IsClosable table pass.seat) p passes shares.0.closable (closable (suc first) files all passes shares.1)
 
   pub players : (first : ℕ) (files : List (List Line)) (all : List (List Answer)) (passes : List (Pass R TreeView))
       → AreShares table z first files all passes → ArePlayers z.keypos first files all (map tree_of passes)
@@ -172,7 +164,7 @@ module _ {R : Type 0} (table : TableId) (z : Sizes) where
         commands_are = ap (λ (cs : List (List Command)). commands_in (numbered f) ∷ cs) rest.commands_are;
         answers_are = ap (λ (xs : List (List PlainAnswer)). answers_of x ∷ xs) rest.answers_are;
         played = (shares.0.played, rest.played);
-        plays = all_cons (λ (c : Player). Plays z.keypos Never c.commands c.answers c.parts) player rest.clients shares.0.plays rest.plays;
+        plays = All-cons (λ (c : Player). Plays z.keypos Never c.commands c.answers c.parts) player rest.clients shares.0.plays rest.plays;
       }
 
 -- The log of each client is lawful, where those of the passes are.

@@ -1,8 +1,8 @@
 -- Lists of new passes, of clients and of what they leave, with one more at the end.
-use Rattle.std.proofs.Common.{◌≡◌, ℕ, suc, ◌+◌, ◌≤◌, min, List, [], ◌∷◌, ◌++◌, length, map, refl, sym, ◌∙◌, ap, subst, arith}
+use Rattle.std.proofs.Common.{◌≡◌, ℕ, suc, ◌+◌, min, List, [], ◌∷◌, ◌++◌, length, map, subst, arith}
 use Rattle.std.specs.Prelude.{sum_by}
 use Rattle.std.proofs.lemmas.List.{map-append}
-use Rattle.std.proofs.lemmas.List.Sums.{sum_by-cons}
+use Rattle.std.proofs.lemmas.List.Sums.{sum_by_push}
 use Rattle.atomic_table.specs.Seated.{TableId}
 use Rattle.ca_cmd.specs.declared.answer.Answer.{Answer}
 use Rattle.ca_cmd.specs.declared.line.Line.{Line}
@@ -13,10 +13,6 @@ use Rattle.ca_rows.specs.declared.space.Pass.{Pass}
 use Rattle.ca_client.specs.Ran.{splits_of, joins_of}
 use Rattle.ca_client.specs.Sharing.{IsNew, AreNew, IsReady, AreReady, IsPart, AreParts}
 use Rattle.ca_client.specs.declared.clients.Client.{Client}
-
-pub one_longer : {A : Type 0} (xs : List A) (x : A) → length (xs ++ x ∷ []) ≡ length xs + 1
-one_longer [] x = omega arith
-one_longer (y ∷ xs) x = let e = one_longer xs x in omega (arith, e)
 
 module _ {R : Type 0} (table : TableId) (z : Sizes) where
   pub new_more : (first number : ℕ) (passes : List (Pass R TreeView)) (pass : Pass R TreeView) → number ≡ first + length passes
@@ -46,14 +42,10 @@ module _ {S R : Type 0} where
   parts_more (c ∷ clients) (a ∷ all) (p ∷ passes) client answers pass parts part =
       (parts.0, parts_more clients all passes client answers pass parts.1 part)
 
-sum_more : {A : Type 0} (f : A → ℕ) (xs : List A) (x : A) → sum_by f (xs ++ x ∷ []) ≡ sum_by f xs + f x
-sum_more f [] x = refl
-sum_more f (y ∷ xs) x = sum_by-cons f y (xs ++ x ∷ []) ∙ (let e = sum_more f xs x in let g = sum_by-cons f y xs in omega (arith, e, g))
-
 -- One number more is added to a sum of which both are told up to a last number.
 capped_more : {A : Type 0} (f : A → ℕ) (xs : List A) (x : A) (sum one most : ℕ) → sum ≡ min most (sum_by f xs) → one ≡ min most (f x)
     → min (sum + one) most ≡ min most (sum_by f (xs ++ x ∷ []))
-capped_more f xs x sum one most e g = let more = sum_more f xs x in omega (arith, e, g, more)
+capped_more f xs x sum one most e g = let more = sum_by_push f xs x in omega (arith, e, g, more)
 
 module _ {R : Type 0} (passes : List (Pass R TreeView)) (pass : Pass R TreeView) (sum one : ℕ) where
   pub splits_more : sum ≡ splits_of (map tree_of passes) → one ≡ min 18446744073709551615 (tree_of pass).splits

@@ -49,14 +49,14 @@ fn enroll_all(alloc: Global, tree: &mut Tree, count: usize) -> Result<Vec<TreePa
     ensures passes { IfOk result (λ passes. (vec_len passes ≡ count)
         × AreNew tree.new.space.table.shared.table_id tree.new.space.table.shared.key 1 passes.items) }
 {
-    let mut passes = Vec::with_capacity(alloc, count)?;
-    while passes.len() < count {
+    let mut made = Vec::with_capacity(alloc, count)?;
+    while made.len() < count {
         let Ok(pass) = tree.enroll(alloc) else {
             return Err(AllocError);
         };
-        passes.push_reserved(pass);
+        made.push_reserved(pass);
     }
-    Ok(passes)
+    Ok(made)
 }
 
 // A client for each file, each with a table on a pass of its own.

@@ -7,6 +7,7 @@ use ca_client::{Gate, OpenGate, Ran, Rendezvous, run_clients};
 use ca_cmd::show_table;
 use ca_replace::Tree;
 use ca_rows::Starts;
+use ca_text::put;
 use std::alloc::{AllocError, Global};
 use std::sync::Wait;
 use std::test::Fail;
@@ -18,6 +19,15 @@ const ZERO: Starts = Starts {
     sequence: 0,
     attempt: 0,
 };
+
+// The keys from 1 to 11, one after the other, and then all objects.
+const ELEVEN: &str =
+    "insert {1};insert {2};insert {3};insert {4};insert {5};insert {6};insert {7};insert {8};insert {9};insert {10};insert {11};select *";
+
+const ELEVEN_ANSWERS: &[u8] =
+    b"true;true;true;true;true;true;true;true;true;true;refused deep;[{1},{2},{3},{4},{5},{6},{7},{8},{9},{10}];";
+
+const MEETING: &str = "insert_new {1};member 1;insert {2};insert {3}";
 
 // What clients that play the commands of these texts come to, on a tree whose bases have two objects at most, and which has so many levels.
 fn ran_of<R: Threads + Wait + Sync, G: Gate + Sync>(
@@ -59,11 +69,12 @@ fn table_of(alloc: Global, ran: &Ran) -> Result<Vec<u8>, AllocError> {
 #[test]
 fn one_client_splits_bases_until_no_level_is_left(rt: HostRuntime) -> Result<(), Fail> {
     let alloc = rt.alloc();
-    let commands = "insert {1};insert {2};insert {3};insert {4};insert {5};insert {6};insert {7};insert {8};insert {9};insert {10};insert {11};select *";
-    let ran = ran_of(&rt, alloc, 8, &[commands], &OpenGate)?;
-    let answers = text_of(alloc, ran.answers[0].as_slice())?;
-    let wanted = b"true;true;true;true;true;true;true;true;true;true;refused deep;[{1},{2},{3},{4},{5},{6},{7},{8},{9},{10}];";
-    assert_eq!(rt; answers.as_slice(), wanted.as_slice());
+    let ran = ran_of(&rt, alloc, 8, &[ELEVEN], &OpenGate)?;
+    assert_eq!(rt; ran.answers.len(), 1);
+    for answers in ran.answers.as_slice() {
+        let text = text_of(alloc, answers.as_slice())?;
+        assert_eq!(rt; text.as_slice(), ELEVEN_ANSWERS);
+    }
     assert_eq!(rt; (ran.splits, ran.joins), (8, 0));
     assert_eq!(rt; ran.objects.len(), 10);
     Ok(())
@@ -72,14 +83,14 @@ fn one_client_splits_bases_until_no_level_is_left(rt: HostRuntime) -> Result<(),
 #[test]
 fn two_clients_that_meet_share_one_table(rt: HostRuntime) -> Result<(), Fail> {
     let alloc = rt.alloc();
-    let commands = "insert_new {1};member 1;insert {2};insert {3}";
     let gate = Rendezvous::new();
-    let ran = ran_of(&rt, alloc, 0, &[commands, commands], &gate)?;
+    let ran = ran_of(&rt, alloc, 0, &[MEETING, MEETING], &gate)?;
     assert!(rt; gate.met());
     assert_eq!(rt; ran.answers.len(), 2);
+    let mut client = 0_u32;
     let mut first = 0_u32;
-    for (place, answers) in ran.answers.as_slice().iter().enumerate() {
-        let client = place as u32 + 1;
+    for answers in ran.answers.as_slice() {
+        client = client.saturating_add(1);
         let text = text_of(alloc, answers.as_slice())?;
         let was_first = gate.told(client, 1) == 1;
         let wanted = match was_first {
@@ -95,5 +106,33 @@ fn two_clients_that_meet_share_one_table(rt: HostRuntime) -> Result<(), Fail> {
     assert_eq!(rt; first, 1);
     let table = table_of(alloc, &ran)?;
     assert_eq!(rt; table.as_slice(), b"table\n{1}.\n{2}.\nend 2\n".as_slice());
+    Ok(())
+}
+
+#[test]
+fn three_clients_have_each_its_own_answers(rt: HostRuntime) -> Result<(), Fail> {
+    let alloc = rt.alloc();
+    let texts = ["insert {1};member 1", "", "lookup 2;insert {2,b};lookup 2"];
+    let ran = ran_of(&rt, alloc, 8, &texts, &OpenGate)?;
+    let mut all = Vec::new(alloc);
+    for answers in ran.answers.as_slice() {
+        put(text_of(alloc, answers.as_slice())?.as_slice(), &mut all)?;
+        all.push(b'|')?;
+    }
+    assert_eq!(rt; all.as_slice(), b"true;true;||[];true;[{2,b}];|".as_slice());
+    let table = table_of(alloc, &ran)?;
+    assert_eq!(rt;
+        table.as_slice(),
+        b"table\n{1}.\n{2,b}.\nend 2\n".as_slice()
+    );
+    assert_eq!(rt; (ran.splits, ran.joins), (0, 0));
+    Ok(())
+}
+
+#[test]
+fn a_client_without_lines_leaves_an_empty_table(rt: HostRuntime) -> Result<(), Fail> {
+    let ran = ran_of(&rt, rt.alloc(), 8, &[""], &OpenGate)?;
+    let table = table_of(rt.alloc(), &ran)?;
+    assert_eq!(rt; table.as_slice(), b"table\nend 0\n".as_slice());
     Ok(())
 }

@@ -11,7 +11,7 @@ pub loop-alloc-preserved : goal.loop-alloc-preserved
 loop-alloc-preserved c =
     let space = c.args.tree.now.space in
     let pass = c.in-Ok.pass in
-    let passes = c.loop-alloc.passes in
+    let passes = c.loop-alloc.made in
     let kept = c.loop-alloc.invariant in
     let now = c.in-Ok.ensures in
     let test = c.loop-alloc-test.true in

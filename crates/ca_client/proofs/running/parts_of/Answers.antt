@@ -1,9 +1,10 @@
-use Rattle.std.proofs.Common.{◌≡◌, ◌+◌, ◌≤◌, ℕ, suc, min, List, [], ◌∷◌, ◌++◌, length, map, vec_capacity, sym, ◌∙◌, ap, subst, arith, append_assoc, length-append}
+use Rattle.std.proofs.Common.{◌≡◌, ◌+◌, ◌≤◌, ℕ, suc, [], ◌∷◌, ◌++◌, length, map, sym, ◌∙◌, ap, subst, arith, append_assoc}
+use Rattle.std.proofs.lemmas.List.{length_push}
 use Rattle.std.specs.Vec.Iter.{into_iter_items}
 use Rattle.ca_node.specs.TreePasses.{tree_of}
 use Rattle.ca_client.specs.Ran.{splits_of, joins_of}
 use Rattle.ca_client.specs.Sharing.{AreParts}
-use Rattle.ca_client.proofs.Sharing.{parts_more, splits_more, joins_more, one_longer}
+use Rattle.ca_client.proofs.Sharing.{parts_more, splits_more, joins_more}
 use Rattle.ca_client.proofs.running.parts_of.Goals as goal
 
 pub loop-client-preserved : goal.loop-client-preserved
@@ -27,8 +28,8 @@ loop-client-preserved c =
       left = let before = kept.left in let len = step.1 in omega (arith, before, len, one);
       each = subst (λ xs. AreParts (yielded ++ client ∷ []) xs c.push_reserved-in-loop-client.new.self.items) (sym behind.items)
           (subst (λ ps. AreParts (yielded ++ client ∷ []) (all.items ++ answers ∷ []) ps) (sym taken.items) more);
-      answers = behind.len ∙ ap (λ (n : ℕ). n + 1) kept.answers ∙ sym (one_longer yielded client);
-      taken = taken.len ∙ ap (λ (n : ℕ). n + 1) kept.taken ∙ sym (one_longer yielded client);
+      answers = behind.len ∙ ap (λ (n : ℕ). n + 1) kept.answers ∙ sym (length_push yielded client);
+      taken = taken.len ∙ ap (λ (n : ℕ). n + 1) kept.taken ∙ sym (length_push yielded client);
       room = subst (λ (n : ℕ). length c.args.clients.items ≤ n) (sym behind.capacity) kept.room;
       room_too = subst (λ (n : ℕ). length c.args.clients.items ≤ n) (sym taken.capacity) kept.room_too;
       splits = c.saturating_add-splits.ensures
