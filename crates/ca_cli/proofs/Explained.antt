@@ -15,14 +15,19 @@ use Rattle.ca_cli.specs.declared.status.Status.TheVariants.{Done}
 
 printed : (call : Call) (output : Change ℕ) (ran : Ran) (bytes : List ℕ) → HasPlayed call ran bytes → Adds output bytes
     → (answers : List (List Answer)) × (table : List Tree) × (bytes : List ℕ) × Prints call output answers table bytes
-printed call output ran bytes h taken = (_, _, bytes, record {
-  accepted = h.accepted;
-  explained = (merge_of h.run.played.history h.run.played.clients, h.run.played.explained);
-  splits = ran.splits;
-  joins = ran.joins;
-  written = h.written;
-  taken = taken;
-})
+printed call output ran bytes h taken = (
+  _,
+  _,
+  bytes,
+  record {
+    accepted = h.accepted;
+    explained = (merge_of h.run.played.history h.run.played.clients, h.run.played.explained);
+    splits = ran.splits;
+    joins = ran.joins;
+    written = h.written;
+    taken = taken;
+  },
+)
 
 -- With `Done` there is a run, and the bytes tell of it.
 pub headline_whole : (call : Call) (output : Change ℕ) (ran : Option Ran) (status : Status) (bytes : List ℕ) → IsOutcome call ran status bytes

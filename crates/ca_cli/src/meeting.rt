@@ -36,7 +36,10 @@ fn files_of(alloc: Global) -> Result<Vec<(String, Vec<u8>)>, AllocError> {
 fn output_of(alloc: Global, one: &str, two: &str) -> Result<String, AllocError> {
     let mut output = String::new(alloc);
     for (client, first) in [(1, one), (2, two)] {
-        write!(output, "client {client}\n1 {first}\n2 true\n3 true\n4 refused deep\n")?;
+        write!(
+            output,
+            "client {client}\n1 {first}\n2 true\n3 true\n4 refused deep\n"
+        )?;
     }
     output.push_str("table\n{1}.\n{2}.\nend 2\n")?;
     Ok(output)

@@ -7,8 +7,8 @@ ghost use Rattle.ca_cli.specs.Run.{text_of_ran};
 ghost use Rattle.ca_client.specs.Ran.{all_answers_of};
 
 use crate::answer::put_run;
-use ca_client::Ran;
 use crate::summary::{put_number_line, put_summary};
+use ca_client::Ran;
 use ca_cmd::Lines;
 use ca_text::{put, put_number};
 use ca_words::{CommandLine, Request};

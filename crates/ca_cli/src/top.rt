@@ -18,9 +18,9 @@ ghost use Rattle.ca_cli.specs.Written.{HasLeft, IsOutcome, IsFaultless};
 
 use crate::lines::lines_of;
 use crate::message::message;
+use crate::opening::open_tree;
 use crate::printed::{keypos_of, printed};
 use crate::status::Status;
-use crate::opening::open_tree;
 use ca_client::{Gate, Ran, run_clients};
 use ca_cmd::Lines;
 use ca_outside::{Shelf, Sink, write_out};
