@@ -48,7 +48,7 @@ use Rattle.ca_node.proofs.Joined.{unjoined_over, joined_keeps, states_keep, join
 use Rattle.ca_node.proofs.Listing.{in_either, in_front, in_back, Relists, listed_again, known_by_one}
 use Rattle.ca_node.proofs.Looking.{R, loses, hangs_still, of_map, knows_upper, in_more}
 use Rattle.ca_node.proofs.Members.{in_notes, has, given_here, given_else, taken_here, taken_else}
-use Rattle.ca_node.proofs.Rebased.{IsNewBase, relinked_wide, relinked_else, relinked_ranges, relinked_told, relinked_joins, relinked_keeps, relinked_row, base_no_route, out_no_route}
+use Rattle.ca_node.proofs.Relinked.{IsNewBase, relinked_wide, relinked_else, relinked_ranges, relinked_told, relinked_joins, relinked_keeps, relinked_row, base_no_route, out_no_route}
 use Rattle.ca_node.proofs.Remembering.{remembered_leads, unlinked_out, note_stays, way_stays, ranges_stay, notes_stay}
 use Rattle.ca_rows.specs.Layout.{row_words}
 use Rattle.ca_node.specs.Layout.{root_word}
@@ -313,17 +313,17 @@ module _ (z : Sizes) (s : State (Unit {0}) (View TreeView)) (r : R z s) (id : �
   no_coming c p e i = some-ne-none p (sym e ∙ ap place_of (comes_out c i))
 
   wide' : IsWide z.rows words'
-  wide' = relinked_wide z s.words role last shape x.old.row place is_old x.route
+  wide' = relinked_wide z s.words role last shape x.old.row place (ap place_of is_old) x.route
 
   base_stays : (c : ℕ) (p : Place) → r.above.role c ≡ Base p → row_at words' c ≡ row_at s.words c
   base_stays c p e = let b = base_at z s.words role last shape c p e in
-      relinked_row z s.words role last shape x.old.row place is_old x.route c b.some_row b.in_range
+      relinked_row z s.words role last shape x.old.row place (ap place_of is_old) x.route c b.some_row b.in_range
       (base_no_route role c p e)
 
   out_stays : (c : ℕ) → 0 < c → c ≤ z.rows → r.above.role c ≡ Out
       → row_at words' c ≡ row_at s.words c
   out_stays c lo hi e =
-      relinked_row z s.words role last shape x.old.row place is_old x.route c lo hi
+      relinked_row z s.words role last shape x.old.row place (ap place_of is_old) x.route c lo hi
       (out_no_route role c e)
 
   old_linked : IsLinked s.words x.old.row
@@ -437,7 +437,7 @@ module _ (z : Sizes) (s : State (Unit {0}) (View TreeView)) (r : R z s) (id : �
           ∙ (ap mark (out_stays part lo hi out ∙ spells) ∙ unmarked) in omega arith
 
   same_ranges : (pass : ℕ) → 0 < pass → pass ≤ 64 → result_of words' pass ≡ result_of s.words pass
-  same_ranges = relinked_ranges z s.words role last shape x.old.row place is_old x.route
+  same_ranges = relinked_ranges z s.words role last shape x.old.row place (ap place_of is_old) x.route
 
   -- A base stays that an active range marked.
   marked_stay : (c : ℕ) (p : Place) (pass number : ℕ) → r.above.role c ≡ Base p
@@ -681,7 +681,7 @@ module _ (z : Sizes) (s : State (Unit {0}) (View TreeView)) (r : R z s) (id : �
 
   route_word : join_of words' x.route % 4 ≡ 0
   route_word = let w = held x.route x.route_its u.held_route in
-      let e = relinked_joins z s.words role last shape x.old.row place is_old x.route x.route in
+      let e = relinked_joins z s.words role last shape x.old.row place (ap place_of is_old) x.route x.route in
       let word : join_word x.route_its ≡ join_of s.words x.route = ap (λ its. get_or its 3 0) (sym w.2) ∙ word_at s.words x.route 3 (omega arith) in
       let zero = u.idle in omega arith
 
@@ -732,7 +732,7 @@ module _ (z : Sizes) (s : State (Unit {0}) (View TreeView)) (r : R z s) (id : �
 
   -- No other control word changes.
   control : (i : ℕ) → i < row_words → i ≢ root_word → get_or words' i 0 ≡ get_or s.words i 0
-  control i l ne = relinked_else z s.words role last shape x.old.row place is_old x.route i
+  control i l ne = relinked_else z s.words role last shape x.old.row place (ap place_of is_old) x.route i
       (λ e. ⊎_elim (λ (t : x.old.place.link ≡ root_word). ne (omega arith))
       (λ t. let lo = t.0 in
       omega arith) (link_range z s.words role last shape x.old.place.link old_at.is_link))
@@ -875,7 +875,7 @@ module _ (z : Sizes) (s : State (Unit {0}) (View TreeView)) (r : R z s) (id : �
     };
     unsecured = unsecured_still z s.words words' role role' (λ c p key e. ⊎_elim
         (λ (new : c ≡ x.route). inl (subst (λ t. join_of words' t % 4 ≡ 0) (sym new) route_word))
-        (λ (was : role c ≡ Route p key). inr (p, key, was, relinked_joins z s.words role last shape x.old.row place is_old x.route c))
+        (λ (was : role c ≡ Route p key). inr (p, key, was, relinked_joins z s.words role last shape x.old.row place (ap place_of is_old) x.route c))
         (routes_back c p key e)) f.unsecured;
     each_seat =
         all_seats (Knows z.rows r.made words' role' (set (map upper_of s.views) id u') f.history)
@@ -908,7 +908,7 @@ module _ (z : Sizes) (s : State (Unit {0}) (View TreeView)) (r : R z s) (id : �
   unlinked_keeps : (c k : ℕ) → 0 < c → ¬ IsLinked s.words c → k < row_words
       → get_or words' (row_words * c + k) 0 ≡ get_or s.words (row_words * c + k) 0
   unlinked_keeps c k lo n l =
-      relinked_keeps z s.words role last shape x.old.row place is_old x.route c lo
+      relinked_keeps z s.words role last shape x.old.row place (ap place_of is_old) x.route c lo
       (out_no_route role c (unlinked_out z s.words role last shape c n)) k l
 
   -- Where the link names the old base, the exchange carries out the split.
@@ -922,7 +922,7 @@ module _ (z : Sizes) (s : State (Unit {0}) (View TreeView)) (r : R z s) (id : �
         same_pin = refl;
         wide = wide' ∙ sym r.wide;
         low = λ i l. control i (omega arith) (λ e. omega arith);
-        announcements = relinked_told z s.words role last shape x.old.row place is_old x.route;
+        announcements = relinked_told z s.words role last shape x.old.row place (ap place_of is_old) x.route;
         unlinked_rows = λ c k lo hi n l. unlinked_keeps c k lo n l;
         changes = λ c _ _. changed_now c;
         in_range = claims_in;

@@ -48,7 +48,8 @@ use Rattle.ca_node.proofs.Listing.{in_either, in_front, in_back, Relists, listed
 use Rattle.ca_node.proofs.Looking.{R, knows_upper, in_turn, in_more}
 use Rattle.ca_node.proofs.Members.{in_notes, in_rest, has, given_here, given_else, lent_here, lent_else, taken_here, taken_else, other_has, map_is_list}
 use Rattle.ca_node.proofs.Named.{named_once}
-use Rattle.ca_node.proofs.Rebased.{IsNewBase, relinked_wide, relinked_else, relinked_ranges, relinked_told, relinked_joins, relinked_row, relinked_object, base_no_route, out_no_route, relinked_keeps, with_base, with_base_new, with_base_old, with_base_else, shape_rebased}
+use Rattle.ca_node.proofs.Rebased.{with_base, with_base_new, with_base_old, with_base_else, shape_rebased}
+use Rattle.ca_node.proofs.Relinked.{IsNewBase, relinked_wide, relinked_else, relinked_ranges, relinked_told, relinked_joins, relinked_row, relinked_object, base_no_route, out_no_route, relinked_keeps}
 use Rattle.ca_node.proofs.Remembering.{remembered_leads, unlinked_out, note_stays, way_stays, ranges_stay, notes_stay}
 use Rattle.ca_rows.specs.Layout.{row_words}
 use Rattle.ca_node.specs.Layout.{root_word, sequence_unit}
@@ -291,19 +292,19 @@ module _ (z : Sizes) (s : State (Unit {0}) (View TreeView)) (r : R z s) (id : �
       role_else c ne ne' = with_base_else role place x.old.row new c ne ne'
 
       wide' : IsWide z.rows words'
-      wide' = relinked_wide z s.words role last shape x.old.row place is_old new
+      wide' = relinked_wide z s.words role last shape x.old.row place (ap place_of is_old) new
 
       else_word : (i : ℕ) → i ≢ x.old.place.link → get_or words' i 0 ≡ get_or s.words i 0
-      else_word = relinked_else z s.words role last shape x.old.row place is_old new
+      else_word = relinked_else z s.words role last shape x.old.row place (ap place_of is_old) new
 
       base_stays : (c : ℕ) (p : Place) → r.above.role c ≡ Base p
           → row_at words' c ≡ row_at s.words c
       base_stays c p e = let b = base_at z s.words role last shape c p e in
-          relinked_row z s.words role last shape x.old.row place is_old new c b.some_row b.in_range
+          relinked_row z s.words role last shape x.old.row place (ap place_of is_old) new c b.some_row b.in_range
           (base_no_route role c p e)
 
       pub new_its : row_at words' new ≡ x.its
-      new_its = relinked_row z s.words role last shape x.old.row place is_old new new new_row.0
+      new_its = relinked_row z s.words role last shape x.old.row place (ap place_of is_old) new new new_row.0
           new_row.1 (out_no_route role new new_out) ∙ new_row.2
 
       -- A base of the new tree that isn't the new one was a base, another one than the old one.
@@ -332,7 +333,7 @@ module _ (z : Sizes) (s : State (Unit {0}) (View TreeView)) (r : R z s) (id : �
 
       same_ranges : (pass : ℕ) → 0 < pass → pass ≤ 64
           → result_of (set s.words x.old.place.link new) pass ≡ result_of s.words pass
-      same_ranges = relinked_ranges z s.words role last shape x.old.row place is_old new
+      same_ranges = relinked_ranges z s.words role last shape x.old.row place (ap place_of is_old) new
 
       -- What a base that stays says of the range that marked it.
       bound_on : (base border : ℕ) → row_at words' base ≡ row_at s.words base
@@ -665,7 +666,7 @@ module _ (z : Sizes) (s : State (Unit {0}) (View TreeView)) (r : R z s) (id : �
 
       object_keeps : (row : ℕ) → IsIn row (items x.its) → row_at words' row ≡ row_at s.words row
       object_keeps row i = let w = words_of row i in
-          relinked_object z s.words role last shape x.old.row place is_old new row w.1 w.2
+          relinked_object z s.words role last shape x.old.row place (ap place_of is_old) new row w.1 w.2
           (ap form w.3 ∙ w.4.0)
 
       -- A range that marked the new base was begun.
@@ -806,7 +807,7 @@ module _ (z : Sizes) (s : State (Unit {0}) (View TreeView)) (r : R z s) (id : �
       unlinked_keeps : (c k : ℕ) → 0 < c → ¬ IsLinked s.words c → k < row_words
           → get_or words' (row_words * c + k) 0 ≡ get_or s.words (row_words * c + k) 0
       unlinked_keeps c k lo n l =
-          relinked_keeps z s.words role last shape x.old.row place is_old new c lo
+          relinked_keeps z s.words role last shape x.old.row place (ap place_of is_old) new c lo
           (out_no_route role c (unlinked_out z s.words role last shape c n)) k l
 
       -- The seat knows this then, with one note more, and so do the others.
@@ -925,7 +926,7 @@ module _ (z : Sizes) (s : State (Unit {0}) (View TreeView)) (r : R z s) (id : �
                 f.joined route p key (routes_back route p key e);
           };
           unsecured = unsecured_still z s.words words' role role'
-              (λ route p key e. inr (p, key, routes_back route p key e, relinked_joins z s.words role last shape x.old.row place is_old new route))
+              (λ route p key e. inr (p, key, routes_back route p key e, relinked_joins z s.words role last shape x.old.row place (ap place_of is_old) new route))
               f.unsecured;
           each_seat =
               all_seats (Knows z.rows r.made words' role' (set (map upper_of s.views) id u') next)
@@ -958,7 +959,7 @@ module _ (z : Sizes) (s : State (Unit {0}) (View TreeView)) (r : R z s) (id : �
               same_pin = refl;
               wide = wide' ∙ sym r.wide;
               low = λ i l. control i (omega arith) (λ e. omega arith);
-              announcements = relinked_told z s.words role last shape x.old.row x.old.place is_old new;
+              announcements = relinked_told z s.words role last shape x.old.row x.old.place (ap place_of is_old) new;
               unlinked_rows = λ c k lo hi n l. unlinked_keeps c k lo n l;
               changes = λ c _ _. changed_now c;
               in_range = claims_in;

@@ -14,12 +14,12 @@ use Rattle.ca_node.specs.Marks.{IsMarkIn, IsMarkedUnder, AreJoined}
 use Rattle.ca_node.specs.Place.{Span, Place}
 use Rattle.ca_node.specs.Reached.{base_at, route_at, hung}
 use Rattle.ca_node.specs.Row.{row_at, IsBaseRow, count, mark, mark_owner, mark_number, IsMarkedFor}
-use Rattle.ca_node.specs.Shape.{Role, Base, Route, LeadsTo, IsShape}
+use Rattle.ca_node.specs.Shape.{Role, Base, Route, place_of, LeadsTo, IsShape}
 use Rattle.ca_node.specs.Told.{IsUnjoined}
 use Rattle.ca_node.specs.Tree.{IsLinkOfView}
 use Rattle.ca_node.specs.TreeView.{Note, Finished, TreeView}
 use Rattle.ca_node.proofs.Looking.{R, knows_upper}
-use Rattle.ca_node.proofs.Rebased.{IsRoute, relinked_here, relinked_else, relinked_joins, relinked_marks, relinked_row}
+use Rattle.ca_node.proofs.Relinked.{IsRoute, relinked_here, relinked_else, relinked_joins, relinked_marks, relinked_row}
 use Rattle.ca_rows.specs.Layout.{row_words}
 
 -- An attempt is finished that marked a base which no join has, as a seat knows.
@@ -46,8 +46,8 @@ module _ (z : Sizes) (words : List ℕ) (role : ℕ → Role) (m : StoreMap) (sh
       → row_at words' (get_or words' link 0) ≡ row_at words (get_or words link 0)
   child_keeps link least span l base ne = let c = get_or words link 0 in
       let h = hung z words role m shape c _ l.hangs in
-      ap (row_at words') (relinked_else z words role m shape old place is row link ne)
-      ∙ relinked_row z words role m shape old place is row c h.2 h.3
+      ap (row_at words') (relinked_else z words role m shape old place (ap place_of is) row link ne)
+      ∙ relinked_row z words role m shape old place (ap place_of is) row c h.2 h.3
       (λ (t : IsRoute role c). let three = (route_at z words role m shape c t.0 t.1 t.2).is_route in omega arith)
 
   -- The link of a base that a secured join has isn't this one.
@@ -60,7 +60,7 @@ module _ (z : Sizes) (words : List ℕ) (role : ℕ → Role) (m : StoreMap) (sh
   pub joined_keeps : AreJoining z words role → (route : ℕ) (p : Place) (key : List ℕ) (attempt : ℕ) → role route ≡ Route p key
       → IsSecured (set words place.link row) route attempt → AreJoined z (set words place.link row) route attempt
   joined_keeps joined route p key attempt e now =
-      let before : IsSecured words route attempt = sym (relinked_joins z words role m shape old place is row route) ∙ now in
+      let before : IsSecured words route attempt = sym (relinked_joins z words role m shape old place (ap place_of is) row route) ∙ now in
       let j = joined.secured route p key attempt e before in let at = route_at z words role m shape route p key e in
       let left = child_keeps (row_words * route + 1) _ _ at.left j.left.0 (other_link route attempt (row_words * route + 1) before j.left) in
       let right = child_keeps (row_words * route + 2) _ _ at.right j.right.0 (other_link route attempt (row_words * route + 2) before j.right) in record {
@@ -72,16 +72,16 @@ module _ (z : Sizes) (words : List ℕ) (role : ℕ → Role) (m : StoreMap) (sh
   pub states_keep : AreJoining z words role → (route : ℕ) (p : Place) (key : List ℕ) → role route ≡ Route p key
       → IsJoinWord (set words place.link row) route
   states_keep joined route p key e =
-      subst (λ n. n % 4 < 3) (sym (relinked_joins z words role m shape old place is row route)) (joined.states route p key e)
+      subst (λ n. n % 4 < 3) (sym (relinked_joins z words role m shape old place (ap place_of is) row route)) (joined.states route p key e)
 
   -- A seat knows of joins what it knew.
   pub joining_keeps : (u : TreeView) → ((note : Note) → IsIn note u.notes → IsLinkOfView u note.place.link)
       → ((note : Note) → IsIn note u.notes → row_at words note.row ≡ note.its) → IsJoining words u.notes u.ways u.ranges.joins
       → IsJoining (set words place.link row) u.notes u.ways u.ranges.joins
   joining_keeps u links spell = joining_goes_on words words' u.notes u.ways u.ranges.joins
-      (λ route _. join_same words words' route (relinked_joins z words role m shape old place is row route))
+      (λ route _. join_same words words' route (relinked_joins z words role m shape old place (ap place_of is) row route))
       (λ note i route of. remembered_route u note.place.link route (links note i) of)
-      (λ note i route attempt of marked now there. relinked_else z words role m shape old place is row note.place.link
+      (λ note i route attempt of marked now there. relinked_else z words role m shape old place (ap place_of is) row note.place.link
       (λ e. over route attempt (subst (λ c. IsMarkedFor (row_at words c) route attempt)
       (sym there ∙ (ap (λ k. get_or words k 0) e ∙ (base_at z words role m shape old place is).under))
       (subst (λ its. IsMarkedFor its route attempt) (sym (spell note i)) marked)) now) ∙ there)
@@ -89,5 +89,5 @@ module _ (z : Sizes) (words : List ℕ) (role : ℕ → Role) (m : StoreMap) (sh
   -- The mark of a base that comes is one that hangs.
   pub new_hangs : (note : Note) → IsMarkIn words note.place note.its → note.place.link ≡ place.link → note.row ≡ row → (route attempt : ℕ)
       → IsMarkedFor note.its route attempt → IsHung (set words place.link row) note route attempt
-  new_hangs note marked here same = mark_hangs words' note (relinked_marks z words role m shape old place is row note.place note.its marked)
-      (ap (λ i. get_or words' i 0) here ∙ (relinked_here z words role m shape old place is row ∙ sym same))
+  new_hangs note marked here same = mark_hangs words' note (relinked_marks z words role m shape old place (ap place_of is) row note.place note.its marked)
+      (ap (λ i. get_or words' i 0) here ∙ (relinked_here z words role m shape old place (ap place_of is) row ∙ sym same))

@@ -35,12 +35,14 @@ pub mod OwnWord
 pub mod Parts
 pub mod Ranged
 pub mod Rebased
+pub mod Relinked
 pub mod Remembering
 pub mod RouteWords
 pub mod Runs
 mod SameNotes
 pub mod Tallies
 pub mod Turned
+pub mod Unlinked
 pub mod Updating
 pub mod Walks
 pub mod Watching

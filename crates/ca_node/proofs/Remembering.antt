@@ -18,7 +18,7 @@ use Rattle.ca_node.specs.Shape.{Role, Out, Base, Route, place_of, IsShape}
 use Rattle.ca_node.specs.Stays.{map_same}
 use Rattle.ca_node.specs.Tree.{IsAlive, IsLinkOfView, IsTrue, IsTrueWay}
 use Rattle.ca_node.specs.TreeView.{Note, Way, TreeView}
-use Rattle.ca_node.proofs.Rebased.{IsRoute, base_no_route, out_no_route, relinked_ranges, relinked_row, relinked_object, relinked_border, relinked_routes}
+use Rattle.ca_node.proofs.Relinked.{IsRoute, base_no_route, out_no_route, relinked_ranges, relinked_row, relinked_object, relinked_border, relinked_routes}
 use Rattle.ca_rows.specs.Layout.{row_words}
 use Rattle.ca_node.specs.Layout.{root_word}
 
@@ -81,7 +81,7 @@ module _ (z : Sizes) (words : List ℕ) (role : ℕ → Role) (m : StoreMap)
 
   abbrev same_ranges : (pass : ℕ) → 0 < pass → pass ≤ 64
       → result_of (set words place.link row) pass ≡ result_of words pass
-  same_ranges = relinked_ranges z words role m shape old place is row
+  same_ranges = relinked_ranges z words role m shape old place (ap place_of is) row
 
   -- What a seat remembers that has no note on a row that comes.
   module _ (u : TreeView) (unnoted : (c : ℕ) → comes c → ¬ IsNoted words u c) where
@@ -91,7 +91,7 @@ module _ (z : Sizes) (words : List ℕ) (role : ℕ → Role) (m : StoreMap)
     note_stays note noted t = record {
       some_row = t.some_row;
       in_range = t.in_range;
-      spells = relinked_row z words role m shape old place is row note.row t.some_row t.in_range
+      spells = relinked_row z words role m shape old place (ap place_of is) row note.row t.some_row t.in_range
           no_route ∙ t.spells;
       named = λ b r j. let o = t.named b r j in
           (o.0, o.1, subst IsObjectRow (sym (object_stays b r j)) o.2);
@@ -118,7 +118,7 @@ module _ (z : Sizes) (words : List ℕ) (role : ℕ → Role) (m : StoreMap)
         object_stays : IsBaseRow note.its → (r : ℕ) → IsIn r (items note.its)
             → row_at words' r ≡ row_at words r
         object_stays b r j = let o = t.named b r j in
-            relinked_object z words role m shape old place is row r o.0 o.1 o.2.0
+            relinked_object z words role m shape old place (ap place_of is) row r o.0 o.1 o.2.0
 
     -- A route that it remembers is as it was.
     pub way_stays : (way : Way) → IsIn way u.ways → IsTrueWay words role way
@@ -127,7 +127,7 @@ module _ (z : Sizes) (words : List ℕ) (role : ℕ → Role) (m : StoreMap)
       stands = ⊎_elim
           (λ (e : IsAlive role way). inl (routes_stay way.row way.place (route_key way.its) e))
           (λ d. inr d) t.stands;
-      spells = λ index fixed. relinked_routes z words role m shape old place is row way.row
+      spells = λ index fixed. relinked_routes z words role m shape old place (ap place_of is) row way.row
           (route_at z words role m shape way.row way.place (route_key way.its)
           (alive role way t.stands)).some_row
           index fixed.0 fixed.1 fixed.2 fixed.3 ∙ t.spells index fixed;
@@ -171,7 +171,7 @@ module _ (z : Sizes) (words : List ℕ) (role : ℕ → Role) (m : StoreMap)
           ranging_stays z words words' role role' same_ranges ends u.since history history'
           u.number u.ranges
           (λ border i. let b = known.borders border i in
-          relinked_border z words role m shape old place is row border.row b.some_row b.in_range
+          relinked_border z words role m shape old place (ap place_of is) row border.row b.some_row b.in_range
           (ap form b.spells ∙ b.is_border))
           unmarked
           (λ number last note marking decided on t.
@@ -181,7 +181,7 @@ module _ (z : Sizes) (words : List ℕ) (role : ℕ → Role) (m : StoreMap)
             t.0,
             (t.1.0, marked_stay t.0 t.1.0 u.number number t.1.1 t.2 now),
             subst (λ its. IsMarkedBy its u.number number)
-                (sym (relinked_row z words role m shape old place is row t.0 b.some_row b.in_range
+                (sym (relinked_row z words role m shape old place (ap place_of is) row t.0 b.some_row b.in_range
                 (base_no_route role t.0 t.1.0 t.1.1))) t.2,
           ))
           (λ note i t. note_stays note (by_shown note note.row i refl) t) known
