@@ -95,7 +95,7 @@ module _ (z : Sizes) (s : State (Unit {0}) (View TreeView)) (r : R z s) (id : �
   abbrev words' : List ℕ
   words' = set s.words x.old.place.link x.route
 
-  abbrev knows : Knows z.rows r.made s.words r.above.role (map upper_of s.views) r.above.history id
+  abbrev knows : Knows z r.made s.words r.above.role (map upper_of s.views) r.above.history id
       d.upper
   knows = knows_upper z s r id d at
 
@@ -107,7 +107,7 @@ module _ (z : Sizes) (s : State (Unit {0}) (View TreeView)) (r : R z s) (id : �
 
   -- The old base hangs where it was shown.
   is_old : r.above.role x.old.row ≡ Base x.old.place
-  is_old = let l = remembered_leads z s.words role last shape d.upper knows.ways x.old.place.link
+  is_old = let l = remembered_leads z s.words role last shape d.upper r.above.history knows.ways x.old.place.link
       (knows.links x.old (was_shown z me x u)) in ⊎_elim
       (λ (e : r.above.role x.old.row ≡ Base x.old.place). e)
       (λ (out : r.above.role x.old.row
@@ -623,11 +623,11 @@ module _ (z : Sizes) (s : State (Unit {0}) (View TreeView)) (r : R z s) (id : �
       ((knows_upper z s r j y here).notes note i)
 
   way_keeps : (j : ℕ) (y : View TreeView) → get_elem? s.views j ≡ some y → (way : Way)
-      → IsIn way y.upper.ways → IsTrueWay words' role' way
+      → IsIn way y.upper.ways → IsTrueWay z words' role' y.upper.since r.above.history way
   way_keeps j y here way i =
       way_stays z s.words role last shape x.old.row place is_old x.route role' last shape' Coming
       routes_stay bases_stay outs_stay marked_stay
-      y.upper (unnoted j y here) way i ((knows_upper z s r j y here).ways way i)
+      y.upper (unnoted j y here) r.above.history r.above.history (λ at l. (l, refl)) way i ((knows_upper z s r j y here).ways way i)
 
   notes_keep : (j : ℕ) (y : View TreeView) → get_elem? s.views j ≡ some y → (c : ℕ)
       → IsNoted words' y.upper c
@@ -693,9 +693,9 @@ module _ (z : Sizes) (s : State (Unit {0}) (View TreeView)) (r : R z s) (id : �
 
   -- A seat knows what it knew.
   knows_still : (j : ℕ) (y : View TreeView) → get_elem? s.views j ≡ some y
-      → Knows z.rows r.made words' role' (set (map upper_of s.views) id u') r.above.history j
+      → Knows z r.made words' role' (set (map upper_of s.views) id u') r.above.history j
       y.upper
-  knows_still j y here = let k = relisted z.rows r.made s.words role (map upper_of s.views)
+  knows_still j y here = let k = relisted z r.made s.words role (map upper_of s.views)
       (set (map upper_of s.views) id u') f.history j y.upper
       (numbered (map upper_of s.views) id d.upper u' mine (λ _. refl))
       (knows_upper z s r j y here) in record {
@@ -714,7 +714,7 @@ module _ (z : Sizes) (s : State (Unit {0}) (View TreeView)) (r : R z s) (id : �
         ended = k.ended;
       }
 
-  own_knows : Knows z.rows r.made words' role' (set (map upper_of s.views) id u') r.above.history id
+  own_knows : Knows z r.made words' role' (set (map upper_of s.views) id u') r.above.history id
       u'
   own_knows = let k = knows_still id d at in record {
     made_before = k.made_before;
@@ -878,17 +878,17 @@ module _ (z : Sizes) (s : State (Unit {0}) (View TreeView)) (r : R z s) (id : �
         (λ (was : role c ≡ Route p key). inr (p, key, was, relinked_joins z s.words role last shape x.old.row place (ap place_of is_old) x.route c))
         (routes_back c p key e)) f.unsecured;
     each_seat =
-        all_seats (Knows z.rows r.made words' role' (set (map upper_of s.views) id u') f.history)
+        all_seats (Knows z r.made words' role' (set (map upper_of s.views) id u') f.history)
         (map upper_of s.views) id u' own_knows
         (λ j v n here. let y = of_map upper_of s.views j v here in
-        subst (Knows z.rows r.made words' role' (set (map upper_of s.views) id u') f.history j) y.2
+        subst (Knows z r.made words' role' (set (map upper_of s.views) id u') f.history j) y.2
         (knows_still j y.0 y.1));
     inventory = divided_inventory x f.inventory;
     listed = listed_now;
     at_first = λ (e : r.made ≡ 0). let lo = u.is_pass in let hi = knows.made_before in
         absurd (omega arith);
     only_one =
-        known_by_one z.rows r.made s.words role (map upper_of s.views) f.history f.each_seat id
+        known_by_one z r.made s.words role (map upper_of s.views) f.history f.each_seat id
         d.upper u'
         (divided_inventory x f.inventory) mine u.is_pass
         (λ few. ap (divided_inventory x) (f.only_one id d.upper mine few u.is_pass));

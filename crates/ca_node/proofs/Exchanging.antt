@@ -124,7 +124,7 @@ module _ (z : Sizes) (s : State (Unit {0}) (View TreeView)) (r : R z s) (id : �
   abbrev words' : List ℕ
   words' = set s.words x.old.place.link new
 
-  abbrev knows : Knows z.rows r.made s.words r.above.role (map upper_of s.views) r.above.history id
+  abbrev knows : Knows z r.made s.words r.above.role (map upper_of s.views) r.above.history id
       d.upper
   knows = knows_upper z s r id d at
 
@@ -133,7 +133,7 @@ module _ (z : Sizes) (s : State (Unit {0}) (View TreeView)) (r : R z s) (id : �
 
   -- The old base hangs where it was shown.
   pub is_old : r.above.role x.old.row ≡ Base x.old.place
-  is_old = let l = remembered_leads z s.words role last shape d.upper knows.ways x.old.place.link
+  is_old = let l = remembered_leads z s.words role last shape d.upper r.above.history knows.ways x.old.place.link
       (knows.links x.old (in_notes x.old me.0.upper.notes u.shown)) in ⊎_elim
       (λ (e : r.above.role x.old.row ≡ Base x.old.place). e)
       (λ (out : r.above.role x.old.row
@@ -586,12 +586,13 @@ module _ (z : Sizes) (s : State (Unit {0}) (View TreeView)) (r : R z s) (id : �
           y.upper (unnoted j y here) note (by_shown note note.row i refl)
           ((f.ranged.each j y.upper (at_map upper_of s.views j y here)).run note i)
 
-      pub way_keeps : (j : ℕ) (y : View TreeView) → get_elem? s.views j ≡ some y → (way : Way)
-          → IsIn way y.upper.ways → IsTrueWay words' role' way
-      way_keeps j y here way i =
+      pub way_keeps : (j : ℕ) (y : View TreeView) → get_elem? s.views j ≡ some y
+          → ((at : ℕ) → at ≤ length r.above.history → (at ≤ length next) × (state next at ≡ state r.above.history at)) → (way : Way)
+          → IsIn way y.upper.ways → IsTrueWay z words' role' y.upper.since next way
+      way_keeps j y here longer way i =
           way_stays z s.words role last shape x.old.row place is_old new role' last' shape' Coming
           routes_stay bases_stay outs_stay marked_stay
-          y.upper (unnoted j y here) way i ((knows_upper z s r j y here).ways way i)
+          y.upper (unnoted j y here) r.above.history next longer way i ((knows_upper z s r j y here).ways way i)
 
       -- What a seat knows of joins is so still, for one note more, too.
       pub joining_keep : (j : ℕ) (y : View TreeView) → get_elem? s.views j ≡ some y
@@ -818,13 +819,13 @@ module _ (z : Sizes) (s : State (Unit {0}) (View TreeView)) (r : R z s) (id : �
           (same_inventory : u'.inventory ≡ exchanged_inventory served new x d.upper.inventory)
           (edits : AreEdits z.keypos next) (by_passes : AreByPasses r.made next)
           (runs : AreRuns (scene_of (set s.words x.old.place.link new) role') r.above.ranged.ends)
-          (own_knows : Knows z.rows r.made (set s.words x.old.place.link new) role'
+          (own_knows : Knows z r.made (set s.words x.old.place.link new) role'
           (set (map upper_of s.views) id u') next id u')
           (own_ranging : IsRanging z (set s.words x.old.place.link new) role'
           (r.above.ranged.ends u'.number) u'.since next u'.number u'.ranges)
           (others_know : (j : ℕ) (v : TreeView) → j ≢ id
           → get_elem? (map upper_of s.views) j ≡ some v
-          → Knows z.rows r.made (set s.words x.old.place.link new) role'
+          → Knows z r.made (set s.words x.old.place.link new) role'
           (set (map upper_of s.views) id u') next j v
           × IsRanging z (set s.words x.old.place.link new) role'
           (r.above.ranged.ends v.number) v.since next v.number v.ranges) where
@@ -929,14 +930,14 @@ module _ (z : Sizes) (s : State (Unit {0}) (View TreeView)) (r : R z s) (id : �
               (λ route p key e. inr (p, key, routes_back route p key e, relinked_joins z s.words role last shape x.old.row place (ap place_of is_old) new route))
               f.unsecured;
           each_seat =
-              all_seats (Knows z.rows r.made words' role' (set (map upper_of s.views) id u') next)
+              all_seats (Knows z r.made words' role' (set (map upper_of s.views) id u') next)
               (map upper_of s.views) id u' own_knows (λ j v ne here. (others_know j v ne here).0);
           inventory = exchanged_inventory served new x f.inventory;
           listed = listed_now;
           at_first = λ (e : r.made ≡ 0). let lo = u.is_pass in let hi = knows.made_before in
               absurd (omega arith);
           only_one =
-              known_by_one z.rows r.made s.words role (map upper_of s.views) f.history f.each_seat
+              known_by_one z r.made s.words role (map upper_of s.views) f.history f.each_seat
               id d.upper u'
               (exchanged_inventory served new x f.inventory) first u.is_pass
               (λ few. same_inventory

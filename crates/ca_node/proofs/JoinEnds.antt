@@ -92,7 +92,7 @@ module _ (z : Sizes) (s : State (Unit {0}) (View TreeView)) (r : R z s) (id : �
   -- The route is one of the tree.
   pub is_route : r.above.role x.route ≡ Route known.0.place (route_key known.0.its)
   is_route = subst (λ t. r.above.role t ≡ Route known.0.place (route_key known.0.its)) known.2
-      (alive r.above.role known.0 ((knows_upper z s r id me.0 at).ways known.0 known.1).stands)
+      (alive z s.words r.above.role me.0.upper.since r.above.history known.0 ((knows_upper z s r id me.0 at).ways known.0 known.1))
 
   first : get_elem? (map upper_of s.views) id ≡ some me.0.upper
   first = at_map upper_of s.views id me.0 at

@@ -91,7 +91,7 @@ module _ (z : Sizes) where
   -- What a seat knows of the tree, by its view.
   pub knows_upper : (s : State (Unit {0}) (View TreeView)) (r : R s) (id : ℕ) (d : View TreeView)
       → get_elem? s.views id ≡ some d
-      → Knows z.rows r.made s.words r.above.role (map upper_of s.views) r.above.history id d.upper
+      → Knows z r.made s.words r.above.role (map upper_of s.views) r.above.history id d.upper
   knows_upper s r id d at = r.above.each_seat id d.upper (at_map upper_of s.views id d at)
 
 -- A load, or an exchange that was lost, after which a seat knows more of ranges, and its turns are counted anew.
@@ -112,7 +112,7 @@ module _ (z : Sizes) (s : State (Unit {0}) (View TreeView)) (r : R z s) (i id : 
       }
   knows_ranges joining notes ranging = let us : List TreeView = map upper_of s.views in
       let first = at_map upper_of s.views id d at in
-      let k = relisted z.rows r.made s.words r.above.role us (set us id with_ranges) r.above.history
+      let k = relisted z r.made s.words r.above.role us (set us id with_ranges) r.above.history
       id d.upper (numbered us id d.upper with_ranges first (λ _. refl)) (knows_upper z s r id d at) in
       looked z s r i id d with_ranges at notes
       (seat_changed z r.made s.words us id d.upper with_ranges r.above first (λ _. refl) (λ _. refl)
@@ -308,10 +308,13 @@ module _ (z : Sizes) (made : ℕ) (words : List ℕ) (uppers : List TreeView)
     there = route_at z words f.role last f.shape row place key is
 
     -- It is what the words spell.
-    pub way_true : IsTrueWay words f.role route_way
-    way_true = record {
+    pub way_true : (since : History) → IsTrueWay z words f.role since f.history route_way
+    way_true since = record {
+      some_row = there.some_row;
+      in_range = there.in_range;
       stands = inl (is ∙ ap (Route place) (sym there.key_is));
       spells = λ index fixed. sym (word_at words row index fixed.0);
+      unsecured = λ attempt. f.unsecured.none row place key attempt is;
     }
 
     pub route_is : IsRouteNote z route_way
@@ -327,7 +330,7 @@ module _ (z : Sizes) (made : ℕ) (words : List ℕ) (uppers : List TreeView)
     }
 
   -- What one seat knows of links and words.
-  module _ (j : ℕ) (u : TreeView) (k : Knows z.rows made words f.role uppers f.history j u) where
+  module _ (j : ℕ) (u : TreeView) (k : Knows z made words f.role uppers f.history j u) where
     -- A link that it knows leads there.
     pub known_leads : (link least : ℕ) (span : Span) → IsKnownLink u link least span
         → LeadsTo words f.role link least span
@@ -341,7 +344,7 @@ module _ (z : Sizes) (made : ℕ) (words : List ℕ) (uppers : List TreeView)
         × (span ≡ left_of (route_key way.its) way.place.span))
         ⊎ ((link ≡ row_words * way.row + 2) × (span ≡ right_of (route_key way.its) way.place.span)))).
         let r = there t.0.row t.0.place (route_key t.0.its)
-        (alive f.role t.0 (k.ways t.0 t.1).stands) in
+        (alive z words f.role u.since f.history t.0 (k.ways t.0 t.1)) in
         subst (λ (i : ℕ). LeadsTo words f.role link i span) (sym t.2) (⊎_elim
         (λ (e : (link ≡ row_words * t.0.row + 1) × (span ≡ left_of (route_key t.0.its) t.0.place.span)).
         subst (λ (i : ℕ). LeadsTo words f.role i (t.0.place.level + 1) span) (sym e.0)
@@ -433,7 +436,7 @@ module _ (z : Sizes) where
   -- A seat that has seen the whole history.
   module _ (s : State (Unit {0}) (View TreeView)) (r : R z s) (id : ℕ) (me : MyTree)
       (at : get_elem? s.views id ≡ some me.0) where
-    abbrev mine : Knows z.rows r.made s.words r.above.role (map upper_of s.views) r.above.history id
+    abbrev mine : Knows z r.made s.words r.above.role (map upper_of s.views) r.above.history id
         me.0.upper
     mine = knows_upper z s r id me.0 at
 
@@ -486,7 +489,7 @@ module _ (z : Sizes) where
     abbrev u : TreeView
     u = me.0.upper
 
-    abbrev k : Knows z.rows r.made s.words r.above.role (map upper_of s.views) r.above.history id
+    abbrev k : Knows z r.made s.words r.above.role (map upper_of s.views) r.above.history id
         me.0.upper
     k = knows_upper z s r id me.0 at
 
@@ -526,7 +529,7 @@ module _ (z : Sizes) where
           (ap place_of is)
 
       pub to_base : Next with_base
-      to_base = let k' = relisted z.rows r.made s.words f.role (map upper_of s.views)
+      to_base = let k' = relisted z r.made s.words f.role (map upper_of s.views)
           (set (map upper_of s.views) id with_base) f.history id u
           (numbered (map upper_of s.views) id u with_base first (λ _. refl)) k in
           looked z s r link id me.0 with_base at
@@ -628,7 +631,7 @@ module _ (z : Sizes) where
 
       pub to_route : Next with_route
       to_route =
-          let k' = relisted z.rows r.made s.words f.role (map upper_of s.views)
+          let k' = relisted z r.made s.words f.role (map upper_of s.views)
           (set (map upper_of s.views) id with_route) f.history id u
           (numbered (map upper_of s.views) id u with_route first (λ _. refl)) k in
           looked z s r link id me.0 with_route at
@@ -650,9 +653,9 @@ module _ (z : Sizes) where
                 (past_whole s r id me at);
             notes = k.notes;
             links = λ m i. more_links m.place.link (k.links m i);
-            ways = λ w i. ⊎_elim (λ (e : way ≡ w). subst (IsTrueWay s.words f.role) e
+            ways = λ w i. ⊎_elim (λ (e : way ≡ w). subst (IsTrueWay z s.words f.role u.since f.history) e
                 (way_true z r.made s.words (map upper_of s.views) f (get_or s.words link 0) place
-                key is))
+                key is u.since))
                 (λ (o : IsIn w u.ways). k.ways w o) (in_more way w u.ways i);
             joining = joining_further s.words u.notes way u.ways u.ranges.joins k.joining;
             ended = k'.ended;
@@ -715,8 +718,7 @@ module _ (z : Sizes) where
   remembered_range : (s : State (Unit {0}) (View TreeView)) (r : R z s) (id : ℕ) (me : MyTree) → get_elem? s.views id ≡ some me.0
       → (route : ℕ) → IsRemembered me.0.upper.ways route → route ≤ z.rows
   remembered_range s r id me here route known = subst (λ (c : ℕ). c ≤ z.rows) known.2
-      (route_at z s.words r.above.role (after r.above.history []) r.above.shape known.0.row known.0.place (route_key known.0.its)
-      (alive r.above.role known.0 ((knows_upper z s r id me.0 here).ways known.0 known.1).stands)).in_range
+      ((knows_upper z s r id me.0 here).ways known.0 known.1).in_range
 
   -- The load of a word of a row that was shown.
   pub reads : (slots id : ℕ) (me : MyTree) (i : ℕ) → me.0.sizes ≡ z
@@ -753,7 +755,7 @@ module _ (z : Sizes) where
       let u' : TreeView = entered d.upper event p in
       let low = starts_shorter f.history d.upper.seen k.seen_first in
       let inside = now.since.1 in
-      let k' = relisted z.rows r.made s.words f.role us (set us id u') f.history id d.upper
+      let k' = relisted z r.made s.words f.role us (set us id u') f.history id d.upper
       (numbered us id d.upper u' first (λ _. refl)) k in
       let there : state f.history p ≡ state d.upper.seen p = ap (λ h. state h p) k.seen_first.1
       ∙ state_stays d.upper.seen k.seen_first.0 p now.since.1 in
@@ -801,7 +803,7 @@ module _ (z : Sizes) where
       let us : List TreeView = map upper_of s.views in
       let first = at_map upper_of s.views id d at in
       let u' : TreeView = record d.upper { counts = counts; turns = turns } in
-      let k = relisted z.rows r.made s.words f.role us (set us id u') f.history id d.upper
+      let k = relisted z r.made s.words f.role us (set us id u') f.history id d.upper
       (numbered us id d.upper u' first (λ _. refl))
       (knows_upper z s r id d at) in
       looked z s r i id d u' at (λ row n. inl (noted_alike s.words d.upper u'
@@ -831,7 +833,7 @@ module _ (z : Sizes) where
       }
   loses s r i id d at = let f = r.above in let us : List TreeView = map upper_of s.views in
       let first = at_map upper_of s.views id d at in let u' : TreeView = one_more_lost d.upper in
-      let k = relisted z.rows r.made s.words f.role us (set us id u') f.history id d.upper
+      let k = relisted z r.made s.words f.role us (set us id u') f.history id d.upper
       (numbered us id d.upper u' first (λ _. refl))
       (knows_upper z s r id d at) in
       looked z s r i id d u' at (λ row n. inl (noted_alike s.words d.upper u'

@@ -6,6 +6,8 @@ use Rattle.ca_model.specs.StoreMap.{StoreMap}
 use Rattle.ca_rows.specs.declared.sizes.Sizes.{Sizes}
 use Rattle.ca_rows.specs.Words.{result_of}
 use Rattle.ca_runs.specs.Runs.{Ends}
+use Rattle.ca_node.specs.DeadStays.{IsOutStill, dead_stays}
+use Rattle.ca_node.specs.Hindsight.{IsLeftOver, IsDead}
 use Rattle.ca_node.specs.Laws.{alive}
 use Rattle.ca_node.specs.Links.{IsIn, IsUnder, IsActive, IsLinked, by_route, by_base, IsOfOwnRun, IsNoted, by_note, by_item, by_way, by_link, by_link_item, by_border, by_run, by_run_item, by_shown, by_shown_item}
 use Rattle.ca_node.specs.Place.{Place}
@@ -18,16 +20,16 @@ use Rattle.ca_node.specs.Shape.{Role, Out, Base, Route, place_of, IsShape}
 use Rattle.ca_node.specs.Stays.{map_same}
 use Rattle.ca_node.specs.Tree.{IsAlive, IsLinkOfView, IsTrue, IsTrueWay}
 use Rattle.ca_node.specs.TreeView.{Note, Way, TreeView}
-use Rattle.ca_node.proofs.Relinked.{IsRoute, base_no_route, out_no_route, relinked_ranges, relinked_row, relinked_object, relinked_border, relinked_routes}
+use Rattle.ca_node.proofs.Relinked.{IsRoute, base_no_route, out_no_route, relinked_ranges, relinked_joins, relinked_keeps, relinked_row, relinked_object, relinked_border, relinked_routes}
 use Rattle.ca_rows.specs.Layout.{row_words}
 use Rattle.ca_node.specs.Layout.{root_word}
 
 -- A link that a seat remembers leads somewhere.
 pub remembered_leads : (z : Sizes) (words : List ℕ) (role : ℕ → Role) (m : StoreMap)
     → IsShape z words role m → (u : TreeView)
-    → ((way : Way) → IsIn way u.ways → IsTrueWay words role way) → (link : ℕ) → IsLinkOfView u link
+    → (history : History) → ((way : Way) → IsIn way u.ways → IsTrueWay z words role u.since history way) → (link : ℕ) → IsLinkOfView u link
     → (place : Place) × (place.link ≡ link) × (place_of (role (get_or words link 0)) ≡ some place)
-remembered_leads z words role m shape u ways link known = ⊎_elim
+remembered_leads z words role m shape u history ways link known = ⊎_elim
     (λ (e : link ≡ root_word). (
       led_to words role root_word _ _ shape.top,
       sym e,
@@ -35,7 +37,7 @@ remembered_leads z words role m shape u ways link known = ⊎_elim
     ))
     (λ t. let r =
     route_at z words role m shape t.0.row t.0.place (route_key t.0.its)
-    (alive role t.0 (ways t.0 t.1).stands) in
+    (alive z words role u.since history t.0 (ways t.0 t.1)) in
     ⊎_elim
     (λ (e : link ≡ row_words * t.0.row + 1). (
       led_to words role (row_words * t.0.row + 1) _ _ r.left,
@@ -120,26 +122,44 @@ module _ (z : Sizes) (words : List ℕ) (role : ℕ → Role) (m : StoreMap)
         object_stays b r j = let o = t.named b r j in
             relinked_object z words role m shape old place (ap place_of is) row r o.0 o.1 o.2.0
 
-    -- A route that it remembers is as it was.
-    pub way_stays : (way : Way) → IsIn way u.ways → IsTrueWay words role way
-        → IsTrueWay (set words place.link row) role' way
-    way_stays way i t = record {
+    -- A base that was left over is out still: no row comes that has a note.
+    left_stays : (way : Way) → IsIn way u.ways → (c : ℕ) → IsUnder words way.row c → (map : StoreMap) (attempt : ℕ) (p : Place)
+        → IsLeftOver z words role map way.row attempt p c → IsOutStill words (set words place.link row) role' c
+    left_stays way i c under map attempt p left = record {
+      is_out = outs_stay c left.is_out (λ x. unnoted c x (by_link way c i under));
+      same = relinked_row z words role m shape old place (ap place_of is) row c left.some_row left.in_range (out_no_route role c left.is_out);
+      objects = λ r j. let o = left.are_objects r j in relinked_object z words role m shape old place (ap place_of is) row r o.0 o.1 o.2.0;
+    }
+
+    -- A route that it remembers is as it was, in a history that has the states that there were.
+    pub way_stays : (history history' : History)
+        → ((at : ℕ) → at ≤ length history → (at ≤ length history') × (state history' at ≡ state history at))
+        → (way : Way) → IsIn way u.ways → IsTrueWay z words role u.since history way
+        → IsTrueWay z (set words place.link row) role' u.since history' way
+    way_stays history history' longer way i t = record {
+      some_row = t.some_row;
+      in_range = t.in_range;
       stands = ⊎_elim
           (λ (e : IsAlive role way). inl (routes_stay way.row way.place (route_key way.its) e))
-          (λ d. inr d) t.stands;
-      spells = λ index fixed. relinked_routes z words role m shape old place (ap place_of is) row way.row
-          (route_at z words role m shape way.row way.place (route_key way.its)
-          (alive role way t.stands)).some_row
+          (λ (d : (at : ℕ) × IsDead z words role u.since history way at).
+          inr (d.0, dead_stays z words words' role role' u.since history history' way d.0
+          (outs_stay way.row d.1.is_out (λ x. unnoted way.row x (by_way way way.row i refl)))
+          (relinked_keeps z words role m shape old place (ap place_of is) row way.row t.some_row (out_no_route role way.row d.1.is_out))
+          (left_stays way i) (longer d.0) d.1))
+          t.stands;
+      spells = λ index fixed. relinked_routes z words role m shape old place (ap place_of is) row way.row t.some_row
           index fixed.0 fixed.1 fixed.2 fixed.3 ∙ t.spells index fixed;
+      unsecured = λ attempt now. t.unsecured attempt
+          (sym (relinked_joins z words role m shape old place (ap place_of is) row way.row) ∙ now);
     }
 
     -- What a link of such a route names is linked.
-    under_linked : ((way : Way) → IsIn way u.ways → IsTrueWay words role way) → (way : Way)
+    under_linked : (history : History) → ((way : Way) → IsIn way u.ways → IsTrueWay z words role u.since history way) → (way : Way)
         → IsIn way u.ways → (c : ℕ)
         → IsUnder (set words place.link row) way.row c → IsLinked (set words place.link row) c
-    under_linked ways way i c under =
+    under_linked history ways way i c under =
         let e = routes_stay way.row way.place (route_key way.its)
-        (alive role way (ways way i).stands) in
+        (alive z words role u.since history way (ways way i)) in
         by_route way.row c (placed_linked z words' role' n shape' way.row way.place (ap place_of e))
         (route_at z words' role' n shape' way.row way.place (route_key way.its) e).is_route under
 
@@ -187,7 +207,7 @@ module _ (z : Sizes) (words : List ℕ) (role : ℕ → Role) (m : StoreMap)
           (λ note i t. note_stays note (by_shown note note.row i refl) t) known
 
       -- What it has a note on now is what it had one on, or is linked; and then it had some note.
-      pub notes_stay : ((way : Way) → IsIn way u.ways → IsTrueWay words role way) → (c : ℕ)
+      pub notes_stay : ((way : Way) → IsIn way u.ways → IsTrueWay z words role u.since history way) → (c : ℕ)
           → IsNoted (set words place.link row) u c
           → IsNoted words u c ⊎ (IsLinked (set words place.link row) c
           × ((d : ℕ) × IsNoted words u d))
@@ -195,10 +215,10 @@ module _ (z : Sizes) (words : List ℕ) (role : ℕ → Role) (m : StoreMap)
       notes_stay ways _ (by_item note c i b k) = inl (by_item note c i b k)
       notes_stay ways _ (by_way way c i e) = inl (by_way way c i e)
       notes_stay ways _ (by_link way c i under) =
-          inr (under_linked ways way i c under, (way.row, by_way way way.row i refl))
+          inr (under_linked history ways way i c under, (way.row, by_way way way.row i refl))
       notes_stay ways _ (by_link_item way base c i under b k) =
           inr (
-            by_base base c (under_linked ways way i base under) b k,
+            by_base base c (under_linked history ways way i base under) b k,
             (way.row, by_way way way.row i refl),
           )
       notes_stay ways _ (by_border border c i e) = inl (by_border border c i e)
