@@ -246,6 +246,7 @@ module _ (z : Sizes) (s : State (Unit {0}) (View TreeView)) (r : R z s) (id : �
                 (in_more (copy_note new x) note me.0.upper.notes i);
             ways = way_keeps z s r id me at new (update_of x) ex hit over free r.above.history mark bounded
                 has_now others_have served serve served_once new_end id me.0 at longer;
+            one_place = k.one_place;
             joining = subst (λ js. IsJoining words' (copy_note new x ∷ me.0.upper.notes) me.0.upper.ways js) (sym joins)
                 (joining_more z s r id me at new (update_of x) ex hit over free r.above.history mark bounded
                 has_now others_have served serve served_once new_end);
@@ -274,6 +275,7 @@ module _ (z : Sizes) (s : State (Unit {0}) (View TreeView)) (r : R z s) (id : �
               ways = subst (λ (w : TreeView). (way : Way) → IsIn way w.ways → IsTrueWay z words' role' w.since r.above.history way) y.2
                   (way_keeps z s r id me at new (update_of x) ex hit over free r.above.history mark
                   bounded has_now others_have served serve served_once new_end j y.0 y.1 longer);
+              one_place = k.one_place;
               joining = subst (λ (w : TreeView). IsJoining words' w.notes w.ways w.ranges.joins) y.2
                   (joining_keep z s r id me at new (update_of x) ex hit over free r.above.history mark bounded
                   has_now others_have served serve served_once new_end j y.0 y.1);

@@ -49,7 +49,7 @@ use Rattle.ca_node.proofs.Listing.{in_either, in_front, in_back, Relists, listed
 use Rattle.ca_node.proofs.Looking.{R, loses, hangs_still, of_map, knows_upper, in_more}
 use Rattle.ca_node.proofs.Members.{in_notes, has, given_here, given_else, taken_here, taken_else}
 use Rattle.ca_node.proofs.Relinked.{IsNewBase, relinked_wide, relinked_else, relinked_ranges, relinked_told, relinked_joins, relinked_keeps, relinked_row, base_no_route, out_no_route}
-use Rattle.ca_node.proofs.Remembering.{remembered_leads, unlinked_out, note_stays, way_stays, ranges_stay, notes_stay}
+use Rattle.ca_node.proofs.Remembering.{shown_hangs, unlinked_out, note_stays, way_stays, ranges_stay, notes_stay}
 use Rattle.ca_rows.specs.Layout.{row_words}
 use Rattle.ca_node.specs.Layout.{root_word}
 
@@ -107,13 +107,8 @@ module _ (z : Sizes) (s : State (Unit {0}) (View TreeView)) (r : R z s) (id : �
 
   -- The old base hangs where it was shown.
   is_old : r.above.role x.old.row ≡ Base x.old.place
-  is_old = let l = remembered_leads z s.words role last shape d.upper r.above.history knows.ways x.old.place.link
-      (knows.links x.old (was_shown z me x u)) in ⊎_elim
-      (λ (e : r.above.role x.old.row ≡ Base x.old.place). e)
-      (λ (out : r.above.role x.old.row
-      ≡ Out). absurd (some-ne-none l.0 (sym l.2
-      ∙ (ap (λ (c : ℕ). place_of (role c)) hit ∙ ap place_of out))))
-      old_true.stands
+  is_old = shown_hangs z s.words role last shape d.upper r.above.history knows.ways x.old old_true
+      (knows.links x.old (was_shown z me x u)) hit (unjoined_over z s r id d at x.old.its u.settled.1)
 
   old_at : IsBaseAt z s.words r.above.role (after r.above.history []) x.old.place x.old.row
   old_at = base_at z s.words role last shape x.old.row x.old.place is_old
@@ -708,6 +703,7 @@ module _ (z : Sizes) (s : State (Unit {0}) (View TreeView)) (r : R z s) (id : �
         notes = note_keeps j y here;
         links = k.links;
         ways = way_keeps j y here;
+        one_place = k.one_place;
         joining = let w = knows_upper z s r j y here in
             joining_keeps z s.words role last shape x.old.row place is_old x.route old_free y.upper w.links
             (λ note i. (w.notes note i).spells) w.joining;
@@ -726,6 +722,7 @@ module _ (z : Sizes) (s : State (Unit {0}) (View TreeView)) (r : R z s) (id : �
     notes = λ note i. absurd (in_nothing note [] refl i);
     links = λ note i. absurd (in_nothing note [] refl i);
     ways = k.ways;
+    one_place = k.one_place;
     joining = joining_unnoted words' d.upper.notes d.upper.ways d.upper.ranges.joins k.joining;
     ended = k.ended;
   }

@@ -50,7 +50,7 @@ use Rattle.ca_node.proofs.Members.{in_notes, in_rest, has, given_here, given_els
 use Rattle.ca_node.proofs.Named.{named_once}
 use Rattle.ca_node.proofs.Rebased.{with_base, with_base_new, with_base_old, with_base_else, shape_rebased}
 use Rattle.ca_node.proofs.Relinked.{IsNewBase, relinked_wide, relinked_else, relinked_ranges, relinked_told, relinked_joins, relinked_row, relinked_object, base_no_route, out_no_route, relinked_keeps}
-use Rattle.ca_node.proofs.Remembering.{remembered_leads, unlinked_out, note_stays, way_stays, ranges_stay, notes_stay}
+use Rattle.ca_node.proofs.Remembering.{shown_hangs, unlinked_out, note_stays, way_stays, ranges_stay, notes_stay}
 use Rattle.ca_rows.specs.Layout.{row_words}
 use Rattle.ca_node.specs.Layout.{root_word, sequence_unit}
 
@@ -133,13 +133,8 @@ module _ (z : Sizes) (s : State (Unit {0}) (View TreeView)) (r : R z s) (id : �
 
   -- The old base hangs where it was shown.
   pub is_old : r.above.role x.old.row ≡ Base x.old.place
-  is_old = let l = remembered_leads z s.words role last shape d.upper r.above.history knows.ways x.old.place.link
-      (knows.links x.old (in_notes x.old me.0.upper.notes u.shown)) in ⊎_elim
-      (λ (e : r.above.role x.old.row ≡ Base x.old.place). e)
-      (λ (out : r.above.role x.old.row
-      ≡ Out). absurd (some-ne-none l.0 (sym l.2
-      ∙ (ap (λ (c : ℕ). place_of (role c)) hit ∙ ap place_of out))))
-      old_true.stands
+  is_old = shown_hangs z s.words role last shape d.upper r.above.history knows.ways x.old old_true
+      (knows.links x.old (in_notes x.old me.0.upper.notes u.shown)) hit free
 
   old_at : IsBaseAt z s.words r.above.role (after r.above.history []) x.old.place x.old.row
   old_at = base_at z s.words role last shape x.old.row x.old.place is_old

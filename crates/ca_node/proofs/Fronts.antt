@@ -80,6 +80,7 @@ tree_learning = record {
         notes = k.notes;
         links = k.links;
         ways = k.ways;
+        one_place = k.one_place;
         joining = k.joining;
         ended = k.ended;
       }
@@ -140,6 +141,7 @@ front_more z made words uppers id u f at = let next : List TreeView = uppers ++ 
             notes = k.notes;
             links = k.links;
             ways = k.ways;
+            one_place = k.one_place;
             joining = k.joining;
             ended = λ x i. let e = k.ended x i in let lo = e.some_number in record {
               some_number = lo;
@@ -180,6 +182,7 @@ front_more z made words uppers id u f at = let next : List TreeView = uppers ++ 
       notes = λ note i. absurd (in_nothing note [] refl i);
       links = λ note i. absurd (in_nothing note [] refl i);
       ways = λ way i. absurd (in_nothing way [] refl i);
+      one_place = λ a b i. absurd (in_nothing a [] refl i);
       joining = nothing_joining words;
       ended = λ x i. absurd (in_nothing x [] refl i);
     }

@@ -178,6 +178,7 @@ module _ (z : Sizes) (s : State (Unit {0}) (View TreeView)) (r : R z s) (id : �
             (λ (o : IsIn note me.0.upper.notes). knows.links note o)
             (in_more (copy_note new x) note me.0.upper.notes i);
         ways = way_keeps z s r id me at new (update_of x) ex hit over free r.above.history mark bounded has_now others_have [] serve once new_end id me.0 at longer;
+        one_place = k.one_place;
         joining = joining_more z s r id me at new (update_of x) ex hit over free r.above.history mark bounded has_now others_have [] serve once new_end;
         ended = k.ended;
       }
@@ -201,6 +202,7 @@ module _ (z : Sizes) (s : State (Unit {0}) (View TreeView)) (r : R z s) (id : �
           ways = subst (λ (w : TreeView). (way : Way) → IsIn way w.ways → IsTrueWay z words' role' w.since r.above.history way) y.2
               (way_keeps z s r id me at new (update_of x) ex hit over free r.above.history mark bounded has_now others_have [] serve once new_end
               j y.0 y.1 longer);
+          one_place = k.one_place;
           joining = subst (λ (w : TreeView). IsJoining words' w.notes w.ways w.ranges.joins) y.2
               (joining_keep z s r id me at new (update_of x) ex hit over free r.above.history mark bounded has_now others_have [] serve once new_end j y.0 y.1);
           ended = k.ended;

@@ -306,6 +306,7 @@ module _ (z : Sizes) (s : State (Unit {0}) (View TreeView)) (r : R z s) (route :
             spells = λ index fixed. way_stays way index fixed.0 fixed.3 ∙ t.spells index fixed;
             unsecured = unsecured_then way t.unsecured;
           };
+          one_place = k.one_place;
           joining = joining_then;
           ended = k.ended;
         }
@@ -373,6 +374,7 @@ module _ (z : Sizes) (s : State (Unit {0}) (View TreeView)) (r : R z s) (route :
         notes = k.notes;
         links = k.links;
         ways = k.ways;
+        one_place = k.one_place;
         joining = own;
         ended = k.ended;
       }

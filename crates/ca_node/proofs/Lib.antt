@@ -19,6 +19,7 @@ pub mod JoinWord
 pub mod Joined
 pub mod KeyOrder
 pub mod LastTrees
+pub mod LinkLoads
 pub mod Listing
 pub mod LentOver
 pub mod Logs

@@ -97,6 +97,7 @@ module _ (z : Sizes) (s : State (Unit {0}) (View TreeView)) (r : R z s) (id : â„
           notes = w.notes;
           links = w.links;
           ways = w.ways;
+          one_place = w.one_place;
           joining = w.joining;
           ended = w.ended;
         }
@@ -188,6 +189,7 @@ module _ (z : Sizes) (s : State (Unit {0}) (View TreeView)) (r : R z s) (id : â„
           notes = w.notes;
           links = w.links;
           ways = w.ways;
+          one_place = w.one_place;
           joining = w.joining;
           ended = w.ended;
         }

@@ -115,6 +115,7 @@ module _ (z : Sizes) (s : State (Unit {0}) (View TreeView)) (r : R z s) (id : â„
           notes = k.notes;
           links = k.links;
           ways = k.ways;
+          one_place = k.one_place;
           joining = k.joining;
           ended = k.ended;
         } record {

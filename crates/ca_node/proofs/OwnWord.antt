@@ -238,6 +238,7 @@ module _ (z : Sizes) (s : State (Unit {0}) (View TreeView)) (r : R z s) (pass wo
           spells = λ index fixed. let b = fixed.0 in else_word (row_words * way.row + index) (omega arith) ∙ t.spells index fixed;
           unsecured = λ attempt now. t.unsecured attempt (sym (else_word (row_words * way.row + 3) (omega arith)) ∙ now);
         };
+        one_place = k.one_place;
         joining = joining_same s.words words' y.upper k.links
             (λ way i index l. let w = way_range j y here way i in let a = w.1 in else_word (row_words * way.row + index) (omega arith)) k.joining;
         ended = k.ended;

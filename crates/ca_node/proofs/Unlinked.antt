@@ -1,5 +1,5 @@
 -- A route is unlinked: by one exchange of its link a base takes its place that has the objects of the two bases under it. It is the inverse of a division.
-use Rattle.std.proofs.Common.{◌≡◌, ◌≢◌, ◌⊎◌, ℕ, ◌+◌, ◌*◌, eqb, cond, List, ◌++◌, map, get_or, set, sym, refl, ap, ◌∙◌, subst, inl, inr, ⊎_elim, arith}
+use Rattle.std.proofs.Common.{◌≡◌, ◌≢◌, ◌⊎◌, ℕ, ◌+◌, ◌*◌, ◌<◌, ◌≤◌, le_refl, eqb, cond, List, ◌++◌, length, map, get_or, set, sym, refl, ap, ◌∙◌, subst, inl, inr, ⊎_elim, arith}
 use Rattle.std.proofs.lemmas.Bool.Decides.{nat_tests}
 use Rattle.std.proofs.lemmas.List.{map-append}
 use mathlib.Core.Logic.{dite}
@@ -7,15 +7,19 @@ use mathlib.Core.Option.{some, some-injective, some-ne-none}
 use native.Mathlib.Decide.{ℕ_discrete}
 use Rattle.std.specs.declared.cmp.Ordering.{Ordering}
 use Rattle.std.specs.declared.cmp.Ordering.TheVariants.{Less, Equal, Greater}
+use Rattle.ca_model.specs.History.{History, state}
 use Rattle.ca_model.specs.StoreMap.{Pair, StoreMap, bytes_cmp, IsStoreMap}
 use Rattle.ca_rows.specs.declared.sizes.Sizes.{Sizes}
-use Rattle.ca_node.specs.Place.{Span, all_keys, left_of, HasKey, part, Place, IsLinkOf}
-use Rattle.ca_node.specs.Row.{row_at, IsBaseRow, items, pair, objects_in}
+use Rattle.ca_node.specs.Attempts.{IsSecured}
+use Rattle.ca_node.specs.Hindsight.{IsLeftOver, LedTo, IsDead}
+use Rattle.ca_node.specs.Links.{IsIn}
+use Rattle.ca_node.specs.Place.{Span, all_keys, left_of, right_of, HasKey, part, Place, IsLinkOf}
+use Rattle.ca_node.specs.Row.{row_at, IsObjectRow, IsBaseRow, count, level, items, IsMarkedFor, route_key, pair, objects_in}
 use Rattle.ca_node.specs.Shape.{Role, Out, Base, Route, place_of, LeadsTo, IsBaseAt, IsRouteAt, IsSo, IsShape}
 use Rattle.ca_node.specs.Reached.{same_place, base_at, route_at, led_to, led_place, hung, deeper}
-use Rattle.ca_node.specs.Standing.{link_route}
+use Rattle.ca_node.specs.Standing.{objects_same, heads_same, link_route}
 use Rattle.ca_node.proofs.Parts.{part_sides, goes_left, goes_right}
-use Rattle.ca_node.proofs.Relinked.{IsRoute, IsNewBase, AreRolesThen, relinked_wide, relinked_here, link_still, lead_still, row_still, base_comes}
+use Rattle.ca_node.proofs.Relinked.{IsRoute, base_no_route, IsNewBase, AreRolesThen, relinked_wide, relinked_here, relinked_else, relinked_joins, relinked_row, relinked_object, link_still, lead_still, row_still, base_comes}
 use Rattle.ca_rows.specs.Layout.{row_words}
 use Rattle.ca_node.specs.Layout.{root_word}
 
@@ -32,15 +36,8 @@ module _ (role : ℕ → Role) (place : Place) (route left right new : ℕ) wher
 
   -- The route and its two bases are nothing.
   pub without_out : (row : ℕ) → row ≢ new → (row ≡ route) ⊎ ((row ≡ left) ⊎ (row ≡ right)) → without_route role place route left right new row ≡ Out
-  without_out row n is = ⊎_elim
-      (λ (e : row ≡ route). grind (arith, nat_tests))
-      (λ other. ⊎_elim (λ (e : row ≡ left). without_left row n e) (λ (e : row ≡ right). without_right row n e) other) is
-    where
-      without_left : (row : ℕ) → row ≢ new → row ≡ left → without_route role place route left right new row ≡ Out
-      without_left row n e = grind (arith, nat_tests)
-
-      without_right : (row : ℕ) → row ≢ new → row ≡ right → without_route role place route left right new row ≡ Out
-      without_right row n e = grind (arith, nat_tests)
+  without_out row n is = ⊎_elim (λ (e : row ≡ route). grind (arith, nat_tests))
+      (λ o. ⊎_elim (λ (e : row ≡ left). grind (arith, nat_tests)) (λ (e : row ≡ right). grind (arith, nat_tests)) o) is
 
   -- Each other row is what it was.
   pub without_else : (row : ℕ) → row ≢ new → row ≢ route → row ≢ left → row ≢ right → without_route role place route left right new row ≡ role row
@@ -95,23 +92,14 @@ module _ (z : Sizes) (words : List ℕ) (role : ℕ → Role) (m : StoreMap) (sh
   pub role_right : role (get_or words (row_words * route + 2) 0) ≡ Base right_span
   role_right = base_under (row_words * route + 2) _ _ was.right is_right
 
-  -- Bases are none of the rows that were nothing, and no routes.
-  no_base : (c : ℕ) (q : Place) → role c ≡ Base q → role c ≡ Out → ⊥
-  no_base c q e f = let g : Base q ≡ Out = sym e ∙ f in cc
-
-  route_new : route ≢ new
-  route_new e = let g : Route place k ≡ Out = sym is ∙ (ap role e ∙ b.is_out) in cc
-
-  left_new : left ≢ new
-  left_new e = no_base left left_span role_left (ap role e ∙ b.is_out)
-
-  right_new : right ≢ new
-  right_new e = no_base right right_span role_right (ap role e ∙ b.is_out)
-
-  -- What goes isn't the new base, and is nothing then.
+  -- What goes had a place, so it isn't the new base; and it is nothing then.
   pub going_other : (c : ℕ) → IsGoing c → c ≢ new
-  going_other c g e = ⊎_elim (λ (f : c ≡ route). route_new (sym f ∙ e))
-      (λ o. ⊎_elim (λ (f : c ≡ left). left_new (sym f ∙ e)) (λ (f : c ≡ right). right_new (sym f ∙ e)) o) g
+  going_other c g e = ⊎_elim (λ (f : c ≡ route). apart route place hangs (sym f ∙ e))
+      (λ o. ⊎_elim (λ (f : c ≡ left). apart left left_span (ap place_of role_left) (sym f ∙ e))
+      (λ (f : c ≡ right). apart right right_span (ap place_of role_right) (sym f ∙ e)) o) g
+    where
+      apart : (d : ℕ) (q : Place) → place_of (role d) ≡ some q → d ≢ new
+      apart d q h f = some-ne-none q (sym h ∙ (ap (λ y. place_of (role y)) f ∙ ap place_of b.is_out))
 
   pub role_going : (c : ℕ) → IsGoing c → roles c ≡ Out
   role_going c g = without_out role place route left right new c (going_other c g) g
@@ -164,12 +152,6 @@ module _ (z : Sizes) (words : List ℕ) (role : ℕ → Role) (m : StoreMap) (sh
   kept_root : (r : ℕ) → IsGoing r → ¬ IsLinkOf r root_word
   kept_root r g of = ⊎_elim (λ (f : root_word ≡ row_words * r + 1). omega arith) (λ (f : root_word ≡ row_words * r + 2). omega arith) of
 
-  left_at : IsBaseAt z words role m left_span left
-  left_at = base_at z words role m shape left left_span role_left
-
-  right_at : IsBaseAt z words role m right_span right
-  right_at = base_at z words role m shape right right_span role_right
-
   -- the pair of an object row
   abbrev f : ℕ → Pair
   f row = pair (row_at words row)
@@ -178,8 +160,8 @@ module _ (z : Sizes) (words : List ℕ) (role : ℕ → Role) (m : StoreMap) (sh
   pub united_has : objects_in words new ≡ part place.span m
   united_has = ap (map f) united
       ∙ (map-append f (items (row_at words left)) (items (row_at words right))
-      ∙ (ap (λ (xs : StoreMap). xs ++ map f (items (row_at words right))) left_at.has
-      ∙ (ap (λ (xs : StoreMap). part (left_of k place.span) m ++ xs) right_at.has
+      ∙ (ap (λ (xs : StoreMap). xs ++ map f (items (row_at words right))) (base_at z words role m shape left left_span role_left).has
+      ∙ (ap (λ (xs : StoreMap). part (left_of k place.span) m ++ xs) (base_at z words role m shape right right_span role_right).has
       ∙ sym (part_sides p place.span m k is_map was.inside))))
 
   new_at : IsBaseAt z words' roles m place new
@@ -254,7 +236,7 @@ module _ (z : Sizes) (words : List ℕ) (role : ℕ → Role) (m : StoreMap) (sh
       (base_was d s g))
       (base_was c q e)
 
-  -- The exchange of the link puts the new base in the place of the route and of its bases.
+  -- The exchange of the link puts the new base in the place of the route and of its bases,
   pub shape_unlinked : IsShape z (set words place.link new)
       (without_route role place route (get_or words (row_words * route + 1) 0) (get_or words (row_words * route + 2) 0) new) m
   shape_unlinked = record {
@@ -263,3 +245,51 @@ module _ (z : Sizes) (words : List ℕ) (role : ℕ → Role) (m : StoreMap) (sh
     each_row = so;
     apart = alone;
   }
+
+  -- and from then on the route is dead for each seat that remembers it, where its attempt is secured, which marked both bases: with the state that there was.
+  module _ (history : History) (last : state history (length history) ≡ m) (attempt : ℕ) (secured : IsSecured words route attempt)
+      (marked_left : IsMarkedFor (row_at words (get_or words (row_words * route + 1) 0)) route attempt)
+      (marked_right : IsMarkedFor (row_at words (get_or words (row_words * route + 2) 0)) route attempt) where
+    -- A link of the route names what it named, and that is left over.
+    led_then : (link : ℕ) (span : Span) (l : LeadsTo words role link (place.level + 1) span) → IsLinkOf route link → IsGoing (get_or words link 0)
+        → IsBaseRow (row_at words (get_or words link 0)) → IsMarkedFor (row_at words (get_or words link 0)) route attempt
+        → LedTo z words' roles (state history (length history)) route attempt link (place.level + 1) span
+    led_then link span l of g base marked = let c = get_or words link 0 in let q = led_to words role link (place.level + 1) span l in
+        let e = base_under link (place.level + 1) span l base in let at = base_at z words role m shape c q e in
+        let here : get_or words' link 0 ≡ c = relinked_else z words role m shape route place hangs new link
+        (λ f. kept_link route (inl refl) (subst (IsLinkOf route) f of)) in
+        let same = relinked_row z words role m shape route place hangs new c at.some_row at.in_range (base_no_route role c q e) in
+        let objects : (r : ℕ) → IsIn r (items (row_at words c)) → row_at words' r ≡ row_at words r = λ r i. let o = at.are_objects r i in
+        relinked_object z words role m shape route place hangs new r o.0 o.1 o.2.0 in record {
+          level = l.level;
+          greater = l.greater;
+          base = subst (IsLeftOver z words' roles (state history (length history)) route attempt q) (sym here) record {
+            some_row = at.some_row;
+            in_range = at.in_range;
+            is_out = role_going c g;
+            deep = at.deep;
+            is_base = subst IsBaseRow (sym same) at.is_base;
+            level_is = ap level same ∙ at.level_is;
+            few = subst (λ its. count its ≤ z.leaf) (sym same) at.few;
+            marked = subst (λ its. IsMarkedFor its route attempt) (sym same) marked;
+            are_objects = λ r i. let before = subst (λ its. IsIn r (items its)) same i in let o = at.are_objects r before in
+                (o.0, o.1, subst IsObjectRow (sym (objects r before)) o.2);
+            headed = heads_same words words' c same objects at.headed;
+            has = objects_same words words' c same objects ∙ (at.has ∙ ap (part span) (sym last));
+          };
+        }
+
+    pub way_dies : (since : History) → length since ≤ length history → 1 < z.passes → (its : List ℕ) → route_key its ≡ k
+        → IsDead z words' roles since history (record { row = route; its = its; place = place }) (length history)
+    way_dies since before several its key = record {
+      several = several;
+      since_pin = before;
+      in_history = le_refl (length history);
+      is_out = role_going route (inl refl);
+      attempt = attempt;
+      secured = relinked_joins z words role m shape route place hangs new route ∙ secured;
+      left = subst (λ y. LedTo z words' roles (state history (length history)) route attempt (row_words * route + 1) (place.level + 1) (left_of y place.span))
+          (sym key) (led_then (row_words * route + 1) _ was.left (inl refl) (inr (inl refl)) is_left marked_left);
+      right = subst (λ y. LedTo z words' roles (state history (length history)) route attempt (row_words * route + 2) (place.level + 1) (right_of y place.span))
+          (sym key) (led_then (row_words * route + 2) _ was.right (inr refl) (inr (inr refl)) is_right marked_right);
+    }

@@ -255,6 +255,7 @@ module _ (z : Sizes) (s : State (Unit {0}) (View TreeView)) (r : R z s) (id : �
             (in_more new_note note d.upper.notes i);
         ways = way_keeps z s r id me at new x ex hit over free (r.above.history ++ own ∷ []) mark bounded has_now
             others_have [] serve once new_end id d at longer;
+        one_place = k'.one_place;
         joining = joining_more z s r id me at new x ex hit over free (r.above.history ++ own ∷ []) mark bounded has_now
             others_have [] serve once new_end;
         ended = λ y i.
@@ -284,6 +285,7 @@ module _ (z : Sizes) (s : State (Unit {0}) (View TreeView)) (r : R z s) (id : �
         ways = subst (λ (w : TreeView). (way : Way) → IsIn way w.ways → IsTrueWay z words' role' w.since (r.above.history ++ own ∷ []) way) y.2
             (way_keeps z s r id me at new x ex hit over free (r.above.history ++ own ∷ []) mark bounded has_now
             others_have [] serve once new_end j y.0 y.1 longer);
+        one_place = k.one_place;
         joining = subst (λ (w : TreeView). IsJoining words' w.notes w.ways w.ranges.joins) y.2
             (joining_keep z s r id me at new x ex hit over free (r.above.history ++ own ∷ []) mark bounded has_now
             others_have [] serve once new_end j y.0 y.1);

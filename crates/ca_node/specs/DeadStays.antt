@@ -74,6 +74,7 @@ pub dead_stays : (z : Sizes) (words others : List ℕ) (role role' : ℕ → Rol
     → (at ≤ length history → (at ≤ length history') × (state history' at ≡ state history at))
     → IsDead z words role since history way at → IsDead z others role' since history' way at
 dead_stays z words others role role' since history history' way at out same bases longer d = let more = longer d.in_history in record {
+  several = d.several;
   since_pin = d.since_pin;
   in_history = more.0;
   is_out = out;

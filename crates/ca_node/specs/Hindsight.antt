@@ -35,6 +35,7 @@ pub record LedTo (z : Sizes) (words : List ℕ) (role : ℕ → Role) (map : Sto
 -- The route was unlinked since the seat was pinned, at this place of the history: it isn't in the tree any more, its last attempt stays secured, and its links
 -- name both bases that this attempt marked, with what the state at that place has.
 pub record IsDead (z : Sizes) (words : List ℕ) (role : ℕ → Role) (since history : History) (way : Way) (at : ℕ) : Type 0 where
+  pub several : 1 < z.passes
   pub since_pin : length since ≤ at
   pub in_history : at ≤ length history
   pub is_out : role way.row ≡ Out

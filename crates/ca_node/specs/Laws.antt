@@ -12,6 +12,7 @@ use Rattle.ca_runs.specs.Runs.{Ends}
 use Rattle.ca_runs.proofs.Keeping.{runs_still}
 use Rattle.ca_rows.proofs.Making.{at_place}
 use Rattle.ca_rows.proofs.Rules.{all_seats}
+use Rattle.ca_node.specs.Attempts.{IsSecured}
 use Rattle.ca_node.specs.DeadStays.{dead_stays, under_dead}
 use Rattle.ca_node.specs.Inventory.{IsInventory}
 use Rattle.ca_node.specs.Joining.{IsJoining}
@@ -31,10 +32,10 @@ use Rattle.ca_node.specs.TreeView.{Note, Way, Border, Begun, Ranging, Quiet, Unm
 use Rattle.ca_rows.specs.Layout.{row_words, passes_words}
 use Rattle.ca_node.specs.Layout.{root_word}
 
--- A route that a seat remembers is alive, since none is secured as yet.
+-- A route that a seat remembers is alive, if no attempt of it is secured.
 pub alive : (z : Sizes) (words : List ℕ) (role : ℕ → Role) (since history : History) (way : Way) → IsTrueWay z words role since history way
-    → IsAlive role way
-alive z words role since history way t = ⊎_elim (λ (e : IsAlive role way). e) (λ d. absurd (t.unsecured d.1.attempt d.1.secured)) t.stands
+    → ((attempt : ℕ) → ¬ IsSecured words way.row attempt) → IsAlive role way
+alive z words role since history way t free = ⊎_elim (λ (e : IsAlive role way). e) (λ d. absurd (free d.1.attempt d.1.secured)) t.stands
 
 pub in_nothing : {A : Type 0} (x : A) (xs : List A) → xs ≡ [] → IsIn x xs → ⊥
 in_nothing x xs e i = some-ne-none x (sym (ap (λ ys. get_elem? ys i.0) (sym e) ∙ i.1))
@@ -324,6 +325,7 @@ module _ (z : Sizes) (made : ℕ) (uppers : List TreeView) (words others : List 
       notes = note_now j u at;
       links = k.links;
       ways = way_now j u at;
+      one_place = k.one_place;
       joining = joining_now j u at;
       ended = k.ended;
     };
@@ -373,6 +375,7 @@ relisted z made words role uppers uppers' history j u n k = record {
   notes = k.notes;
   links = k.links;
   ways = k.ways;
+  one_place = k.one_place;
   joining = k.joining;
   ended = λ x i. let e = k.ended x i in let lo = e.some_number in record {
     some_number = lo;
@@ -456,16 +459,11 @@ tree_pinning = record {
         since_first = starts_whole u.seen;
         lawful = k.lawful;
         past = k.past;
-        notes = k.notes;
-        links = k.links;
-        ways = λ way n. let t = k.ways way n in record {
-          some_row = t.some_row;
-          in_range = t.in_range;
-          stands = inl (alive z words f.role u.since f.history way t);
-          spells = t.spells;
-          unsecured = t.unsecured;
-        };
-        joining = k.joining;
+        notes = λ note i. absurd (in_nothing note [] refl i);
+        links = λ note i. absurd (in_nothing note [] refl i);
+        ways = λ way i. absurd (in_nothing way [] refl i);
+        one_place = λ a b i. absurd (in_nothing a [] refl i);
+        joining = nothing_joining words;
         ended = k.ended;
       }
       (let known = f.ranged.each i u at in record {
@@ -476,7 +474,7 @@ tree_pinning = record {
         sequence = known.sequence;
         run = known.run;
       });
-  entering_notes = λ words u. noted_alike words u (pinned u) (λ n i. i) (λ w i. i) (λ b i. i)
+  entering_notes = λ words u. noted_alike words u (pinned u) (λ n i. absurd (in_nothing n [] refl i)) (λ w i. absurd (in_nothing w [] refl i)) (λ b i. i)
       (λ row o. absurd (left_run words u (pinned u) row refl o)) (λ n i. i);
   keeps_leaving = λ z made uppers words i u f at. let k = relisted z made words f.role uppers (set uppers i (unpinned u)) f.history i u
       (numbered uppers i u (unpinned u) at (λ _. refl)) (f.each_seat i u at) in
@@ -491,6 +489,7 @@ tree_pinning = record {
         notes = λ note i. absurd (in_nothing note [] refl i);
         links = λ note i. absurd (in_nothing note [] refl i);
         ways = λ way i. absurd (in_nothing way [] refl i);
+        one_place = λ a b i. absurd (in_nothing a [] refl i);
         joining = nothing_joining words;
         ended = k.ended;
       }
@@ -530,6 +529,7 @@ knows_nothing z made words role uppers history j number before alone unmade = re
   notes = λ note i. absurd (in_nothing note [] refl i);
   links = λ note i. absurd (in_nothing note [] refl i);
   ways = λ way i. absurd (in_nothing way [] refl i);
+  one_place = λ a b i. absurd (in_nothing a [] refl i);
   joining = nothing_joining words;
   ended = λ x i. absurd (in_nothing x [] refl i);
 }
@@ -593,6 +593,7 @@ tree_making = record {
           notes = k.notes;
           links = k.links;
           ways = k.ways;
+          one_place = k.one_place;
           joining = k.joining;
           ended = λ x i. let e = k.ended x i in let before = e.made_before in record {
             some_number = e.some_number;
@@ -682,6 +683,7 @@ module _ (z : Sizes) (made : ℕ) (words : List ℕ) (uppers : List TreeView) (i
         notes = k.notes;
         links = k.links;
         ways = k.ways;
+        one_place = k.one_place;
         joining = k.joining;
         ended = one_more_ended w.number refl v.ended k.ended;
       }

@@ -69,6 +69,7 @@ pub record Knows (z : Sizes) (made : ℕ) (words : List ℕ) (role : ℕ → Rol
   pub notes : (note : Note) → IsIn note u.notes → IsTrue z.rows words role note
   pub links : (note : Note) → IsIn note u.notes → IsLinkOfView u note.place.link
   pub ways : (way : Way) → IsIn way u.ways → IsTrueWay z words role u.since history way
+  pub one_place : (a b : Way) → IsIn a u.ways → IsIn b u.ways → a.row ≡ b.row → (a.place ≡ b.place) × (route_key a.its ≡ route_key b.its)
   pub joining : IsJoining words u.notes u.ways u.ranges.joins
   pub ended : (x : Ended) → IsIn x u.ended → IsEnded made uppers history x
 
