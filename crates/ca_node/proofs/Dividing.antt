@@ -612,25 +612,25 @@ module _ (z : Sizes) (s : State (Unit {0}) (View TreeView)) (r : R z s) (id : �
   note_keeps : (j : ℕ) (y : View TreeView) → get_elem? s.views j ≡ some y → (note : Note)
       → IsIn note y.upper.notes → IsTrue z.rows words' role' note
   note_keeps j y here note i =
-      note_stays z s.words role last shape x.old.row place is_old x.route role' last shape' Coming
-      routes_stay bases_stay outs_stay marked_stay
+      note_stays z s.words role last shape x.old.row place (ap place_of is_old) x.route role' last shape' Coming (λ _. ⊥)
+      (λ c p key e. inl (routes_stay c p key e)) (λ c d x. absurd x) bases_stay outs_stay marked_stay
       y.upper (unnoted j y here) note (by_note note note.row i refl)
       ((knows_upper z s r j y here).notes note i)
 
   way_keeps : (j : ℕ) (y : View TreeView) → get_elem? s.views j ≡ some y → (way : Way)
       → IsIn way y.upper.ways → IsTrueWay z words' role' y.upper.since r.above.history way
   way_keeps j y here way i =
-      way_stays z s.words role last shape x.old.row place is_old x.route role' last shape' Coming
-      routes_stay bases_stay outs_stay marked_stay
-      y.upper (unnoted j y here) r.above.history r.above.history (λ at l. (l, refl)) way i ((knows_upper z s r j y here).ways way i)
+      way_stays z s.words role last shape x.old.row place (ap place_of is_old) x.route role' last shape' Coming (λ _. ⊥)
+      (λ c p key e. inl (routes_stay c p key e)) (λ c d x. absurd x) bases_stay outs_stay marked_stay
+      y.upper (unnoted j y here) r.above.history r.above.history (λ at l. (l, refl)) (λ w a x. absurd x) way i ((knows_upper z s r j y here).ways way i)
 
   notes_keep : (j : ℕ) (y : View TreeView) → get_elem? s.views j ≡ some y → (c : ℕ)
       → IsNoted words' y.upper c
       → IsNoted s.words y.upper c ⊎ (IsLinked words' c × (y.pin.pinned ≡ true))
   notes_keep j y here c n = ⊎_elim (λ o. inl o)
       (λ l. inr (l.0, (r.seat j y here).noted_pinned l.1.0 l.1.1))
-      (notes_stay z s.words role last shape x.old.row place is_old x.route role' last shape' Coming
-      routes_stay bases_stay outs_stay marked_stay
+      (notes_stay z s.words role last shape x.old.row place (ap place_of is_old) x.route role' last shape' Coming (λ _. ⊥)
+      (λ c p key e. inl (routes_stay c p key e)) (λ c d x. absurd x) bases_stay outs_stay marked_stay
       y.upper (unnoted j y here) (r.above.ranged.ends y.upper.number) f.history
       (f.ranged.each j y.upper (at_map upper_of s.views j y here))
       (knows_upper z s r j y here).ways c n)
@@ -640,8 +640,8 @@ module _ (z : Sizes) (s : State (Unit {0}) (View TreeView)) (r : R z s) (id : �
       → IsRanging z words' role' (r.above.ranged.ends y.upper.number) y.upper.since
       r.above.history y.upper.number y.upper.ranges
   ranging_still j y here =
-      ranges_stay z s.words role last shape x.old.row place is_old x.route role' last shape' Coming
-      routes_stay bases_stay outs_stay marked_stay
+      ranges_stay z s.words role last shape x.old.row place (ap place_of is_old) x.route role' last shape' Coming (λ _. ⊥)
+      (λ c p key e. inl (routes_stay c p key e)) (λ c d x. absurd x) bases_stay outs_stay marked_stay
       y.upper (unnoted j y here) (r.above.ranged.ends y.upper.number) f.history
       (f.ranged.each j y.upper (at_map upper_of s.views j y here)) f.history (λ at l. (l, refl))
       (λ number now none c base m. let b = was_marked c base.0 base.1 m.0 in
@@ -705,8 +705,8 @@ module _ (z : Sizes) (s : State (Unit {0}) (View TreeView)) (r : R z s) (id : �
         ways = way_keeps j y here;
         one_place = k.one_place;
         joining = let w = knows_upper z s r j y here in
-            joining_keeps z s.words role last shape x.old.row place is_old x.route old_free y.upper w.links
-            (λ note i. (w.notes note i).spells) w.joining;
+            joining_keeps z s.words role last shape x.old.row place (ap place_of is_old) x.route (λ _. old_free) y.upper w.links
+            w.notes w.joining;
         ended = k.ended;
       }
 
@@ -863,11 +863,11 @@ module _ (z : Sizes) (s : State (Unit {0}) (View TreeView)) (r : R z s) (id : �
       secured = λ c p key attempt e now. ⊎_elim
           (λ (new : c ≡ x.route). absurd (route_idle attempt (inr (subst (λ t. IsSecured words' t attempt) new now))))
           (λ (was : role c ≡ Route p key).
-          joined_keeps z s.words role last shape x.old.row place is_old x.route old_free f.joined c p key attempt was now)
+          joined_keeps z s.words role last shape x.old.row place (ap place_of is_old) x.route (λ _. old_free) f.joined c p key attempt was now)
           (routes_back c p key e);
       states = λ c p key e. ⊎_elim
           (λ (new : c ≡ x.route). subst (IsJoinWord words') (sym new) (let zero = route_word in omega arith))
-          (λ (was : role c ≡ Route p key). states_keep z s.words role last shape x.old.row place is_old x.route old_free f.joined c p key was)
+          (λ (was : role c ≡ Route p key). states_keep z s.words role last shape x.old.row place (ap place_of is_old) x.route (λ _. old_free) f.joined c p key was)
           (routes_back c p key e);
     };
     unsecured = unsecured_still z s.words words' role role' (λ c p key e. ⊎_elim

@@ -568,16 +568,16 @@ module _ (z : Sizes) (s : State (Unit {0}) (View TreeView)) (r : R z s) (id : �
       pub note_keeps : (j : ℕ) (y : View TreeView) → get_elem? s.views j ≡ some y → (note : Note)
           → IsIn note y.upper.notes → IsTrue z.rows words' role' note
       note_keeps j y here note i =
-          note_stays z s.words role last shape x.old.row place is_old new role' last' shape' Coming
-          routes_stay bases_stay outs_stay marked_stay
+          note_stays z s.words role last shape x.old.row place (ap place_of is_old) new role' last' shape' Coming (λ _. ⊥)
+          (λ c p key e. inl (routes_stay c p key e)) (λ c d x. absurd x) bases_stay outs_stay marked_stay
           y.upper (unnoted j y here) note (by_note note note.row i refl)
           ((knows_upper z s r j y here).notes note i)
 
       pub shown_keeps : (j : ℕ) (y : View TreeView) → get_elem? s.views j ≡ some y → (note : Note)
           → IsIn note y.upper.ranges.run → IsTrue z.rows words' role' note
       shown_keeps j y here note i =
-          note_stays z s.words role last shape x.old.row place is_old new role' last' shape' Coming
-          routes_stay bases_stay outs_stay marked_stay
+          note_stays z s.words role last shape x.old.row place (ap place_of is_old) new role' last' shape' Coming (λ _. ⊥)
+          (λ c p key e. inl (routes_stay c p key e)) (λ c d x. absurd x) bases_stay outs_stay marked_stay
           y.upper (unnoted j y here) note (by_shown note note.row i refl)
           ((f.ranged.each j y.upper (at_map upper_of s.views j y here)).run note i)
 
@@ -585,20 +585,20 @@ module _ (z : Sizes) (s : State (Unit {0}) (View TreeView)) (r : R z s) (id : �
           → ((at : ℕ) → at ≤ length r.above.history → (at ≤ length next) × (state next at ≡ state r.above.history at)) → (way : Way)
           → IsIn way y.upper.ways → IsTrueWay z words' role' y.upper.since next way
       way_keeps j y here longer way i =
-          way_stays z s.words role last shape x.old.row place is_old new role' last' shape' Coming
-          routes_stay bases_stay outs_stay marked_stay
-          y.upper (unnoted j y here) r.above.history next longer way i ((knows_upper z s r j y here).ways way i)
+          way_stays z s.words role last shape x.old.row place (ap place_of is_old) new role' last' shape' Coming (λ _. ⊥)
+          (λ c p key e. inl (routes_stay c p key e)) (λ c d x. absurd x) bases_stay outs_stay marked_stay
+          y.upper (unnoted j y here) r.above.history next longer (λ w a x. absurd x) way i ((knows_upper z s r j y here).ways way i)
 
       -- What a seat knows of joins is so still, for one note more, too.
       pub joining_keep : (j : ℕ) (y : View TreeView) → get_elem? s.views j ≡ some y
           → IsJoining words' y.upper.notes y.upper.ways y.upper.ranges.joins
       joining_keep j y here = let k = knows_upper z s r j y here in
-          joining_keeps z s.words role last shape x.old.row place is_old new old_free y.upper k.links
-          (λ note i. (k.notes note i).spells) k.joining
+          joining_keeps z s.words role last shape x.old.row place (ap place_of is_old) new (λ _. old_free) y.upper k.links
+          k.notes k.joining
 
       pub joining_more : IsJoining words' (new_note ∷ d.upper.notes) d.upper.ways d.upper.ranges.joins
       joining_more = joining_noted words' new_note d.upper.notes d.upper.ways d.upper.ranges.joins
-          (new_hangs z s.words role last shape x.old.row place is_old new old_free new_note mark refl refl)
+          (new_hangs z s.words role last shape x.old.row place (ap place_of is_old) new (λ _. old_free) new_note mark refl refl)
           (joining_keep id d at)
 
       notes_keep : (j : ℕ) (y : View TreeView) → get_elem? s.views j ≡ some y → (c : ℕ)
@@ -606,8 +606,8 @@ module _ (z : Sizes) (s : State (Unit {0}) (View TreeView)) (r : R z s) (id : �
           → IsNoted s.words y.upper c ⊎ (IsLinked words' c × (y.pin.pinned ≡ true))
       notes_keep j y here c n = ⊎_elim (λ o. inl o)
           (λ l. inr (l.0, (r.seat j y here).noted_pinned l.1.0 l.1.1))
-          (notes_stay z s.words role last shape x.old.row place is_old new role' last' shape' Coming
-          routes_stay bases_stay outs_stay marked_stay
+          (notes_stay z s.words role last shape x.old.row place (ap place_of is_old) new role' last' shape' Coming (λ _. ⊥)
+          (λ c p key e. inl (routes_stay c p key e)) (λ c d x. absurd x) bases_stay outs_stay marked_stay
           y.upper (unnoted j y here) (r.above.ranged.ends y.upper.number) f.history
           (f.ranged.each j y.upper (at_map upper_of s.views j y here))
           (knows_upper z s r j y here).ways c n)
@@ -623,8 +623,8 @@ module _ (z : Sizes) (s : State (Unit {0}) (View TreeView)) (r : R z s) (id : �
           → IsRanging z words' role' (r.above.ranged.ends y.upper.number) y.upper.since next
           y.upper.number y.upper.ranges
       ranging_keeps j y here longer unmarked =
-          ranges_stay z s.words role last shape x.old.row place is_old new role' last' shape' Coming
-          routes_stay bases_stay outs_stay marked_stay
+          ranges_stay z s.words role last shape x.old.row place (ap place_of is_old) new role' last' shape' Coming (λ _. ⊥)
+          (λ c p key e. inl (routes_stay c p key e)) (λ c d x. absurd x) bases_stay outs_stay marked_stay
           y.upper (unnoted j y here) (r.above.ranged.ends y.upper.number) f.history
           (f.ranged.each j y.upper (at_map upper_of s.views j y here)) next longer
           (λ number now none c base m. dite (ℕ_discrete c new)
@@ -916,9 +916,9 @@ module _ (z : Sizes) (s : State (Unit {0}) (View TreeView)) (r : R z s) (id : �
                 (λ j v ne here. (others_know j v ne here).1);
           };
           joined = record {
-            secured = λ route p key attempt e. joined_keeps z s.words role last shape x.old.row place is_old new old_free
+            secured = λ route p key attempt e. joined_keeps z s.words role last shape x.old.row place (ap place_of is_old) new (λ _. old_free)
                 f.joined route p key attempt (routes_back route p key e);
-            states = λ route p key e. states_keep z s.words role last shape x.old.row place is_old new old_free
+            states = λ route p key e. states_keep z s.words role last shape x.old.row place (ap place_of is_old) new (λ _. old_free)
                 f.joined route p key (routes_back route p key e);
           };
           unsecured = unsecured_still z s.words words' role role'

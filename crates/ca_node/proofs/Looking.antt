@@ -410,12 +410,19 @@ module _ (z : Sizes) (made : ℕ) (words : List ℕ) (uppers : List TreeView)
         (λ t. subst (λ (y : ℕ × ℕ × Span). LeadsTo words f.role y.0 y.1 y.2) (λ n. (sym t.0 n, sym deep n, sym t.1 n)) r.left)
         (λ t. subst (λ (y : ℕ × ℕ × Span). LeadsTo words f.role y.0 y.1 y.2) (λ n. (sym t.0 n, sym deep n, sym t.1 n)) r.right)
         side))
-        (λ (d : (at : ℕ) × IsDead z words f.role u.since f.history way at). inr (way, i, d.0, d.1, ⊎_elim
-        (λ t. subst (λ (y : ℕ × ℕ × Span). LedTo z words f.role (state f.history d.0) way.row d.1.attempt y.0 y.1 y.2)
-        (λ n. (sym t.0 n, sym deep n, sym t.1 n)) d.1.left)
-        (λ t. subst (λ (y : ℕ × ℕ × Span). LedTo z words f.role (state f.history d.0) way.row d.1.attempt y.0 y.1 y.2)
-        (λ n. (sym t.0 n, sym deep n, sym t.1 n)) d.1.right)
-        side, ⊎_elim (λ t. inl t.0) (λ t. inr t.0) side))
+        (λ (d : (at : ℕ) × IsDead z words f.role u.since f.history way at). inr (
+          way,
+          i,
+          d.0,
+          d.1,
+          ⊎_elim
+              (λ t. subst (λ (y : ℕ × ℕ × Span). LedTo z words f.role (state f.history d.0) way.row d.1.attempt y.0 y.1 y.2)
+              (λ n. (sym t.0 n, sym deep n, sym t.1 n)) d.1.left)
+              (λ t. subst (λ (y : ℕ × ℕ × Span). LedTo z words f.role (state f.history d.0) way.row d.1.attempt y.0 y.1 y.2)
+              (λ n. (sym t.0 n, sym deep n, sym t.1 n)) d.1.right)
+              side,
+          ⊎_elim (λ t. inl t.0) (λ t. inr t.0) side,
+        ))
         (k.ways way i).stands
 
     -- A link that it knows leads there, or is such a link.

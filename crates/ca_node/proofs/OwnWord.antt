@@ -227,14 +227,17 @@ module _ (z : Sizes) (s : State (Unit {0}) (View TreeView)) (r : R z s) (pass wo
           in_range = t.in_range;
           stands = ⊎_elim (λ (e : IsAlive role way). inl e)
               (λ (d : (place : ℕ) × IsDead z s.words role y.upper.since f.history way place).
-              inr (d.0, dead_stays z s.words words' role role y.upper.since f.history f.history way d.0 d.1.is_out
-              (λ n l. else_word (row_words * way.row + n) (omega arith))
-              (λ c under m attempt p left. record {
-                is_out = left.is_out;
-                same = row_stays c left.in_range;
-                objects = λ o n. row_stays o (left.are_objects o n).1;
-              })
-              (λ l. (l, refl)) d.1)) t.stands;
+              inr (
+                d.0,
+                dead_stays z s.words words' role role y.upper.since f.history f.history way d.0 d.1.is_out
+                    (λ n l. else_word (row_words * way.row + n) (omega arith))
+                    (λ c under m attempt p left. record {
+                      is_out = left.is_out;
+                      same = row_stays c left.in_range;
+                      objects = λ o n. row_stays o (left.are_objects o n).1;
+                    })
+                    (λ l. (l, refl)) d.1,
+              )) t.stands;
           spells = λ index fixed. let b = fixed.0 in else_word (row_words * way.row + index) (omega arith) ∙ t.spells index fixed;
           unsecured = λ attempt now. t.unsecured attempt (sym (else_word (row_words * way.row + 3) (omega arith)) ∙ now);
         };

@@ -64,16 +64,17 @@ unlinked_out z words role m shape row n = by (role row) refl
     by (Route place key) e =
         absurd (n (placed_linked z words role m shape row place (ap place_of e)))
 
--- The link of the base `old` is exchanged, after which the rows have other roles: routes stay, a
--- base stays or goes, and what is nothing stays so,
--- but for rows that come.
+-- The link of what hangs there is exchanged, after which the rows have other roles: a route stays, or is unlinked, whose links and what they name stay as they
+-- were, a base stays or goes, and what is nothing stays so, but for rows that come.
 module _ (z : Sizes) (words : List ℕ) (role : ℕ → Role) (m : StoreMap)
     (shape : IsShape z words role m) (old : ℕ) (place : Place)
-    (is : role old ≡ Base place) (row : ℕ) (role' : ℕ → Role) (n : StoreMap)
+    (is : place_of (role old) ≡ some place) (row : ℕ) (role' : ℕ → Role) (n : StoreMap)
     (shape' : IsShape z (set words place.link row) role' n)
-    (comes : ℕ → Type 0)
+    (comes dies : ℕ → Type 0)
     (routes_stay : (c : ℕ) (p : Place) (key : List ℕ) → role c ≡ Route p key
-    → role' c ≡ Route p key)
+    → (role' c ≡ Route p key) ⊎ dies c)
+    (dying : (c d : ℕ) → dies c → IsUnder (set words place.link row) c d
+    → IsUnder words c d × (row_at (set words place.link row) d ≡ row_at words d))
     (bases_stay : (c : ℕ) (p : Place) → role c ≡ Base p → (role' c ≡ Base p) ⊎ (role' c ≡ Out))
     (outs_stay : (c : ℕ) → role c ≡ Out → ¬ comes c → role' c ≡ Out)
     (marked_stay : (c : ℕ) (p : Place) (pass number : ℕ) → role c ≡ Base p
@@ -83,7 +84,7 @@ module _ (z : Sizes) (words : List ℕ) (role : ℕ → Role) (m : StoreMap)
 
   abbrev same_ranges : (pass : ℕ) → 0 < pass → pass ≤ 64
       → result_of (set words place.link row) pass ≡ result_of words pass
-  same_ranges = relinked_ranges z words role m shape old place (ap place_of is) row
+  same_ranges = relinked_ranges z words role m shape old place is row
 
   -- What a seat remembers that has no note on a row that comes.
   module _ (u : TreeView) (unnoted : (c : ℕ) → comes c → ¬ IsNoted words u c) where
@@ -93,7 +94,7 @@ module _ (z : Sizes) (words : List ℕ) (role : ℕ → Role) (m : StoreMap)
     note_stays note noted t = record {
       some_row = t.some_row;
       in_range = t.in_range;
-      spells = relinked_row z words role m shape old place (ap place_of is) row note.row t.some_row t.in_range
+      spells = relinked_row z words role m shape old place is row note.row t.some_row t.in_range
           no_route ∙ t.spells;
       named = λ b r j. let o = t.named b r j in
           (o.0, o.1, subst IsObjectRow (sym (object_stays b r j)) o.2);
@@ -120,37 +121,41 @@ module _ (z : Sizes) (words : List ℕ) (role : ℕ → Role) (m : StoreMap)
         object_stays : IsBaseRow note.its → (r : ℕ) → IsIn r (items note.its)
             → row_at words' r ≡ row_at words r
         object_stays b r j = let o = t.named b r j in
-            relinked_object z words role m shape old place (ap place_of is) row r o.0 o.1 o.2.0
+            relinked_object z words role m shape old place is row r o.0 o.1 o.2.0
 
     -- A base that was left over is out still: no row comes that has a note.
     left_stays : (way : Way) → IsIn way u.ways → (c : ℕ) → IsUnder words way.row c → (map : StoreMap) (attempt : ℕ) (p : Place)
         → IsLeftOver z words role map way.row attempt p c → IsOutStill words (set words place.link row) role' c
     left_stays way i c under map attempt p left = record {
       is_out = outs_stay c left.is_out (λ x. unnoted c x (by_link way c i under));
-      same = relinked_row z words role m shape old place (ap place_of is) row c left.some_row left.in_range (out_no_route role c left.is_out);
-      objects = λ r j. let o = left.are_objects r j in relinked_object z words role m shape old place (ap place_of is) row r o.0 o.1 o.2.0;
+      same = relinked_row z words role m shape old place is row c left.some_row left.in_range (out_no_route role c left.is_out);
+      objects = λ r j. let o = left.are_objects r j in relinked_object z words role m shape old place is row r o.0 o.1 o.2.0;
     }
 
     -- A route that it remembers is as it was, in a history that has the states that there were.
     pub way_stays : (history history' : History)
         → ((at : ℕ) → at ≤ length history → (at ≤ length history') × (state history' at ≡ state history at))
+        → ((way : Way) → IsAlive role way → dies way.row → (at : ℕ) × IsDead z (set words place.link row) role' u.since history' way at)
         → (way : Way) → IsIn way u.ways → IsTrueWay z words role u.since history way
         → IsTrueWay z (set words place.link row) role' u.since history' way
-    way_stays history history' longer way i t = record {
+    way_stays history history' longer dead way i t = record {
       some_row = t.some_row;
       in_range = t.in_range;
       stands = ⊎_elim
-          (λ (e : IsAlive role way). inl (routes_stay way.row way.place (route_key way.its) e))
+          (λ (e : IsAlive role way). ⊎_elim (λ stays. inl stays) (λ d. inr (dead way e d)) (routes_stay way.row way.place (route_key way.its) e))
           (λ (d : (at : ℕ) × IsDead z words role u.since history way at).
-          inr (d.0, dead_stays z words words' role role' u.since history history' way d.0
-          (outs_stay way.row d.1.is_out (λ x. unnoted way.row x (by_way way way.row i refl)))
-          (relinked_keeps z words role m shape old place (ap place_of is) row way.row t.some_row (out_no_route role way.row d.1.is_out))
-          (left_stays way i) (longer d.0) d.1))
+          inr (
+            d.0,
+            dead_stays z words words' role role' u.since history history' way d.0
+                (outs_stay way.row d.1.is_out (λ x. unnoted way.row x (by_way way way.row i refl)))
+                (relinked_keeps z words role m shape old place is row way.row t.some_row (out_no_route role way.row d.1.is_out))
+                (left_stays way i) (longer d.0) d.1,
+          ))
           t.stands;
-      spells = λ index fixed. relinked_routes z words role m shape old place (ap place_of is) row way.row t.some_row
+      spells = λ index fixed. relinked_routes z words role m shape old place is row way.row t.some_row
           index fixed.0 fixed.1 fixed.2 fixed.3 ∙ t.spells index fixed;
       unsecured = λ attempt now. t.unsecured attempt
-          (sym (relinked_joins z words role m shape old place (ap place_of is) row way.row) ∙ now);
+          (sym (relinked_joins z words role m shape old place is row way.row) ∙ now);
     }
 
     -- What a link of such a route names is linked, or was named by it, and has the words that it had.
@@ -158,11 +163,13 @@ module _ (z : Sizes) (words : List ℕ) (role : ℕ → Role) (m : StoreMap)
         → IsIn way u.ways → (c : ℕ) → IsUnder (set words place.link row) way.row c
         → IsLinked (set words place.link row) c ⊎ (IsUnder words way.row c × (row_at (set words place.link row) c ≡ row_at words c))
     under_linked history ways way i c under = ⊎_elim
-        (λ (e : IsAlive role way). let e' = routes_stay way.row way.place (route_key way.its) e in
-        inl (by_route way.row c (placed_linked z words' role' n shape' way.row way.place (ap place_of e'))
+        (λ (e : IsAlive role way). ⊎_elim
+        (λ (e' : IsAlive role' way). inl (by_route way.row c (placed_linked z words' role' n shape' way.row way.place (ap place_of e'))
         (route_at z words' role' n shape' way.row way.place (route_key way.its) e').is_route under))
+        (λ d. inr (dying way.row c d under))
+        (routes_stay way.row way.place (route_key way.its) e))
         (λ (d : (at : ℕ) × IsDead z words role u.since history way at).
-        let same = relinked_keeps z words role m shape old place (ap place_of is) row way.row (ways way i).some_row
+        let same = relinked_keeps z words role m shape old place is row way.row (ways way i).some_row
         (out_no_route role way.row d.1.is_out) in
         let before : IsUnder words way.row c = ⊎_elim (λ x. inl (sym (same 1 (omega arith)) ∙ x)) (λ x. inr (sym (same 2 (omega arith)) ∙ x)) under in
         inr (before, (left_stays way i c before _ _ _ (under_dead z words role u.since history way d.0 d.1 c before).1).same))
@@ -196,7 +203,7 @@ module _ (z : Sizes) (words : List ℕ) (role : ℕ → Role) (m : StoreMap)
           ranging_stays z words words' role role' same_ranges ends u.since history history'
           u.number u.ranges
           (λ border i. let b = known.borders border i in
-          relinked_border z words role m shape old place (ap place_of is) row border.row b.some_row b.in_range
+          relinked_border z words role m shape old place is row border.row b.some_row b.in_range
           (ap form b.spells ∙ b.is_border))
           unmarked
           (λ number last note marking decided on t.
@@ -206,7 +213,7 @@ module _ (z : Sizes) (words : List ℕ) (role : ℕ → Role) (m : StoreMap)
             t.0,
             (t.1.0, marked_stay t.0 t.1.0 u.number number t.1.1 t.2 now),
             subst (λ its. IsMarkedBy its u.number number)
-                (sym (relinked_row z words role m shape old place (ap place_of is) row t.0 b.some_row b.in_range
+                (sym (relinked_row z words role m shape old place is row t.0 b.some_row b.in_range
                 (base_no_route role t.0 t.1.0 t.1.1))) t.2,
           ))
           (λ note i t. note_stays note (by_shown note note.row i refl) t) known

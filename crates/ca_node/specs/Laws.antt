@@ -214,13 +214,16 @@ module _ (z : Sizes) (made : ℕ) (uppers : List TreeView) (words others : List 
       some_row = t.some_row;
       in_range = t.in_range;
       stands = ⊎_elim (λ e. inl e)
-          (λ d. inr (d.0, dead_stays z words others f.role f.role u.since f.history f.history way d.0 d.1.is_out (way_same way i)
-          (λ c under m attempt place left. record {
-            is_out = left.is_out;
-            same = noted_its c left.some_row left.in_range (by_link way c i under);
-            objects = λ r k. let o = left.are_objects r k in noted_its r o.0 o.1 (by_link_item way c r i under left.is_base k);
-          })
-          (λ l. (l, refl)) d.1)) t.stands;
+          (λ d. inr (
+            d.0,
+            dead_stays z words others f.role f.role u.since f.history f.history way d.0 d.1.is_out (way_same way i)
+                (λ c under m attempt place left. record {
+                  is_out = left.is_out;
+                  same = noted_its c left.some_row left.in_range (by_link way c i under);
+                  objects = λ r k. let o = left.are_objects r k in noted_its r o.0 o.1 (by_link_item way c r i under left.is_base k);
+                })
+                (λ l. (l, refl)) d.1,
+          )) t.stands;
       spells = λ index fixed. way_same way i index fixed.0 ∙ t.spells index fixed;
       unsecured = λ attempt now. t.unsecured attempt (sym (way_same way i 3 (omega arith)) ∙ now);
     }
