@@ -52,7 +52,7 @@ module _ (z : Sizes) (s : State (Unit {0}) (View TreeView)) (r : R z s) (id : �
       (same_inventory : u'.inventory ≡ without (mark_bound (row_at s.words end.base)) me.0.upper.inventory)
       (own_notes : (row : ℕ) → IsNoted (set s.words (own_word s.words pass + 1) word') u' row
       → IsNoted s.words me.0.upper row ⊎ IsLinked (set s.words (own_word s.words pass + 1) word') row)
-      (own_knows : Knows z.rows r.made (set s.words (own_word s.words pass + 1) word') r.above.role (set (map upper_of s.views) id u') r.above.history id u')
+      (own_knows : Knows z r.made (set s.words (own_word s.words pass + 1) word') r.above.role (set (map upper_of s.views) id u') r.above.history id u')
       (own_ranging : IsRanging z (set s.words (own_word s.words pass + 1) word') r.above.role (r.above.ranged.ends u'.number) u'.since r.above.history u'.number
       u'.ranges)
       (same : 0 < u'.number → u'.number ≡ me.0.upper.number)
@@ -94,7 +94,7 @@ module _ (z : Sizes) (s : State (Unit {0}) (View TreeView)) (r : R z s) (id : �
     first = at_map upper_of s.views id me.0 at
 
     others : (j : ℕ) (y : View TreeView) → j ≢ id → get_elem? s.views j ≡ some y
-        → Knows z.rows r.made words' role (set (map upper_of s.views) id u') r.above.history j y.upper
+        → Knows z r.made words' role (set (map upper_of s.views) id u') r.above.history j y.upper
         × IsRanging z words' role (r.above.ranged.ends y.upper.number) y.upper.since r.above.history y.upper.number y.upper.ranges
     others j y ne here = (
       knows_then z s r pass word' end.lo end.hi id me.0 at (true_then z s r pass number word' end) j y here u' same,

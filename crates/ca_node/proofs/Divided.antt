@@ -18,7 +18,7 @@ use Rattle.ca_node.specs.Stays.{word_at}
 use Rattle.ca_node.proofs.Parts.{part_cut, part_rises, two_sides, left_is_in, right_is_in}
 use Rattle.ca_node.proofs.Named.{key_in}
 use Rattle.ca_node.specs.Reached.{same_place, base_at}
-use Rattle.ca_node.proofs.Rebased.{out_no_route, IsNewBase, relinked_wide, relinked_here, relinked_keeps, relinked_row, link_still, lead_still, row_still, base_comes}
+use Rattle.ca_node.proofs.Relinked.{out_no_route, IsNewBase, AreRolesThen, relinked_wide, relinked_here, relinked_keeps, relinked_row, link_still, lead_still, row_still, base_comes, roles_of_base, base_link_kept}
 use Rattle.ca_rows.specs.Layout.{row_words}
 use Rattle.ca_node.specs.Layout.{root_word}
 
@@ -193,26 +193,36 @@ module _ (z : Sizes) (words : List ℕ) (role : ℕ → Role) (m : StoreMap)
   cut = part_cut p place.span m (map f (its left)) (map f divided.rest) k
       (object (row_at words divided.first)) is_map old_has
 
+  abbrev hangs : place_of (role old) ≡ some place
+  hangs = ap place_of is
+
+  -- the row that goes
+  abbrev goes : ℕ → Type 0
+  goes c = c ≡ old
+
+  takes : AreRolesThen role roles m m old place route (λ c. c ≡ old)
+  takes = roles_of_base role roles m m old place route is fills keeps same_parts
+
   -- The links of the tree are links of it then.
   link_now : (link : ℕ) → IsLink role link → IsLink roles link
-  link_now = link_still z words role m shape old place is route roles m fills keeps same_parts
+  link_now link h = link_still z words role m shape old place hangs route roles m goes takes link h (base_link_kept role old place is link h)
 
   -- They lead where they led.
-  lead_now : (link least : ℕ) (span : Span) → LeadsTo words role link least span
-      → LeadsTo words' roles link least span
-  lead_now = lead_still z words role m shape old place is route roles m fills keeps same_parts
+  lead_now : (link least : ℕ) (span : Span) → IsLink role link → LeadsTo words role link least span → LeadsTo words' roles link least span
+  lead_now link least span h l = lead_still z words role m shape old place hangs route roles m goes takes link least span l
+      (base_link_kept role old place is link h)
 
   -- The words of the route, which nothing leads to yet, stay.
   route_words : row_at words' route ≡ row_at words route
   route_words =
-      relinked_row z words role m shape old place is route route r.some_row r.in_range
+      relinked_row z words role m shape old place hangs route route r.some_row r.in_range
       (out_no_route role route r.is_out)
 
   -- So does each of its words.
   link_word : (i : ℕ) → i < row_words
       → get_or words' (row_words * route + i) 0 ≡ get_or (row_at words route) i 0
   link_word i l =
-      relinked_keeps z words role m shape old place is route route r.some_row
+      relinked_keeps z words role m shape old place hangs route route r.some_row
       (out_no_route role route r.is_out) i l ∙ sym (word_at words route i l)
 
   -- Its first link names the left base.
@@ -228,7 +238,7 @@ module _ (z : Sizes) (words : List ℕ) (role : ℕ → Role) (m : StoreMap)
   route_now = record {
     some_row = r.some_row;
     in_range = r.in_range;
-    under = relinked_here z words role m shape old place is route;
+    under = relinked_here z words role m shape old place hangs route;
     is_link = link_now place.link was.is_link;
     is_route = subst IsRouteRow (sym route_words) r.is_route;
     level_is = ap level route_words ∙ r.level_is;
@@ -252,14 +262,14 @@ module _ (z : Sizes) (words : List ℕ) (role : ℕ → Role) (m : StoreMap)
   -- The left base is one under its first link.
   left_base : IsBaseAt z words' roles m (left_place place k route) left
   left_base =
-      base_comes z words role m shape old place is route roles m fills keeps same_parts left
+      base_comes z words role m shape old place hangs route roles m goes takes left
       (left_place place k route) a left_now
       (inr (route, place, k, role_route, inl refl)) (omega arith) (sym cut.0)
 
   -- The right base is one under its second link.
   right_base : IsBaseAt z words' roles m (right_place place k route) right
   right_base =
-      base_comes z words role m shape old place is route roles m fills keeps same_parts right
+      base_comes z words role m shape old place hangs route roles m goes takes right
       (right_place place k route) b right_now
       (inr (route, place, k, role_route, inr refl)) (omega arith) (right_has ∙ sym cut.1)
 
@@ -283,7 +293,7 @@ module _ (z : Sizes) (words : List ℕ) (role : ℕ → Role) (m : StoreMap)
       (λ (y : ℕ). Is y (roles y)) (sym e) (subst (Is old) (sym role_old) tt))
       (λ (d : c ≢ old).
       subst (Is c) (sym (with_route_else role place k old route left right c n l h d))
-      (row_still z words role m shape old place is route roles m fills keeps same_parts c d (role c)
+      (row_still z words role m shape old place hangs route roles m goes takes c d (role c)
       refl (shape.each_row c))))))
 
   -- The row is one of the two new bases, and this key is led to it.
@@ -376,8 +386,8 @@ module _ (z : Sizes) (words : List ℕ) (role : ℕ → Role) (m : StoreMap)
   pub shape_divided : IsShape z (set words place.link route)
       (with_route role place k old route left right) m
   shape_divided = record {
-    wide = relinked_wide z words role m shape old place is route;
-    top = lead_now root_word 0 all_keys shape.top;
+    wide = relinked_wide z words role m shape old place hangs route;
+    top = lead_now root_word 0 all_keys (inl refl) shape.top;
     each_row = so;
     apart = alone;
   }

@@ -48,8 +48,8 @@ use Rattle.ca_node.proofs.Joined.{unjoined_over, joined_keeps, states_keep, join
 use Rattle.ca_node.proofs.Listing.{in_either, in_front, in_back, Relists, listed_again, known_by_one}
 use Rattle.ca_node.proofs.Looking.{R, loses, hangs_still, of_map, knows_upper, in_more}
 use Rattle.ca_node.proofs.Members.{in_notes, has, given_here, given_else, taken_here, taken_else}
-use Rattle.ca_node.proofs.Rebased.{IsNewBase, relinked_wide, relinked_else, relinked_ranges, relinked_told, relinked_joins, relinked_keeps, relinked_row, base_no_route, out_no_route}
-use Rattle.ca_node.proofs.Remembering.{remembered_leads, unlinked_out, note_stays, way_stays, ranges_stay, notes_stay}
+use Rattle.ca_node.proofs.Relinked.{IsNewBase, relinked_wide, relinked_else, relinked_ranges, relinked_told, relinked_joins, relinked_keeps, relinked_row, base_no_route, out_no_route}
+use Rattle.ca_node.proofs.Remembering.{shown_hangs, unlinked_out, note_stays, way_stays, ranges_stay, notes_stay}
 use Rattle.ca_rows.specs.Layout.{row_words}
 use Rattle.ca_node.specs.Layout.{root_word}
 
@@ -95,7 +95,7 @@ module _ (z : Sizes) (s : State (Unit {0}) (View TreeView)) (r : R z s) (id : �
   abbrev words' : List ℕ
   words' = set s.words x.old.place.link x.route
 
-  abbrev knows : Knows z.rows r.made s.words r.above.role (map upper_of s.views) r.above.history id
+  abbrev knows : Knows z r.made s.words r.above.role (map upper_of s.views) r.above.history id
       d.upper
   knows = knows_upper z s r id d at
 
@@ -107,13 +107,8 @@ module _ (z : Sizes) (s : State (Unit {0}) (View TreeView)) (r : R z s) (id : �
 
   -- The old base hangs where it was shown.
   is_old : r.above.role x.old.row ≡ Base x.old.place
-  is_old = let l = remembered_leads z s.words role last shape d.upper knows.ways x.old.place.link
-      (knows.links x.old (was_shown z me x u)) in ⊎_elim
-      (λ (e : r.above.role x.old.row ≡ Base x.old.place). e)
-      (λ (out : r.above.role x.old.row
-      ≡ Out). absurd (some-ne-none l.0 (sym l.2
-      ∙ (ap (λ (c : ℕ). place_of (role c)) hit ∙ ap place_of out))))
-      old_true.stands
+  is_old = shown_hangs z s.words role last shape d.upper r.above.history knows.ways x.old old_true
+      (knows.links x.old (was_shown z me x u)) hit (unjoined_over z s r id d at x.old.its u.settled.1)
 
   old_at : IsBaseAt z s.words r.above.role (after r.above.history []) x.old.place x.old.row
   old_at = base_at z s.words role last shape x.old.row x.old.place is_old
@@ -313,17 +308,17 @@ module _ (z : Sizes) (s : State (Unit {0}) (View TreeView)) (r : R z s) (id : �
   no_coming c p e i = some-ne-none p (sym e ∙ ap place_of (comes_out c i))
 
   wide' : IsWide z.rows words'
-  wide' = relinked_wide z s.words role last shape x.old.row place is_old x.route
+  wide' = relinked_wide z s.words role last shape x.old.row place (ap place_of is_old) x.route
 
   base_stays : (c : ℕ) (p : Place) → r.above.role c ≡ Base p → row_at words' c ≡ row_at s.words c
   base_stays c p e = let b = base_at z s.words role last shape c p e in
-      relinked_row z s.words role last shape x.old.row place is_old x.route c b.some_row b.in_range
+      relinked_row z s.words role last shape x.old.row place (ap place_of is_old) x.route c b.some_row b.in_range
       (base_no_route role c p e)
 
   out_stays : (c : ℕ) → 0 < c → c ≤ z.rows → r.above.role c ≡ Out
       → row_at words' c ≡ row_at s.words c
   out_stays c lo hi e =
-      relinked_row z s.words role last shape x.old.row place is_old x.route c lo hi
+      relinked_row z s.words role last shape x.old.row place (ap place_of is_old) x.route c lo hi
       (out_no_route role c e)
 
   old_linked : IsLinked s.words x.old.row
@@ -437,7 +432,7 @@ module _ (z : Sizes) (s : State (Unit {0}) (View TreeView)) (r : R z s) (id : �
           ∙ (ap mark (out_stays part lo hi out ∙ spells) ∙ unmarked) in omega arith
 
   same_ranges : (pass : ℕ) → 0 < pass → pass ≤ 64 → result_of words' pass ≡ result_of s.words pass
-  same_ranges = relinked_ranges z s.words role last shape x.old.row place is_old x.route
+  same_ranges = relinked_ranges z s.words role last shape x.old.row place (ap place_of is_old) x.route
 
   -- A base stays that an active range marked.
   marked_stay : (c : ℕ) (p : Place) (pass number : ℕ) → r.above.role c ≡ Base p
@@ -617,25 +612,25 @@ module _ (z : Sizes) (s : State (Unit {0}) (View TreeView)) (r : R z s) (id : �
   note_keeps : (j : ℕ) (y : View TreeView) → get_elem? s.views j ≡ some y → (note : Note)
       → IsIn note y.upper.notes → IsTrue z.rows words' role' note
   note_keeps j y here note i =
-      note_stays z s.words role last shape x.old.row place is_old x.route role' last shape' Coming
-      routes_stay bases_stay outs_stay marked_stay
+      note_stays z s.words role last shape x.old.row place (ap place_of is_old) x.route role' last shape' Coming (λ _. ⊥)
+      (λ c p key e. inl (routes_stay c p key e)) (λ c d x. absurd x) bases_stay outs_stay marked_stay
       y.upper (unnoted j y here) note (by_note note note.row i refl)
       ((knows_upper z s r j y here).notes note i)
 
   way_keeps : (j : ℕ) (y : View TreeView) → get_elem? s.views j ≡ some y → (way : Way)
-      → IsIn way y.upper.ways → IsTrueWay words' role' way
+      → IsIn way y.upper.ways → IsTrueWay z words' role' y.upper.since r.above.history way
   way_keeps j y here way i =
-      way_stays z s.words role last shape x.old.row place is_old x.route role' last shape' Coming
-      routes_stay bases_stay outs_stay marked_stay
-      y.upper (unnoted j y here) way i ((knows_upper z s r j y here).ways way i)
+      way_stays z s.words role last shape x.old.row place (ap place_of is_old) x.route role' last shape' Coming (λ _. ⊥)
+      (λ c p key e. inl (routes_stay c p key e)) (λ c d x. absurd x) bases_stay outs_stay marked_stay
+      y.upper (unnoted j y here) r.above.history r.above.history (λ at l. (l, refl)) (λ w a x. absurd x) way i ((knows_upper z s r j y here).ways way i)
 
   notes_keep : (j : ℕ) (y : View TreeView) → get_elem? s.views j ≡ some y → (c : ℕ)
       → IsNoted words' y.upper c
       → IsNoted s.words y.upper c ⊎ (IsLinked words' c × (y.pin.pinned ≡ true))
   notes_keep j y here c n = ⊎_elim (λ o. inl o)
       (λ l. inr (l.0, (r.seat j y here).noted_pinned l.1.0 l.1.1))
-      (notes_stay z s.words role last shape x.old.row place is_old x.route role' last shape' Coming
-      routes_stay bases_stay outs_stay marked_stay
+      (notes_stay z s.words role last shape x.old.row place (ap place_of is_old) x.route role' last shape' Coming (λ _. ⊥)
+      (λ c p key e. inl (routes_stay c p key e)) (λ c d x. absurd x) bases_stay outs_stay marked_stay
       y.upper (unnoted j y here) (r.above.ranged.ends y.upper.number) f.history
       (f.ranged.each j y.upper (at_map upper_of s.views j y here))
       (knows_upper z s r j y here).ways c n)
@@ -645,8 +640,8 @@ module _ (z : Sizes) (s : State (Unit {0}) (View TreeView)) (r : R z s) (id : �
       → IsRanging z words' role' (r.above.ranged.ends y.upper.number) y.upper.since
       r.above.history y.upper.number y.upper.ranges
   ranging_still j y here =
-      ranges_stay z s.words role last shape x.old.row place is_old x.route role' last shape' Coming
-      routes_stay bases_stay outs_stay marked_stay
+      ranges_stay z s.words role last shape x.old.row place (ap place_of is_old) x.route role' last shape' Coming (λ _. ⊥)
+      (λ c p key e. inl (routes_stay c p key e)) (λ c d x. absurd x) bases_stay outs_stay marked_stay
       y.upper (unnoted j y here) (r.above.ranged.ends y.upper.number) f.history
       (f.ranged.each j y.upper (at_map upper_of s.views j y here)) f.history (λ at l. (l, refl))
       (λ number now none c base m. let b = was_marked c base.0 base.1 m.0 in
@@ -681,7 +676,7 @@ module _ (z : Sizes) (s : State (Unit {0}) (View TreeView)) (r : R z s) (id : �
 
   route_word : join_of words' x.route % 4 ≡ 0
   route_word = let w = held x.route x.route_its u.held_route in
-      let e = relinked_joins z s.words role last shape x.old.row place is_old x.route x.route in
+      let e = relinked_joins z s.words role last shape x.old.row place (ap place_of is_old) x.route x.route in
       let word : join_word x.route_its ≡ join_of s.words x.route = ap (λ its. get_or its 3 0) (sym w.2) ∙ word_at s.words x.route 3 (omega arith) in
       let zero = u.idle in omega arith
 
@@ -693,9 +688,9 @@ module _ (z : Sizes) (s : State (Unit {0}) (View TreeView)) (r : R z s) (id : �
 
   -- A seat knows what it knew.
   knows_still : (j : ℕ) (y : View TreeView) → get_elem? s.views j ≡ some y
-      → Knows z.rows r.made words' role' (set (map upper_of s.views) id u') r.above.history j
+      → Knows z r.made words' role' (set (map upper_of s.views) id u') r.above.history j
       y.upper
-  knows_still j y here = let k = relisted z.rows r.made s.words role (map upper_of s.views)
+  knows_still j y here = let k = relisted z r.made s.words role (map upper_of s.views)
       (set (map upper_of s.views) id u') f.history j y.upper
       (numbered (map upper_of s.views) id d.upper u' mine (λ _. refl))
       (knows_upper z s r j y here) in record {
@@ -708,13 +703,14 @@ module _ (z : Sizes) (s : State (Unit {0}) (View TreeView)) (r : R z s) (id : �
         notes = note_keeps j y here;
         links = k.links;
         ways = way_keeps j y here;
+        one_place = k.one_place;
         joining = let w = knows_upper z s r j y here in
-            joining_keeps z s.words role last shape x.old.row place is_old x.route old_free y.upper w.links
-            (λ note i. (w.notes note i).spells) w.joining;
+            joining_keeps z s.words role last shape x.old.row place (ap place_of is_old) x.route (λ _. old_free) y.upper w.links
+            w.notes w.joining;
         ended = k.ended;
       }
 
-  own_knows : Knows z.rows r.made words' role' (set (map upper_of s.views) id u') r.above.history id
+  own_knows : Knows z r.made words' role' (set (map upper_of s.views) id u') r.above.history id
       u'
   own_knows = let k = knows_still id d at in record {
     made_before = k.made_before;
@@ -726,13 +722,14 @@ module _ (z : Sizes) (s : State (Unit {0}) (View TreeView)) (r : R z s) (id : �
     notes = λ note i. absurd (in_nothing note [] refl i);
     links = λ note i. absurd (in_nothing note [] refl i);
     ways = k.ways;
+    one_place = k.one_place;
     joining = joining_unnoted words' d.upper.notes d.upper.ways d.upper.ranges.joins k.joining;
     ended = k.ended;
   }
 
   -- No other control word changes.
   control : (i : ℕ) → i < row_words → i ≢ root_word → get_or words' i 0 ≡ get_or s.words i 0
-  control i l ne = relinked_else z s.words role last shape x.old.row place is_old x.route i
+  control i l ne = relinked_else z s.words role last shape x.old.row place (ap place_of is_old) x.route i
       (λ e. ⊎_elim (λ (t : x.old.place.link ≡ root_word). ne (omega arith))
       (λ t. let lo = t.0 in
       omega arith) (link_range z s.words role last shape x.old.place.link old_at.is_link))
@@ -866,29 +863,29 @@ module _ (z : Sizes) (s : State (Unit {0}) (View TreeView)) (r : R z s) (id : �
       secured = λ c p key attempt e now. ⊎_elim
           (λ (new : c ≡ x.route). absurd (route_idle attempt (inr (subst (λ t. IsSecured words' t attempt) new now))))
           (λ (was : role c ≡ Route p key).
-          joined_keeps z s.words role last shape x.old.row place is_old x.route old_free f.joined c p key attempt was now)
+          joined_keeps z s.words role last shape x.old.row place (ap place_of is_old) x.route (λ _. old_free) f.joined c p key attempt was now)
           (routes_back c p key e);
       states = λ c p key e. ⊎_elim
           (λ (new : c ≡ x.route). subst (IsJoinWord words') (sym new) (let zero = route_word in omega arith))
-          (λ (was : role c ≡ Route p key). states_keep z s.words role last shape x.old.row place is_old x.route old_free f.joined c p key was)
+          (λ (was : role c ≡ Route p key). states_keep z s.words role last shape x.old.row place (ap place_of is_old) x.route (λ _. old_free) f.joined c p key was)
           (routes_back c p key e);
     };
     unsecured = unsecured_still z s.words words' role role' (λ c p key e. ⊎_elim
         (λ (new : c ≡ x.route). inl (subst (λ t. join_of words' t % 4 ≡ 0) (sym new) route_word))
-        (λ (was : role c ≡ Route p key). inr (p, key, was, relinked_joins z s.words role last shape x.old.row place is_old x.route c))
+        (λ (was : role c ≡ Route p key). inr (p, key, was, relinked_joins z s.words role last shape x.old.row place (ap place_of is_old) x.route c))
         (routes_back c p key e)) f.unsecured;
     each_seat =
-        all_seats (Knows z.rows r.made words' role' (set (map upper_of s.views) id u') f.history)
+        all_seats (Knows z r.made words' role' (set (map upper_of s.views) id u') f.history)
         (map upper_of s.views) id u' own_knows
         (λ j v n here. let y = of_map upper_of s.views j v here in
-        subst (Knows z.rows r.made words' role' (set (map upper_of s.views) id u') f.history j) y.2
+        subst (Knows z r.made words' role' (set (map upper_of s.views) id u') f.history j) y.2
         (knows_still j y.0 y.1));
     inventory = divided_inventory x f.inventory;
     listed = listed_now;
     at_first = λ (e : r.made ≡ 0). let lo = u.is_pass in let hi = knows.made_before in
         absurd (omega arith);
     only_one =
-        known_by_one z.rows r.made s.words role (map upper_of s.views) f.history f.each_seat id
+        known_by_one z r.made s.words role (map upper_of s.views) f.history f.each_seat id
         d.upper u'
         (divided_inventory x f.inventory) mine u.is_pass
         (λ few. ap (divided_inventory x) (f.only_one id d.upper mine few u.is_pass));
@@ -908,7 +905,7 @@ module _ (z : Sizes) (s : State (Unit {0}) (View TreeView)) (r : R z s) (id : �
   unlinked_keeps : (c k : ℕ) → 0 < c → ¬ IsLinked s.words c → k < row_words
       → get_or words' (row_words * c + k) 0 ≡ get_or s.words (row_words * c + k) 0
   unlinked_keeps c k lo n l =
-      relinked_keeps z s.words role last shape x.old.row place is_old x.route c lo
+      relinked_keeps z s.words role last shape x.old.row place (ap place_of is_old) x.route c lo
       (out_no_route role c (unlinked_out z s.words role last shape c n)) k l
 
   -- Where the link names the old base, the exchange carries out the split.
@@ -922,7 +919,7 @@ module _ (z : Sizes) (s : State (Unit {0}) (View TreeView)) (r : R z s) (id : �
         same_pin = refl;
         wide = wide' ∙ sym r.wide;
         low = λ i l. control i (omega arith) (λ e. omega arith);
-        announcements = relinked_told z s.words role last shape x.old.row place is_old x.route;
+        announcements = relinked_told z s.words role last shape x.old.row place (ap place_of is_old) x.route;
         unlinked_rows = λ c k lo hi n l. unlinked_keeps c k lo n l;
         changes = λ c _ _. changed_now c;
         in_range = claims_in;

@@ -48,8 +48,9 @@ use Rattle.ca_node.proofs.Listing.{in_either, in_front, in_back, Relists, listed
 use Rattle.ca_node.proofs.Looking.{R, knows_upper, in_turn, in_more}
 use Rattle.ca_node.proofs.Members.{in_notes, in_rest, has, given_here, given_else, lent_here, lent_else, taken_here, taken_else, other_has, map_is_list}
 use Rattle.ca_node.proofs.Named.{named_once}
-use Rattle.ca_node.proofs.Rebased.{IsNewBase, relinked_wide, relinked_else, relinked_ranges, relinked_told, relinked_joins, relinked_row, relinked_object, base_no_route, out_no_route, relinked_keeps, with_base, with_base_new, with_base_old, with_base_else, shape_rebased}
-use Rattle.ca_node.proofs.Remembering.{remembered_leads, unlinked_out, note_stays, way_stays, ranges_stay, notes_stay}
+use Rattle.ca_node.proofs.Rebased.{with_base, with_base_new, with_base_old, with_base_else, shape_rebased}
+use Rattle.ca_node.proofs.Relinked.{IsNewBase, relinked_wide, relinked_else, relinked_ranges, relinked_told, relinked_joins, relinked_row, relinked_object, base_no_route, out_no_route, relinked_keeps}
+use Rattle.ca_node.proofs.Remembering.{shown_hangs, unlinked_out, note_stays, way_stays, ranges_stay, notes_stay}
 use Rattle.ca_rows.specs.Layout.{row_words}
 use Rattle.ca_node.specs.Layout.{root_word, sequence_unit}
 
@@ -123,7 +124,7 @@ module _ (z : Sizes) (s : State (Unit {0}) (View TreeView)) (r : R z s) (id : �
   abbrev words' : List ℕ
   words' = set s.words x.old.place.link new
 
-  abbrev knows : Knows z.rows r.made s.words r.above.role (map upper_of s.views) r.above.history id
+  abbrev knows : Knows z r.made s.words r.above.role (map upper_of s.views) r.above.history id
       d.upper
   knows = knows_upper z s r id d at
 
@@ -132,13 +133,8 @@ module _ (z : Sizes) (s : State (Unit {0}) (View TreeView)) (r : R z s) (id : �
 
   -- The old base hangs where it was shown.
   pub is_old : r.above.role x.old.row ≡ Base x.old.place
-  is_old = let l = remembered_leads z s.words role last shape d.upper knows.ways x.old.place.link
-      (knows.links x.old (in_notes x.old me.0.upper.notes u.shown)) in ⊎_elim
-      (λ (e : r.above.role x.old.row ≡ Base x.old.place). e)
-      (λ (out : r.above.role x.old.row
-      ≡ Out). absurd (some-ne-none l.0 (sym l.2
-      ∙ (ap (λ (c : ℕ). place_of (role c)) hit ∙ ap place_of out))))
-      old_true.stands
+  is_old = shown_hangs z s.words role last shape d.upper r.above.history knows.ways x.old old_true
+      (knows.links x.old (in_notes x.old me.0.upper.notes u.shown)) hit free
 
   old_at : IsBaseAt z s.words r.above.role (after r.above.history []) x.old.place x.old.row
   old_at = base_at z s.words role last shape x.old.row x.old.place is_old
@@ -291,19 +287,19 @@ module _ (z : Sizes) (s : State (Unit {0}) (View TreeView)) (r : R z s) (id : �
       role_else c ne ne' = with_base_else role place x.old.row new c ne ne'
 
       wide' : IsWide z.rows words'
-      wide' = relinked_wide z s.words role last shape x.old.row place is_old new
+      wide' = relinked_wide z s.words role last shape x.old.row place (ap place_of is_old) new
 
       else_word : (i : ℕ) → i ≢ x.old.place.link → get_or words' i 0 ≡ get_or s.words i 0
-      else_word = relinked_else z s.words role last shape x.old.row place is_old new
+      else_word = relinked_else z s.words role last shape x.old.row place (ap place_of is_old) new
 
       base_stays : (c : ℕ) (p : Place) → r.above.role c ≡ Base p
           → row_at words' c ≡ row_at s.words c
       base_stays c p e = let b = base_at z s.words role last shape c p e in
-          relinked_row z s.words role last shape x.old.row place is_old new c b.some_row b.in_range
+          relinked_row z s.words role last shape x.old.row place (ap place_of is_old) new c b.some_row b.in_range
           (base_no_route role c p e)
 
       pub new_its : row_at words' new ≡ x.its
-      new_its = relinked_row z s.words role last shape x.old.row place is_old new new new_row.0
+      new_its = relinked_row z s.words role last shape x.old.row place (ap place_of is_old) new new new_row.0
           new_row.1 (out_no_route role new new_out) ∙ new_row.2
 
       -- A base of the new tree that isn't the new one was a base, another one than the old one.
@@ -332,7 +328,7 @@ module _ (z : Sizes) (s : State (Unit {0}) (View TreeView)) (r : R z s) (id : �
 
       same_ranges : (pass : ℕ) → 0 < pass → pass ≤ 64
           → result_of (set s.words x.old.place.link new) pass ≡ result_of s.words pass
-      same_ranges = relinked_ranges z s.words role last shape x.old.row place is_old new
+      same_ranges = relinked_ranges z s.words role last shape x.old.row place (ap place_of is_old) new
 
       -- What a base that stays says of the range that marked it.
       bound_on : (base border : ℕ) → row_at words' base ≡ row_at s.words base
@@ -572,36 +568,37 @@ module _ (z : Sizes) (s : State (Unit {0}) (View TreeView)) (r : R z s) (id : �
       pub note_keeps : (j : ℕ) (y : View TreeView) → get_elem? s.views j ≡ some y → (note : Note)
           → IsIn note y.upper.notes → IsTrue z.rows words' role' note
       note_keeps j y here note i =
-          note_stays z s.words role last shape x.old.row place is_old new role' last' shape' Coming
-          routes_stay bases_stay outs_stay marked_stay
+          note_stays z s.words role last shape x.old.row place (ap place_of is_old) new role' last' shape' Coming (λ _. ⊥)
+          (λ c p key e. inl (routes_stay c p key e)) (λ c d x. absurd x) bases_stay outs_stay marked_stay
           y.upper (unnoted j y here) note (by_note note note.row i refl)
           ((knows_upper z s r j y here).notes note i)
 
       pub shown_keeps : (j : ℕ) (y : View TreeView) → get_elem? s.views j ≡ some y → (note : Note)
           → IsIn note y.upper.ranges.run → IsTrue z.rows words' role' note
       shown_keeps j y here note i =
-          note_stays z s.words role last shape x.old.row place is_old new role' last' shape' Coming
-          routes_stay bases_stay outs_stay marked_stay
+          note_stays z s.words role last shape x.old.row place (ap place_of is_old) new role' last' shape' Coming (λ _. ⊥)
+          (λ c p key e. inl (routes_stay c p key e)) (λ c d x. absurd x) bases_stay outs_stay marked_stay
           y.upper (unnoted j y here) note (by_shown note note.row i refl)
           ((f.ranged.each j y.upper (at_map upper_of s.views j y here)).run note i)
 
-      pub way_keeps : (j : ℕ) (y : View TreeView) → get_elem? s.views j ≡ some y → (way : Way)
-          → IsIn way y.upper.ways → IsTrueWay words' role' way
-      way_keeps j y here way i =
-          way_stays z s.words role last shape x.old.row place is_old new role' last' shape' Coming
-          routes_stay bases_stay outs_stay marked_stay
-          y.upper (unnoted j y here) way i ((knows_upper z s r j y here).ways way i)
+      pub way_keeps : (j : ℕ) (y : View TreeView) → get_elem? s.views j ≡ some y
+          → ((at : ℕ) → at ≤ length r.above.history → (at ≤ length next) × (state next at ≡ state r.above.history at)) → (way : Way)
+          → IsIn way y.upper.ways → IsTrueWay z words' role' y.upper.since next way
+      way_keeps j y here longer way i =
+          way_stays z s.words role last shape x.old.row place (ap place_of is_old) new role' last' shape' Coming (λ _. ⊥)
+          (λ c p key e. inl (routes_stay c p key e)) (λ c d x. absurd x) bases_stay outs_stay marked_stay
+          y.upper (unnoted j y here) r.above.history next longer (λ w a x. absurd x) way i ((knows_upper z s r j y here).ways way i)
 
       -- What a seat knows of joins is so still, for one note more, too.
       pub joining_keep : (j : ℕ) (y : View TreeView) → get_elem? s.views j ≡ some y
           → IsJoining words' y.upper.notes y.upper.ways y.upper.ranges.joins
       joining_keep j y here = let k = knows_upper z s r j y here in
-          joining_keeps z s.words role last shape x.old.row place is_old new old_free y.upper k.links
-          (λ note i. (k.notes note i).spells) k.joining
+          joining_keeps z s.words role last shape x.old.row place (ap place_of is_old) new (λ _. old_free) y.upper k.links
+          k.notes k.joining
 
       pub joining_more : IsJoining words' (new_note ∷ d.upper.notes) d.upper.ways d.upper.ranges.joins
       joining_more = joining_noted words' new_note d.upper.notes d.upper.ways d.upper.ranges.joins
-          (new_hangs z s.words role last shape x.old.row place is_old new old_free new_note mark refl refl)
+          (new_hangs z s.words role last shape x.old.row place (ap place_of is_old) new (λ _. old_free) new_note mark refl refl)
           (joining_keep id d at)
 
       notes_keep : (j : ℕ) (y : View TreeView) → get_elem? s.views j ≡ some y → (c : ℕ)
@@ -609,8 +606,8 @@ module _ (z : Sizes) (s : State (Unit {0}) (View TreeView)) (r : R z s) (id : �
           → IsNoted s.words y.upper c ⊎ (IsLinked words' c × (y.pin.pinned ≡ true))
       notes_keep j y here c n = ⊎_elim (λ o. inl o)
           (λ l. inr (l.0, (r.seat j y here).noted_pinned l.1.0 l.1.1))
-          (notes_stay z s.words role last shape x.old.row place is_old new role' last' shape' Coming
-          routes_stay bases_stay outs_stay marked_stay
+          (notes_stay z s.words role last shape x.old.row place (ap place_of is_old) new role' last' shape' Coming (λ _. ⊥)
+          (λ c p key e. inl (routes_stay c p key e)) (λ c d x. absurd x) bases_stay outs_stay marked_stay
           y.upper (unnoted j y here) (r.above.ranged.ends y.upper.number) f.history
           (f.ranged.each j y.upper (at_map upper_of s.views j y here))
           (knows_upper z s r j y here).ways c n)
@@ -626,8 +623,8 @@ module _ (z : Sizes) (s : State (Unit {0}) (View TreeView)) (r : R z s) (id : �
           → IsRanging z words' role' (r.above.ranged.ends y.upper.number) y.upper.since next
           y.upper.number y.upper.ranges
       ranging_keeps j y here longer unmarked =
-          ranges_stay z s.words role last shape x.old.row place is_old new role' last' shape' Coming
-          routes_stay bases_stay outs_stay marked_stay
+          ranges_stay z s.words role last shape x.old.row place (ap place_of is_old) new role' last' shape' Coming (λ _. ⊥)
+          (λ c p key e. inl (routes_stay c p key e)) (λ c d x. absurd x) bases_stay outs_stay marked_stay
           y.upper (unnoted j y here) (r.above.ranged.ends y.upper.number) f.history
           (f.ranged.each j y.upper (at_map upper_of s.views j y here)) next longer
           (λ number now none c base m. dite (ℕ_discrete c new)
@@ -665,7 +662,7 @@ module _ (z : Sizes) (s : State (Unit {0}) (View TreeView)) (r : R z s) (id : �
 
       object_keeps : (row : ℕ) → IsIn row (items x.its) → row_at words' row ≡ row_at s.words row
       object_keeps row i = let w = words_of row i in
-          relinked_object z s.words role last shape x.old.row place is_old new row w.1 w.2
+          relinked_object z s.words role last shape x.old.row place (ap place_of is_old) new row w.1 w.2
           (ap form w.3 ∙ w.4.0)
 
       -- A range that marked the new base was begun.
@@ -806,7 +803,7 @@ module _ (z : Sizes) (s : State (Unit {0}) (View TreeView)) (r : R z s) (id : �
       unlinked_keeps : (c k : ℕ) → 0 < c → ¬ IsLinked s.words c → k < row_words
           → get_or words' (row_words * c + k) 0 ≡ get_or s.words (row_words * c + k) 0
       unlinked_keeps c k lo n l =
-          relinked_keeps z s.words role last shape x.old.row place is_old new c lo
+          relinked_keeps z s.words role last shape x.old.row place (ap place_of is_old) new c lo
           (out_no_route role c (unlinked_out z s.words role last shape c n)) k l
 
       -- The seat knows this then, with one note more, and so do the others.
@@ -817,13 +814,13 @@ module _ (z : Sizes) (s : State (Unit {0}) (View TreeView)) (r : R z s) (id : �
           (same_inventory : u'.inventory ≡ exchanged_inventory served new x d.upper.inventory)
           (edits : AreEdits z.keypos next) (by_passes : AreByPasses r.made next)
           (runs : AreRuns (scene_of (set s.words x.old.place.link new) role') r.above.ranged.ends)
-          (own_knows : Knows z.rows r.made (set s.words x.old.place.link new) role'
+          (own_knows : Knows z r.made (set s.words x.old.place.link new) role'
           (set (map upper_of s.views) id u') next id u')
           (own_ranging : IsRanging z (set s.words x.old.place.link new) role'
           (r.above.ranged.ends u'.number) u'.since next u'.number u'.ranges)
           (others_know : (j : ℕ) (v : TreeView) → j ≢ id
           → get_elem? (map upper_of s.views) j ≡ some v
-          → Knows z.rows r.made (set s.words x.old.place.link new) role'
+          → Knows z r.made (set s.words x.old.place.link new) role'
           (set (map upper_of s.views) id u') next j v
           × IsRanging z (set s.words x.old.place.link new) role'
           (r.above.ranged.ends v.number) v.since next v.number v.ranges) where
@@ -919,23 +916,23 @@ module _ (z : Sizes) (s : State (Unit {0}) (View TreeView)) (r : R z s) (id : �
                 (λ j v ne here. (others_know j v ne here).1);
           };
           joined = record {
-            secured = λ route p key attempt e. joined_keeps z s.words role last shape x.old.row place is_old new old_free
+            secured = λ route p key attempt e. joined_keeps z s.words role last shape x.old.row place (ap place_of is_old) new (λ _. old_free)
                 f.joined route p key attempt (routes_back route p key e);
-            states = λ route p key e. states_keep z s.words role last shape x.old.row place is_old new old_free
+            states = λ route p key e. states_keep z s.words role last shape x.old.row place (ap place_of is_old) new (λ _. old_free)
                 f.joined route p key (routes_back route p key e);
           };
           unsecured = unsecured_still z s.words words' role role'
-              (λ route p key e. inr (p, key, routes_back route p key e, relinked_joins z s.words role last shape x.old.row place is_old new route))
+              (λ route p key e. inr (p, key, routes_back route p key e, relinked_joins z s.words role last shape x.old.row place (ap place_of is_old) new route))
               f.unsecured;
           each_seat =
-              all_seats (Knows z.rows r.made words' role' (set (map upper_of s.views) id u') next)
+              all_seats (Knows z r.made words' role' (set (map upper_of s.views) id u') next)
               (map upper_of s.views) id u' own_knows (λ j v ne here. (others_know j v ne here).0);
           inventory = exchanged_inventory served new x f.inventory;
           listed = listed_now;
           at_first = λ (e : r.made ≡ 0). let lo = u.is_pass in let hi = knows.made_before in
               absurd (omega arith);
           only_one =
-              known_by_one z.rows r.made s.words role (map upper_of s.views) f.history f.each_seat
+              known_by_one z r.made s.words role (map upper_of s.views) f.history f.each_seat
               id d.upper u'
               (exchanged_inventory served new x f.inventory) first u.is_pass
               (λ few. same_inventory
@@ -958,7 +955,7 @@ module _ (z : Sizes) (s : State (Unit {0}) (View TreeView)) (r : R z s) (id : �
               same_pin = refl;
               wide = wide' ∙ sym r.wide;
               low = λ i l. control i (omega arith) (λ e. omega arith);
-              announcements = relinked_told z s.words role last shape x.old.row x.old.place is_old new;
+              announcements = relinked_told z s.words role last shape x.old.row x.old.place (ap place_of is_old) new;
               unlinked_rows = λ c k lo hi n l. unlinked_keeps c k lo n l;
               changes = λ c _ _. changed_now c;
               in_range = claims_in;

@@ -65,7 +65,7 @@ pub tree_learning : Closing IsLinked IsLent IsNoted IsTree learnt (blank 0)
 tree_learning = record {
   keeps_closing = λ z made uppers words i j v w f at ne there. let u' : TreeView = learnt v w in
       let us : List TreeView = set uppers i u' in
-      let k = relisted z.rows made words f.role uppers us f.history i v (numbered uppers i v u' at
+      let k = relisted z made words f.role uppers us f.history i v (numbered uppers i v u' at
       (λ _. refl)) (f.each_seat i v at) in
       let long =
       longer_is f.history v.seen w.seen k.seen_first (f.each_seat j w there).seen_first in
@@ -80,6 +80,7 @@ tree_learning = record {
         notes = k.notes;
         links = k.links;
         ways = k.ways;
+        one_place = k.one_place;
         joining = k.joining;
         ended = k.ended;
       }
@@ -87,7 +88,7 @@ tree_learning = record {
       seat_changed z made words us j w (blank 0) g (set_else uppers i j u' ne ∙ there)
       (λ lo. absurd (omega arith))
       (λ lo. absurd (omega arith))
-      (knows_nothing z.rows made words g.role (set us j (blank 0)) g.history j 0 (omega arith)
+      (knows_nothing z made words g.role (set us j (blank 0)) g.history j 0 (omega arith)
       (λ lo. absurd (omega arith))
       (none_made made 0 g.history g.by_passes (inl refl)))
       (no_ranging z words g.role (g.ranged.ends 0) g.history);
@@ -140,6 +141,7 @@ front_more z made words uppers id u f at = let next : List TreeView = uppers ++ 
             notes = k.notes;
             links = k.links;
             ways = k.ways;
+            one_place = k.one_place;
             joining = k.joining;
             ended = λ x i. let e = k.ended x i in let lo = e.some_number in record {
               some_number = lo;
@@ -154,7 +156,7 @@ front_more z made words uppers id u f at = let next : List TreeView = uppers ++ 
             };
           })
           (λ (t : (j ≡ length uppers) × (front_of u ≡ v)).
-          subst (Knows z.rows made words f.role next f.history j) t.1
+          subst (Knows z made words f.role next f.history j) t.1
           (front_knows next f.history (f.each_seat id u at).seen_first
           (none_made made 0 f.history f.by_passes (inl refl)) j))
           (at_place uppers (front_of u) v j here);
@@ -169,7 +171,7 @@ front_more z made words uppers id u f at = let next : List TreeView = uppers ++ 
     }
   where
     front_knows : (next : List TreeView) (h : History) → StartsWith h u.seen
-        → edits_of_pass 0 h ≡ [] → (j : ℕ) → Knows z.rows made words f.role next h j (front_of u)
+        → edits_of_pass 0 h ≡ [] → (j : ℕ) → Knows z made words f.role next h j (front_of u)
     front_knows next h first unmade j = record {
       made_before = omega arith;
       alone = λ lo. absurd (omega arith);
@@ -180,6 +182,7 @@ front_more z made words uppers id u f at = let next : List TreeView = uppers ++ 
       notes = λ note i. absurd (in_nothing note [] refl i);
       links = λ note i. absurd (in_nothing note [] refl i);
       ways = λ way i. absurd (in_nothing way [] refl i);
+      one_place = λ a b i. absurd (in_nothing a [] refl i);
       joining = nothing_joining words;
       ended = λ x i. absurd (in_nothing x [] refl i);
     }

@@ -225,7 +225,7 @@ module _ (z : Sizes) (s : State (Unit {0}) (View TreeView)) (r : R z s) (id : â„
             (o.2.1.row, by_border o.2.1 o.2.1.row so.0 refl),
           )
 
-    own_knows : Knows z.rows r.made words' r.above.role (set (map upper_of s.views) id u') r.above.history id u'
+    own_knows : Knows z r.made words' r.above.role (set (map upper_of s.views) id u') r.above.history id u'
     own_knows = let w = knows_then z s r pass word' begun.0 begun.1 id me.0 at (true_then z s r pass number word' end) id me.0 at u' (Î» _. refl) in record {
       made_before = w.made_before;
       alone = w.alone;
@@ -236,6 +236,7 @@ module _ (z : Sizes) (s : State (Unit {0}) (View TreeView)) (r : R z s) (id : â„
       notes = w.notes;
       links = w.links;
       ways = w.ways;
+      one_place = w.one_place;
       joining = w.joining;
       ended = w.ended;
     }

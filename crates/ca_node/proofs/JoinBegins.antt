@@ -21,6 +21,7 @@ use Rattle.ca_node.specs.Links.{IsIn}
 use Rattle.ca_node.specs.May.{MaySwap}
 use Rattle.ca_node.specs.Place.{Place}
 use Rattle.ca_node.specs.Row.{route_key}
+use Rattle.ca_node.specs.Shape.{Route}
 use Rattle.ca_node.specs.Told.{MyTree}
 use Rattle.ca_node.specs.Tree.{IsTree}
 use Rattle.ca_node.specs.TreeView.{Note, Way, Attempt, Finished, KnownJoins, TreeView}
@@ -58,14 +59,17 @@ module _ (z : Sizes) (s : State (Unit {0}) (View TreeView)) (r : R z s) (id : �
   abbrev key : List ℕ
   key = route_key known.0.its
 
+  spot : r.above.role x.route ≡ Route known.0.place (route_key known.0.its)
+  spot = is_route z s r id me at x known (λ attempt now. omega (arith, hit, now))
+
   here : join_of words' x.route ≡ 4 * x.number + 1
-  here = join_here z s r x.route place key (is_route z s r id me at x known) (4 * x.number + 1)
+  here = join_here z s r x.route place key spot (4 * x.number + 1)
 
   on : JoinGoesOn s.words words' x.route
   on = begun_goes_on s.words words' x.route last hit (here ∙ ap (λ n. 4 * n + 1) next)
 
   same : (t : ℕ) → t ≢ x.route → join_of words' t ≡ join_of s.words t
-  same t ne = join_else z s r x.route place key (is_route z s r id me at x known) (4 * x.number + 1) (row_words * t + 3) (λ e. ne (omega arith))
+  same t ne = join_else z s r x.route place key spot (4 * x.number + 1) (row_words * t + 3) (λ e. ne (omega arith))
 
   -- No other join is secured then, and those that are have under their routes what they had.
   pub begun_joined : AreJoining z (set s.words (row_words * x.route + 3) (4 * x.number + 1)) r.above.role
@@ -76,13 +80,13 @@ module _ (z : Sizes) (s : State (Unit {0}) (View TreeView)) (r : R z s) (id : �
       (λ t p k e state. dite (ℕ_discrete t x.route)
       (λ (w : t ≡ x.route). subst (λ n. n % 4 < 3) (sym (ap (join_of words') w ∙ here)) (omega arith))
       (λ (ne : t ≢ x.route). subst (λ n. n % 4 < 3) (sym (same t ne)) state))
-      (child_stays z s r x.route place key (is_route z s r id me at x known) (4 * x.number + 1)) r.above.joined
+      (child_stays z s r x.route place key spot (4 * x.number + 1)) r.above.joined
 
   -- The seat knows that it was begun, and that those before are finished.
   pub begun_joining : IsJoining (set s.words (row_words * x.route + 3) (4 * x.number + 1)) me.0.upper.notes me.0.upper.ways
       (joins_begun x me.0.upper.ranges.joins)
   begun_joining = begun_more words' me.0.upper.notes me.0.upper.ways me.0.upper.ranges.joins x known here
-      (joining_then z s r x.route place key (is_route z s r id me at x known) (4 * x.number + 1) on id me.0.upper (at_map upper_of s.views id me.0 at))
+      (joining_then z s r x.route place key spot (4 * x.number + 1) on id me.0.upper (at_map upper_of s.views id me.0 at))
 
   unsecured_then : 1 < z.passes → AreUnsecured z words' r.above.role
   unsecured_then several = record {
@@ -98,7 +102,7 @@ module _ (z : Sizes) (s : State (Unit {0}) (View TreeView)) (r : R z s) (id : �
     homes = s.homes;
     views = set s.views id (relinked me me.0.claims (with_joins me.0.upper (joins_begun x me.0.upper.ranges.joins))).0;
   }
-  begin_step several = join_step z s r x.route place key (is_route z s r id me at x known) (4 * x.number + 1) on id me.0 at
+  begin_step several = join_step z s r x.route place key spot (4 * x.number + 1) on id me.0 at
       (joins_begun x me.0.upper.ranges.joins) me.0.upper.turns (max me.0.most (held_count me.0.claims)) begun_joined (unsecured_then several) begun_joining
 
 module _ (z : Sizes) where

@@ -89,10 +89,11 @@ module _ (z : Sizes) (s : State (Unit {0}) (View TreeView)) (r : R z s) (id : �
   abbrev key : List ℕ
   key = route_key known.0.its
 
-  -- The route is one of the tree.
-  pub is_route : r.above.role x.route ≡ Route known.0.place (route_key known.0.its)
-  is_route = subst (λ t. r.above.role t ≡ Route known.0.place (route_key known.0.its)) known.2
-      (alive r.above.role known.0 ((knows_upper z s r id me.0 at).ways known.0 known.1).stands)
+  -- The route is one of the tree, if no attempt of it is secured.
+  pub is_route : ((attempt : ℕ) → ¬ IsSecured s.words x.route attempt) → r.above.role x.route ≡ Route known.0.place (route_key known.0.its)
+  is_route free = subst (λ t. r.above.role t ≡ Route known.0.place (route_key known.0.its)) known.2
+      (alive z s.words r.above.role me.0.upper.since r.above.history known.0 ((knows_upper z s r id me.0 at).ways known.0 known.1)
+      (λ attempt now. free attempt (subst (λ t. IsSecured s.words t attempt) known.2 now)))
 
   first : get_elem? (map upper_of s.views) id ≡ some me.0.upper
   first = at_map upper_of s.views id me.0 at
@@ -102,17 +103,20 @@ module _ (z : Sizes) (s : State (Unit {0}) (View TreeView)) (r : R z s) (id : �
 
   -- An attempt that is prepared is given up.
   module _ (hit : IsPrepared s.words x.route x.number) where
+    spot : r.above.role x.route ≡ Route known.0.place (route_key known.0.its)
+    spot = is_route (λ attempt now. omega (arith, hit, now))
+
     abbrev words' : List ℕ
     words' = set s.words (row_words * x.route + 3) (4 * x.number)
 
     here : join_of words' x.route ≡ 4 * x.number
-    here = join_here z s r x.route place key is_route (4 * x.number)
+    here = join_here z s r x.route place key spot (4 * x.number)
 
     on : JoinGoesOn s.words words' x.route
     on = aborted_goes_on s.words words' x.route x.number hit here
 
     same : (t : ℕ) → t ≢ x.route → join_of words' t ≡ join_of s.words t
-    same t ne = join_else z s r x.route place key is_route (4 * x.number) (row_words * t + 3) (λ e. ne (omega arith))
+    same t ne = join_else z s r x.route place key spot (4 * x.number) (row_words * t + 3) (λ e. ne (omega arith))
 
     -- Another one that is under way then was so.
     before_it : (t : ℕ) (attempt : ℕ) → IsUnderWay words' t attempt → IsUnderWay s.words t attempt × (t ≢ x.route)
@@ -127,7 +131,7 @@ module _ (z : Sizes) (s : State (Unit {0}) (View TreeView)) (r : R z s) (id : �
         (λ t p k e state. dite (ℕ_discrete t x.route)
         (λ (w : t ≡ x.route). subst (λ n. n % 4 < 3) (sym (ap (join_of words') w ∙ here)) (omega arith))
         (λ (ne : t ≢ x.route). subst (λ n. n % 4 < 3) (sym (same t ne)) state))
-        (child_stays z s r x.route place key is_route (4 * x.number)) r.above.joined
+        (child_stays z s r x.route place key spot (4 * x.number)) r.above.joined
 
     unsecured_now : AreUnsecured z words' r.above.role
     unsecured_now = unsecured_still z s.words words' role role (λ t p k e. dite (ℕ_discrete t x.route)
@@ -139,24 +143,27 @@ module _ (z : Sizes) (s : State (Unit {0}) (View TreeView)) (r : R z s) (id : �
       homes = s.homes;
       views = set s.views id (relinked me me.0.claims (aborted x me.0.upper)).0;
     }
-    abort_step = join_step z s r x.route place key is_route (4 * x.number) on id me.0 at (joins_aborted x u.ranges.joins) (one_helped u.turns)
+    abort_step = join_step z s r x.route place key spot (4 * x.number) on id me.0 at (joins_aborted x u.ranges.joins) (one_helped u.turns)
         (max me.0.most (held_count me.0.claims)) joined_now unsecured_now
         (finished_more words' u.notes u.ways u.ranges.joins x known here
-        (joining_then z s r x.route place key is_route (4 * x.number) on id u first))
+        (joining_then z s r x.route place key spot (4 * x.number) on id u first))
 
   -- The two bases under it have its mark, so it may be secured.
   module _ (left right : Note) (k : IsSecuring z.leaf me x left right) (hit : IsPrepared s.words x.route x.number) where
+    spot_too : r.above.role x.route ≡ Route known.0.place (route_key known.0.its)
+    spot_too = is_route (λ attempt now. omega (arith, hit, now))
+
     abbrev words'' : List ℕ
     words'' = set s.words (row_words * x.route + 3) (4 * x.number + 2)
 
     there : join_of words'' x.route ≡ 4 * x.number + 2
-    there = join_here z s r x.route place key is_route (4 * x.number + 2)
+    there = join_here z s r x.route place key spot_too (4 * x.number + 2)
 
     on_too : JoinGoesOn s.words words'' x.route
     on_too = secured_goes_on s.words words'' x.route x.number hit there
 
     same_too : (t : ℕ) → t ≢ x.route → join_of words'' t ≡ join_of s.words t
-    same_too t ne = join_else z s r x.route place key is_route (4 * x.number + 2) (row_words * t + 3) (λ e. ne (omega arith))
+    same_too t ne = join_else z s r x.route place key spot_too (4 * x.number + 2) (row_words * t + 3) (λ e. ne (omega arith))
 
     -- A base that was shown with its mark is under its link, and stays there.
     under : (note : Note) (link : ℕ) → IsIn note me.0.upper.notes → IsMarkedFor note.its x.route x.number → note.place.link ≡ link
@@ -179,9 +186,9 @@ module _ (z : Sizes) (s : State (Unit {0}) (View TreeView)) (r : R z s) (id : �
       secured = λ t p key' attempt e now. dite (ℕ_discrete t x.route)
           (λ (w : t ≡ x.route). let number : x.number ≡ attempt = let q = subst (λ c. IsSecured words'' c attempt) w now in omega (arith, there, q) in
           subst (λ (c : ℕ × ℕ). AreJoined z words'' c.0 c.1) (λ i. (sym w i, number i))
-          (joined_there z s.words words'' x.route x.number (child_stays z s r x.route place key is_route (4 * x.number + 2) x.route place key is_route) mine))
+          (joined_there z s.words words'' x.route x.number (child_stays z s r x.route place key spot_too (4 * x.number + 2) x.route place key spot_too) mine))
           (λ (ne : t ≢ x.route). joined_there z s.words words'' t attempt
-          (child_stays z s r x.route place key is_route (4 * x.number + 2) t p key' e)
+          (child_stays z s r x.route place key spot_too (4 * x.number + 2) t p key' e)
           (r.above.joined.secured t p key' attempt e (sym (same_too t ne) ∙ now)));
       states = λ t p key' e. dite (ℕ_discrete t x.route)
           (λ (w : t ≡ x.route). subst (λ n. n % 4 < 3) (sym (ap (join_of words'') w ∙ there)) (omega arith))
@@ -194,10 +201,10 @@ module _ (z : Sizes) (s : State (Unit {0}) (View TreeView)) (r : R z s) (id : �
       homes = s.homes;
       views = set s.views id (relinked me me.0.claims (with_joins me.0.upper (joins_secured x me.0.upper.ranges.joins))).0;
     }
-    secure_step unsecured = join_step z s r x.route place key is_route (4 * x.number + 2) on_too id me.0 at (joins_secured x u.ranges.joins) u.turns
+    secure_step unsecured = join_step z s r x.route place key spot_too (4 * x.number + 2) on_too id me.0 at (joins_secured x u.ranges.joins) u.turns
         (max me.0.most (held_count me.0.claims)) joined_too unsecured
         (secured_more words'' u.notes u.ways u.ranges.joins x known there
-        (joining_then z s r x.route place key is_route (4 * x.number + 2) on_too id u first))
+        (joining_then z s r x.route place key spot_too (4 * x.number + 2) on_too id u first))
 
   -- It isn't prepared any more, and the seat learns that.
   pub late_step : HasAttempt s.words x.route x.number → ¬ IsPrepared s.words x.route x.number → (i : ℕ) → R z record {

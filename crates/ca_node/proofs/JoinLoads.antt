@@ -68,7 +68,7 @@ module _ (z : Sizes) where
       let k = knows_upper z s r id d at in
       let way = known.0 in
       let is : f.role route ≡ Route way.place (route_key way.its) = subst (λ t. f.role t ≡ Route way.place (route_key way.its)) known.2
-      (alive f.role way (k.ways way known.1).stands) in
+      (alive z s.words f.role d.upper.since f.history way (k.ways way known.1) (k.ways way known.1).unsecured) in
       let state = f.joined.states route way.place (route_key way.its) is in
       let ranging = f.ranged.each id d.upper first in
       let u' : TreeView = with_joins d.upper (joins_loaded route n d.upper.ranges.joins) in

@@ -31,8 +31,8 @@ use Rattle.ca_node.specs.Row.{row_at, items, mark as mark_kind, mark_owner, IsMa
 use Rattle.ca_node.specs.Scenes.{scene_of}
 use Rattle.ca_node.specs.Shape.{Role, Base}
 use Rattle.ca_node.specs.Told.{MyTree, taken_out, given}
-use Rattle.ca_node.specs.Tree.{IsTrue, IsLinkOfView, Knows, IsTree}
-use Rattle.ca_node.specs.TreeView.{Note, TreeView}
+use Rattle.ca_node.specs.Tree.{IsTrue, IsTrueWay, IsLinkOfView, Knows, IsTree}
+use Rattle.ca_node.specs.TreeView.{Note, Way, TreeView}
 use Rattle.ca_node.proofs.Joined.{unjoined_over}
 use Rattle.ca_node.proofs.Exchanging.{IsExchange, settled_over, old_map, new_row, ins_once, new_its, out_linked, out_unlent, note_keeps, way_keeps, ranging_keeps, replaced, new_true, own_notes, exchange_step, joining_keep, joining_more}
 use Rattle.ca_node.proofs.Holding.{unclaimed_row}
@@ -56,7 +56,7 @@ module _ (z : Sizes) (s : State (Unit {0}) (View TreeView)) (r : R z s) (id : �
   abbrev words' : List ℕ
   words' = set s.words x.old.place.link new
 
-  knows : Knows z.rows r.made s.words r.above.role (map upper_of s.views) r.above.history id me.0.upper
+  knows : Knows z r.made s.words r.above.role (map upper_of s.views) r.above.history id me.0.upper
   knows = knows_upper z s r id me.0 at
 
   old_shown : IsIn x.old me.0.upper.notes
@@ -158,8 +158,8 @@ module _ (z : Sizes) (s : State (Unit {0}) (View TreeView)) (r : R z s) (id : �
   ranging_now j y here = ranging_keeps z s r id me at new (update_of x) ex hit over free r.above.history mark bounded has_now others_have [] serve once
       new_end j y here longer (λ number _ _ m. unmarked y.upper.number number m)
 
-  own_knows : Knows z.rows r.made words' role' (set (map upper_of s.views) id u') r.above.history id u'
-  own_knows = let k = relisted z.rows r.made s.words role (map upper_of s.views) (set (map upper_of s.views) id u') f.history id me.0.upper
+  own_knows : Knows z r.made words' role' (set (map upper_of s.views) id u') r.above.history id u'
+  own_knows = let k = relisted z r.made s.words role (map upper_of s.views) (set (map upper_of s.views) id u') f.history id me.0.upper
       (numbered (map upper_of s.views) id me.0.upper u' first (λ _. refl)) knows in record {
         made_before = k.made_before;
         alone = k.alone;
@@ -177,16 +177,17 @@ module _ (z : Sizes) (s : State (Unit {0}) (View TreeView)) (r : R z s) (id : �
             (λ (e : copy_note new x ≡ note). subst (λ (y : Note). IsLinkOfView me.0.upper y.place.link) e (knows.links x.old old_shown))
             (λ (o : IsIn note me.0.upper.notes). knows.links note o)
             (in_more (copy_note new x) note me.0.upper.notes i);
-        ways = way_keeps z s r id me at new (update_of x) ex hit over free r.above.history mark bounded has_now others_have [] serve once new_end id me.0 at;
+        ways = way_keeps z s r id me at new (update_of x) ex hit over free r.above.history mark bounded has_now others_have [] serve once new_end id me.0 at longer;
+        one_place = k.one_place;
         joining = joining_more z s r id me at new (update_of x) ex hit over free r.above.history mark bounded has_now others_have [] serve once new_end;
         ended = k.ended;
       }
 
   others_know : (j : ℕ) (v : TreeView) → j ≢ id → get_elem? (map upper_of s.views) j ≡ some v
-      → Knows z.rows r.made words' role' (set (map upper_of s.views) id u') r.above.history j v
+      → Knows z r.made words' role' (set (map upper_of s.views) id u') r.above.history j v
       × IsRanging z words' role' (r.above.ranged.ends v.number) v.since r.above.history v.number v.ranges
   others_know j v ne here = let y = of_map upper_of s.views j v here in
-      let k = relisted z.rows r.made s.words role (map upper_of s.views) (set (map upper_of s.views) id u') f.history j v
+      let k = relisted z r.made s.words role (map upper_of s.views) (set (map upper_of s.views) id u') f.history j v
       (numbered (map upper_of s.views) id me.0.upper u' first (λ _. refl)) (f.each_seat j v here) in (
         record {
           made_before = k.made_before;
@@ -198,8 +199,10 @@ module _ (z : Sizes) (s : State (Unit {0}) (View TreeView)) (r : R z s) (id : �
           notes = λ note i. note_keeps z s r id me at new (update_of x) ex hit over free r.above.history mark bounded has_now others_have [] serve once new_end
               j y.0 y.1 note (subst (λ (w : TreeView). IsIn note w.notes) (sym y.2) i);
           links = k.links;
-          ways = λ way i. way_keeps z s r id me at new (update_of x) ex hit over free r.above.history mark bounded has_now others_have [] serve once new_end
-              j y.0 y.1 way (subst (λ (w : TreeView). IsIn way w.ways) (sym y.2) i);
+          ways = subst (λ (w : TreeView). (way : Way) → IsIn way w.ways → IsTrueWay z words' role' w.since r.above.history way) y.2
+              (way_keeps z s r id me at new (update_of x) ex hit over free r.above.history mark bounded has_now others_have [] serve once new_end
+              j y.0 y.1 longer);
+          one_place = k.one_place;
           joining = subst (λ (w : TreeView). IsJoining words' w.notes w.ways w.ranges.joins) y.2
               (joining_keep z s r id me at new (update_of x) ex hit over free r.above.history mark bounded has_now others_have [] serve once new_end j y.0 y.1);
           ended = k.ended;

@@ -19,11 +19,13 @@ use Rattle.ca_rows.proofs.Relinking.{Stays, relinks}
 use Rattle.ca_rows.proofs.Rules.{all_seats}
 use Rattle.ca_runs.specs.Runs.{AreRuns}
 use Rattle.ca_runs.proofs.Keeping.{runs_still}
-use Rattle.ca_node.specs.Attempts.{join_of, JoinGoesOn}
+use Rattle.ca_node.specs.Attempts.{join_of, IsSecured, JoinGoesOn}
 use Rattle.ca_node.specs.Inventory.{IsInventory}
 use Rattle.ca_node.specs.Joining.{AreJoining, AreUnsecured, IsJoining}
 use Rattle.ca_node.specs.JoinsStay.{remembered_route, join_same, joining_goes_on}
-use Rattle.ca_node.specs.Laws.{alive, noted_alike, numbered, placed_range, relisted, tree_lends, under_placed}
+use Rattle.ca_node.specs.DeadStays.{dead_stays}
+use Rattle.ca_node.specs.Hindsight.{IsDead}
+use Rattle.ca_node.specs.Laws.{noted_alike, numbered, placed_range, relisted, tree_lends, under_way}
 use Rattle.ca_node.specs.Layout.{root_word}
 use Rattle.ca_node.specs.Links.{IsIn, IsUnder, IsActive, IsBoundOf, IsLinked, by_range, IsLent, IsOfOwnRun, IsNoted, by_note, by_item, by_way, by_link, by_link_item, by_border, by_run, by_run_item, by_shown, by_shown_item}
 use Rattle.ca_node.specs.Marks.{IsMarkIn}
@@ -31,7 +33,7 @@ use Rattle.ca_node.specs.Place.{Span, all_keys, left_of, right_of, Place, IsLink
 use Rattle.ca_node.specs.Ranging.{IsRanging}
 use Rattle.ca_node.specs.RangesStay.{own_note, own_run_back, active_back, active_on, begun_on, decided_back, ranging_stays}
 use Rattle.ca_node.specs.Reached.{base_at, route_at, placed_linked, item_linked, reached, lent_end, end_lent}
-use Rattle.ca_node.specs.Row.{row_at, form, IsObjectRow, IsBaseRow, items, mark, mark_owner, mark_number, mark_bound, IsMarkedBy, route_key}
+use Rattle.ca_node.specs.Row.{row_at, form, IsObjectRow, IsBaseRow, items, mark, mark_owner, mark_number, mark_bound, IsMarkedBy}
 use Rattle.ca_node.specs.Scenes.{IsBase, mark_of, scene_of}
 use Rattle.ca_node.specs.Shape.{Role, Out, Base, Route, place_of, IsLink, LeadsTo, IsRouteAt, IsSo, IsShape}
 use Rattle.ca_node.specs.Standing.{IsSameButLinks, form_same, mark_stays, base_stands, route_stands}
@@ -237,7 +239,7 @@ module _ (z : Sizes) (s : State (Unit {0}) (View TreeView)) (r : R z s) (route :
       known : IsRanging z s.words role (f.ranged.ends v.number) v.since f.history v.number v.ranges
       known = f.ranged.each j v here
 
-      knows : Knows z.rows r.made s.words role (map upper_of s.views) f.history j v
+      knows : Knows z r.made s.words role (map upper_of s.views) f.history j v
       knows = f.each_seat j v here
 
       ranging_then : IsRanging z words' role (f.ranged.ends v.number) v.since f.history v.number v.ranges
@@ -266,24 +268,48 @@ module _ (z : Sizes) (s : State (Unit {0}) (View TreeView)) (r : R z s) (route :
           → get_or words' (row_words * way.row + index) 0 ≡ get_or s.words (row_words * way.row + index) 0
       way_stays way index l n = join_else (row_words * way.row + index) (λ e. n (omega arith))
 
-      knows_then : (uppers' : List TreeView) → Knows z.rows r.made s.words role uppers' f.history j v
-          → Knows z.rows r.made words' role uppers' f.history j v
-      knows_then uppers' k = record {
-        made_before = k.made_before;
-        alone = k.alone;
-        seen_first = k.seen_first;
-        since_first = k.since_first;
-        lawful = k.lawful;
-        past = k.past;
-        notes = λ note i. true_then note (k.notes note i);
-        links = k.links;
-        ways = λ way i. let t = k.ways way i in record {
-          stands = t.stands;
-          spells = λ index fixed. way_stays way index fixed.0 fixed.3 ∙ t.spells index fixed;
-        };
-        joining = joining_then;
-        ended = k.ended;
-      }
+      -- What a seat knows else, where no attempt of the route is secured then.
+      module _ (unsecured : (attempt : ℕ) → ¬ IsSecured words' route attempt) where
+        dead_apart : (way : Way) (at : ℕ) → IsDead z s.words role v.since f.history way at → way.row ≢ route
+        dead_apart way at d e = let y : Out ≡ Route place key = sym d.is_out ∙ (ap role e ∙ is) in cc
+
+        dead_then : (way : Way) (at : ℕ) → IsDead z s.words role v.since f.history way at → IsDead z words' role v.since f.history way at
+        dead_then way at d = dead_stays z s.words words' role role v.since f.history f.history way at d.is_out
+            (λ k l. join_else (row_words * way.row + k) (λ e. dead_apart way at d (omega arith)))
+            (λ c under m attempt p left. record {
+              is_out = left.is_out;
+              same = row_stays c left.in_range (other_form c (λ three. let two = left.is_base in omega arith));
+              objects = λ r i. let o = left.are_objects r i in row_stays r o.1 (other_form r (λ three. let one = o.2.0 in omega arith));
+            })
+            (λ l. (l, refl)) d
+
+        unsecured_then : (way : Way) → ((attempt : ℕ) → ¬ IsSecured s.words way.row attempt) → (attempt : ℕ) → ¬ IsSecured words' way.row attempt
+        unsecured_then way before attempt now = dite (ℕ_discrete way.row route)
+            (λ (e : way.row ≡ route). unsecured attempt (subst (λ t. IsSecured words' t attempt) e now))
+            (λ (ne : way.row ≢ route). before attempt (sym (join_else (row_words * way.row + 3) (λ e. ne (omega arith))) ∙ now))
+
+        pub knows_then : (uppers' : List TreeView) → Knows z r.made s.words role uppers' f.history j v
+            → Knows z r.made words' role uppers' f.history j v
+        knows_then uppers' k = record {
+          made_before = k.made_before;
+          alone = k.alone;
+          seen_first = k.seen_first;
+          since_first = k.since_first;
+          lawful = k.lawful;
+          past = k.past;
+          notes = λ note i. true_then note (k.notes note i);
+          links = k.links;
+          ways = λ way i. let t = k.ways way i in record {
+            some_row = t.some_row;
+            in_range = t.in_range;
+            stands = ⊎_elim (λ e. inl e) (λ d. inr (d.0, dead_then way d.0 d.1)) t.stands;
+            spells = λ index fixed. way_stays way index fixed.0 fixed.3 ∙ t.spells index fixed;
+            unsecured = unsecured_then way t.unsecured;
+          };
+          one_place = k.one_place;
+          joining = joining_then;
+          ended = k.ended;
+        }
 
       under_back : (way : Way) (row : ℕ) → IsUnder words' way.row row → IsUnder s.words way.row row
       under_back way row under = ⊎_elim (λ e. inl (sym (way_stays way 1 (omega arith) (λ x. omega arith)) ∙ e))
@@ -299,9 +325,7 @@ module _ (z : Sizes) (s : State (Unit {0}) (View TreeView)) (r : R z s) (route :
       -- A base under a link of a route that it remembers.
       under_base : (way : Way) → IsIn way v.ways → (base : ℕ) → IsUnder s.words way.row base → IsBaseRow (row_at words' base)
           → row_at words' base ≡ row_at s.words base
-      under_base way i base under b = let p = under_placed z s.words role last f.shape way.row base way.place (route_key way.its)
-          (alive role way (knows.ways way i).stands) under in
-          let hi = (placed_range z s.words role last f.shape base p.0 p.1).1 in
+      under_base way i base under b = let hi = (under_way z s.words role last f.shape v.since f.history way (knows.ways way i) base under).1 in
           row_stays base hi (λ e. let three : form (row_at words' base) ≡ 3 =
           form_same s.words words' z.rows base f.shape.wide wide' hi (but_join base) ∙ (ap (λ c. form (row_at s.words c)) e ∙ at_route.is_route) in omega arith)
 
@@ -334,12 +358,12 @@ module _ (z : Sizes) (s : State (Unit {0}) (View TreeView)) (r : R z s) (route :
       first = at_map upper_of s.views id d at
 
       still : (j : ℕ) (v : TreeView) (here : get_elem? (map upper_of s.views) j ≡ some v)
-          → Knows z.rows r.made words' role (set (map upper_of s.views) id u') f.history j v
-      still j v here = knows_then j v here (set (map upper_of s.views) id u')
-          (relisted z.rows r.made s.words role (map upper_of s.views) (set (map upper_of s.views) id u') f.history j v
+          → Knows z r.made words' role (set (map upper_of s.views) id u') f.history j v
+      still j v here = knows_then j v here (λ attempt. unsecured'.none route place key attempt is) (set (map upper_of s.views) id u')
+          (relisted z r.made s.words role (map upper_of s.views) (set (map upper_of s.views) id u') f.history j v
           (numbered (map upper_of s.views) id d.upper u' first (λ _. refl)) (f.each_seat j v here))
 
-      own_knows : Knows z.rows r.made words' role (set (map upper_of s.views) id u') f.history id u'
+      own_knows : Knows z r.made words' role (set (map upper_of s.views) id u') f.history id u'
       own_knows = let k = still id d.upper first in record {
         made_before = k.made_before;
         alone = k.alone;
@@ -350,6 +374,7 @@ module _ (z : Sizes) (s : State (Unit {0}) (View TreeView)) (r : R z s) (route :
         notes = k.notes;
         links = k.links;
         ways = k.ways;
+        one_place = k.one_place;
         joining = own;
         ended = k.ended;
       }
@@ -386,7 +411,7 @@ module _ (z : Sizes) (s : State (Unit {0}) (View TreeView)) (r : R z s) (route :
         };
         joined = joined';
         unsecured = unsecured';
-        each_seat = all_seats (Knows z.rows r.made words' role (set (map upper_of s.views) id u') f.history)
+        each_seat = all_seats (Knows z r.made words' role (set (map upper_of s.views) id u') f.history)
             (map upper_of s.views) id u' own_knows (λ j v n here. still j v here);
         inventory = f.inventory;
         listed = listed';

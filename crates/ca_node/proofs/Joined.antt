@@ -1,6 +1,6 @@
 -- Joins, once a link of the tree was exchanged on which a base hung that no join under way had.
 use Rattle.std.proofs.Common.{◌≡◌, ◌≢◌, ℕ, ◌+◌, ◌*◌, ◌%◌, ◌<◌, List, get_or, set, sym, ap, ◌∙◌, subst, inr, ⊎_elim, arith}
-use mathlib.Core.Option.{some}
+use mathlib.Core.Option.{some, some-ne-none}
 use lib.ListN.{get_elem?}
 use Rattle.atomic_table.specs.Table.{State}
 use Rattle.ca_model.specs.StoreMap.{StoreMap}
@@ -14,12 +14,12 @@ use Rattle.ca_node.specs.Marks.{IsMarkIn, IsMarkedUnder, AreJoined}
 use Rattle.ca_node.specs.Place.{Span, Place}
 use Rattle.ca_node.specs.Reached.{base_at, route_at, hung}
 use Rattle.ca_node.specs.Row.{row_at, IsBaseRow, count, mark, mark_owner, mark_number, IsMarkedFor}
-use Rattle.ca_node.specs.Shape.{Role, Base, Route, LeadsTo, IsShape}
+use Rattle.ca_node.specs.Shape.{Role, Out, Base, Route, place_of, LeadsTo, IsShape}
 use Rattle.ca_node.specs.Told.{IsUnjoined}
-use Rattle.ca_node.specs.Tree.{IsLinkOfView}
+use Rattle.ca_node.specs.Tree.{IsLinkOfView, IsTrue}
 use Rattle.ca_node.specs.TreeView.{Note, Finished, TreeView}
 use Rattle.ca_node.proofs.Looking.{R, knows_upper}
-use Rattle.ca_node.proofs.Rebased.{IsRoute, relinked_here, relinked_else, relinked_joins, relinked_marks, relinked_row}
+use Rattle.ca_node.proofs.Relinked.{IsRoute, relinked_here, relinked_else, relinked_joins, relinked_marks, relinked_row}
 use Rattle.ca_rows.specs.Layout.{row_words}
 
 -- An attempt is finished that marked a base which no join has, as a seat knows.
@@ -34,10 +34,10 @@ unjoined_over z s r id d at its unjoined route attempt m now = ⊎_elim
     (λ e. ⊎_elim (λ q. absurd (omega (arith, e, q))) (λ q. absurd (omega (arith, e, q))) here) over)
     unjoined
 
--- The link of the base `old` names another row then.
+-- The link of what hangs there names another row then; no join under way has it, if it is a base.
 module _ (z : Sizes) (words : List ℕ) (role : ℕ → Role) (m : StoreMap) (shape : IsShape z words role m) (old : ℕ) (place : Place)
-    (is : role old ≡ Base place) (row : ℕ)
-    (over : (route attempt : ℕ) → IsMarkedFor (row_at words old) route attempt → ¬ IsUnderWay words route attempt) where
+    (is : place_of (role old) ≡ some place) (row : ℕ)
+    (over : IsBaseRow (row_at words old) → (route attempt : ℕ) → IsMarkedFor (row_at words old) route attempt → ¬ IsUnderWay words route attempt) where
   abbrev words' : List ℕ
   words' = set words place.link row
 
@@ -52,9 +52,9 @@ module _ (z : Sizes) (words : List ℕ) (role : ℕ → Role) (m : StoreMap) (sh
 
   -- The link of a base that a secured join has isn't this one.
   other_link : (route attempt link : ℕ) → IsSecured words route attempt → IsMarkedUnder words route attempt link → link ≢ place.link
-  other_link route attempt link now marked e = over route attempt
-      (subst (λ c. IsMarkedFor (row_at words c) route attempt) (ap (λ i. get_or words i 0) e ∙ (base_at z words role m shape old place is).under) marked.1)
-      (inr now)
+  other_link route attempt link now marked e = let here = ap (λ i. get_or words i 0) e ∙ (hung z words role m shape old place is).0 in
+      over (subst (λ c. IsBaseRow (row_at words c)) here marked.0) route attempt
+      (subst (λ c. IsMarkedFor (row_at words c) route attempt) here marked.1) (inr now)
 
   -- A secured join has under its route what it had.
   pub joined_keeps : AreJoining z words role → (route : ℕ) (p : Place) (key : List ℕ) (attempt : ℕ) → role route ≡ Route p key
@@ -76,15 +76,22 @@ module _ (z : Sizes) (words : List ℕ) (role : ℕ → Role) (m : StoreMap) (sh
 
   -- A seat knows of joins what it knew.
   pub joining_keeps : (u : TreeView) → ((note : Note) → IsIn note u.notes → IsLinkOfView u note.place.link)
-      → ((note : Note) → IsIn note u.notes → row_at words note.row ≡ note.its) → IsJoining words u.notes u.ways u.ranges.joins
+      → ((note : Note) → IsIn note u.notes → IsTrue z.rows words role note) → IsJoining words u.notes u.ways u.ranges.joins
       → IsJoining (set words place.link row) u.notes u.ways u.ranges.joins
-  joining_keeps u links spell = joining_goes_on words words' u.notes u.ways u.ranges.joins
+  joining_keeps u links trues = joining_goes_on words words' u.notes u.ways u.ranges.joins
       (λ route _. join_same words words' route (relinked_joins z words role m shape old place is row route))
       (λ note i route of. remembered_route u note.place.link route (links note i) of)
       (λ note i route attempt of marked now there. relinked_else z words role m shape old place is row note.place.link
-      (λ e. over route attempt (subst (λ c. IsMarkedFor (row_at words c) route attempt)
-      (sym there ∙ (ap (λ k. get_or words k 0) e ∙ (base_at z words role m shape old place is).under))
-      (subst (λ its. IsMarkedFor its route attempt) (sym (spell note i)) marked)) now) ∙ there)
+      (λ e. let here = sym there ∙ (ap (λ k. get_or words k 0) e ∙ (hung z words role m shape old place is).0) in let t = trues note i in
+      over (old_base note here t) route attempt (subst (λ c. IsMarkedFor (row_at words c) route attempt) here
+      (subst (λ its. IsMarkedFor its route attempt) (sym t.spells) marked)) now) ∙ there)
+    where
+      -- A note is on a base, if what hangs there is what it is on.
+      old_base : (note : Note) → note.row ≡ old → IsTrue z.rows words role note → IsBaseRow (row_at words old)
+      old_base note same t = ⊎_elim
+          (λ (e : role note.row ≡ Base note.place). subst (λ c. IsBaseRow (row_at words c)) same (base_at z words role m shape note.row note.place e).is_base)
+          (λ (e : role note.row ≡ Out). absurd (some-ne-none place (sym is ∙ (ap (λ c. place_of (role c)) (sym same) ∙ ap place_of e))))
+          t.stands
 
   -- The mark of a base that comes is one that hangs.
   pub new_hangs : (note : Note) → IsMarkIn words note.place note.its → note.place.link ≡ place.link → note.row ≡ row → (route attempt : ℕ)

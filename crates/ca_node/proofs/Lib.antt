@@ -19,6 +19,7 @@ pub mod JoinWord
 pub mod Joined
 pub mod KeyOrder
 pub mod LastTrees
+pub mod LinkLoads
 pub mod Listing
 pub mod LentOver
 pub mod Logs
@@ -35,12 +36,14 @@ pub mod OwnWord
 pub mod Parts
 pub mod Ranged
 pub mod Rebased
+pub mod Relinked
 pub mod Remembering
 pub mod RouteWords
 pub mod Runs
 mod SameNotes
 pub mod Tallies
 pub mod Turned
+pub mod Unlinked
 pub mod Updating
 pub mod Walks
 pub mod Watching

@@ -1,5 +1,5 @@
 -- Loads: of links, and of words of rows that were shown.
-use Rattle.std.proofs.Common.{◌≡◌, ◌≢◌, ◌⊎◌, ℕ, zero, suc, ◌+◌, ◌*◌, ◌/◌, ◌<◌, ◌≤◌, le_refl, Bool, true, List, [], ◌∷◌, ◌++◌, length, map, get_or, set, sym, refl, ap, ◌∙◌, subst, inl, inr, ⊎_elim, arith, length-append}
+use Rattle.std.proofs.Common.{◌≡◌, ◌≢◌, ◌⊎◌, ℕ, zero, suc, ◌+◌, ◌*◌, ◌/◌, ◌<◌, ◌≤◌, true, List, [], ◌∷◌, ◌++◌, length, map, get_or, set, sym, refl, ap, ◌∙◌, subst, inl, inr, ⊎_elim, arith, length-append}
 use Rattle.std.proofs.lemmas.List.{map-set, set-get_or, append_assoc, length-map}
 use mathlib.Core.Option.{some, none, some-injective, some-ne-none}
 use lib.ListN.{get_elem?}
@@ -18,26 +18,26 @@ use Rattle.ca_rows.specs.Rule.{upper_of, Ruled}
 use Rattle.ca_rows.proofs.Relinking.{Stays, relinks}
 use Rattle.ca_runs.specs.Runs.{Ends}
 use Rattle.ca_node.specs.Attempts.{HasAttempt}
-use Rattle.ca_node.specs.Inventory.{IsListed}
+use Rattle.ca_node.specs.Hindsight.{IsLeftOver, LedTo, IsDead}
 use Rattle.ca_node.specs.Joining.{IsRemembered, IsJoining}
-use Rattle.ca_node.specs.JoinsStay.{remembered_route, mark_hangs, joining_noted, joining_unnoted, joining_further}
-use Rattle.ca_node.specs.Laws.{noted_alike, alive, tree_lends, numbered, relisted, seat_changed, starts_whole}
+use Rattle.ca_node.specs.JoinsStay.{link_of_one, remembered_route, joining_unnoted}
+use Rattle.ca_node.specs.Laws.{noted_alike, tree_lends, numbered, relisted, seat_changed}
 use Rattle.ca_node.specs.Links.{IsIn, IsUnder, IsLinked, by_route, by_base, IsLent, HasBegun, IsNoted, by_note, by_item, by_way, by_link, by_link_item, by_border, by_run, by_run_item, by_shown, by_shown_item}
-use Rattle.ca_node.specs.Marks.{IsOfRange, IsOfJoin}
-use Rattle.ca_node.specs.Place.{Span, all_keys, left_of, right_of, HasKey, part, Place}
+use Rattle.ca_node.specs.Marks.{IsOfRange, IsOfJoin, IsMark}
+use Rattle.ca_node.specs.Place.{Span, all_keys, left_of, right_of, HasKey, part, Place, IsLinkOf}
 use Rattle.ca_node.specs.Ranging.{IsRanging}
-use Rattle.ca_node.specs.Reached.{by_place, base_at, route_at, placed_linked, item_linked}
-use Rattle.ca_node.specs.Row.{row_at, IsObjectRow, IsBaseRow, IsRouteRow, items, mark_owner, mark_number, IsMarkedBy, IsUnmarked, route_key, pair}
-use Rattle.ca_node.specs.Shape.{Base, Route, place_of, LeadsTo, IsBaseAt, IsRouteAt}
+use Rattle.ca_node.specs.Reached.{base_at, route_at, same_route}
+use Rattle.ca_node.specs.Row.{row_at, IsObjectRow, IsBaseRow, IsRouteRow, count, level, items, mark_owner, mark_number, IsMarkedBy, IsUnmarked, route_key, pair, AreHeaded}
+use Rattle.ca_node.specs.Shape.{Out, Base, Route, LeadsTo, IsBaseAt, IsRouteAt}
 use Rattle.ca_node.specs.Standing.{mark_of}
 use Rattle.ca_node.specs.Stays.{word_at, row_long}
 use Rattle.ca_node.specs.May.{MayLoad}
 use Rattle.ca_node.specs.Notes.{IsBaseNote}
-use Rattle.ca_node.specs.Told.{MyTree, with_upper, IsRouteNote, IsKnown, IsMissed, IsKnownLink, IsAnyLink, IsPlaceOf, come_to, come_at, led_to_base, led_to_route, IsLedToBase, IsLedToRoute, IsLed, Leads, IsOfNote, IsShown, IsShownRoute, IsShownOfRange, IsRead, Reads, entered, ReadsLast, Refuses, IsRise, PassesOn, passed_on, one_more_lost}
-use Rattle.ca_node.specs.States.{IsAlone, IsReadSince}
-use Rattle.ca_node.specs.Tree.{StartsWith, ArePast, IsLinkOfView, IsFixed, IsTrue, IsTrueWay, Knows, IsTree}
+use Rattle.ca_node.specs.Told.{MyTree, with_upper, IsRouteNote, IsKnown, IsMissed, IsKnownLink, IsPlaceOf, led_to_base, led_to_route, IsOfNote, IsShown, IsShownRoute, IsShownOfRange, IsRead, Reads, entered, ReadsLast, Refuses, IsRise, PassesOn, passed_on, one_more_lost}
+use Rattle.ca_node.specs.States.{IsReadSince}
+use Rattle.ca_node.specs.Tree.{StartsWith, ArePast, IsLinkOfView, IsFixed, IsAlive, IsTrue, IsTrueWay, Knows, IsTree}
 use Rattle.ca_node.specs.TreeView.{Note, Way, Border, Inventory, KnownRanges, Turns, TreeView, one_passed}
-use Rattle.ca_node.proofs.Logs.{last_state, state_stays, read_lawful, past_more}
+use Rattle.ca_node.proofs.Logs.{state_stays, read_lawful, past_more}
 use Rattle.ca_rows.specs.Layout.{row_words}
 use Rattle.ca_node.specs.Layout.{root_word, sequence_unit}
 
@@ -91,7 +91,7 @@ module _ (z : Sizes) where
   -- What a seat knows of the tree, by its view.
   pub knows_upper : (s : State (Unit {0}) (View TreeView)) (r : R s) (id : ℕ) (d : View TreeView)
       → get_elem? s.views id ≡ some d
-      → Knows z.rows r.made s.words r.above.role (map upper_of s.views) r.above.history id d.upper
+      → Knows z r.made s.words r.above.role (map upper_of s.views) r.above.history id d.upper
   knows_upper s r id d at = r.above.each_seat id d.upper (at_map upper_of s.views id d at)
 
 -- A load, or an exchange that was lost, after which a seat knows more of ranges, and its turns are counted anew.
@@ -112,7 +112,7 @@ module _ (z : Sizes) (s : State (Unit {0}) (View TreeView)) (r : R z s) (i id : 
       }
   knows_ranges joining notes ranging = let us : List TreeView = map upper_of s.views in
       let first = at_map upper_of s.views id d at in
-      let k = relisted z.rows r.made s.words r.above.role us (set us id with_ranges) r.above.history
+      let k = relisted z r.made s.words r.above.role us (set us id with_ranges) r.above.history
       id d.upper (numbered us id d.upper with_ranges first (λ _. refl)) (knows_upper z s r id d at) in
       looked z s r i id d with_ranges at notes
       (seat_changed z r.made s.words us id d.upper with_ranges r.above first (λ _. refl) (λ _. refl)
@@ -126,6 +126,7 @@ module _ (z : Sizes) (s : State (Unit {0}) (View TreeView)) (r : R z s) (i id : 
         notes = k.notes;
         links = k.links;
         ways = k.ways;
+        one_place = k.one_place;
         joining = joining;
         ended = k.ended;
       }
@@ -168,32 +169,32 @@ starts_shorter h seen s = let e = ap (λ (x : History). length x) s.1 in
 pub further : (a b c : History) → StartsWith a b → StartsWith b c → StartsWith a c
 further a b c x y = (y.0 ++ x.0, x.1 ∙ (ap (λ h. h ++ x.0) y.1 ∙ append_assoc c y.0 x.0))
 
--- A note more: on a base that is linked.
+-- A note more: on a base of which this holds, as of its objects.
 pub new_note : (words : List ℕ) (u : TreeView) (more : History) (note last : Note) (shown : ℕ)
-    → IsLinked words note.row
-    → ((r : ℕ) → IsIn r (items note.its) → IsLinked words r) → (row : ℕ)
+    → (P : ℕ → Type 0) → P note.row
+    → ((r : ℕ) → IsIn r (items note.its) → P r) → (row : ℕ)
     → IsNoted words (led_to_base u more note last shown) row
-    → IsNoted words u row ⊎ IsLinked words row
-new_note words u more note last shown here named _ (by_note n row i e) = ⊎_elim
-    (λ (same : note ≡ n). inr (subst (IsLinked words)
+    → IsNoted words u row ⊎ P row
+new_note words u more note last shown P here named _ (by_note n row i e) = ⊎_elim
+    (λ (same : note ≡ n). inr (subst P
     (ap (λ (x : Note). x.row) same ∙ e) here))
     (λ (o : IsIn n u.notes). inl (by_note n row o e)) (in_more note n u.notes i)
-new_note words u more note last shown here named _ (by_item n row i b m) = ⊎_elim
+new_note words u more note last shown P here named _ (by_item n row i b m) = ⊎_elim
     (λ (same : note ≡ n).
     inr (named row (subst (λ (x : Note). IsIn row (items x.its)) (sym same) m)))
     (λ (o : IsIn n u.notes). inl (by_item n row o b m)) (in_more note n u.notes i)
-new_note words u more note last shown here named _ (by_way way row i e) = inl (by_way way row i e)
-new_note words u more note last shown here named _ (by_link way row i under) =
+new_note words u more note last shown P here named _ (by_way way row i e) = inl (by_way way row i e)
+new_note words u more note last shown P here named _ (by_link way row i under) =
     inl (by_link way row i under)
-new_note words u more note last shown here named _ (by_link_item way base row i under f m) =
+new_note words u more note last shown P here named _ (by_link_item way base row i under f m) =
     inl (by_link_item way base row i under f m)
-new_note words u more note last shown here named _ (by_border border row i e) =
+new_note words u more note last shown P here named _ (by_border border row i e) =
     inl (by_border border row i e)
-new_note words u more note last shown here named _ (by_run row o) = inl (by_run row o)
-new_note words u more note last shown here named _ (by_run_item base row o k) =
+new_note words u more note last shown P here named _ (by_run row o) = inl (by_run row o)
+new_note words u more note last shown P here named _ (by_run_item base row o k) =
     inl (by_run_item base row o k)
-new_note words u more note last shown here named _ (by_shown n row i e) = inl (by_shown n row i e)
-new_note words u more note last shown here named _ (by_shown_item n row i b k) =
+new_note words u more note last shown P here named _ (by_shown n row i e) = inl (by_shown n row i e)
+new_note words u more note last shown P here named _ (by_shown_item n row i b k) =
     inl (by_shown_item n row i b k)
 
 -- A route more: one that is linked, and so is what its links name.
@@ -222,6 +223,10 @@ new_way words u more way here form _ (by_run_item base row o k) = inl (by_run_it
 new_way words u more way here form _ (by_shown n row i e) = inl (by_shown n row i e)
 new_way words u more way here form _ (by_shown_item n row i b k) = inl (by_shown_item n row i b k)
 
+-- a row with the words that it has, as a note on a base at this place
+abbrev pub row_note : List ℕ → ℕ → Place → Note
+row_note words row place = record { row = row; its = row_at words row; objects = map (λ r. row_at words r) (items (row_at words row)); place = place }
+
 -- What a list of rows spells, one after another.
 pub in_turn : (words : List ℕ) (xs : List ℕ)
     → map pair (map (λ r. row_at words r) xs) ≡ map (λ r. pair (row_at words r)) xs
@@ -233,16 +238,44 @@ module _ (z : Sizes) (made : ℕ) (words : List ℕ) (uppers : List TreeView)
   abbrev last : StoreMap
   last = after f.history []
 
+  -- A row that hangs at a place, or hung there, and spells a base: all that is said of it but its mark and what the map has.
+  record IsSpelled (row : ℕ) (place : Place) : Type 0 where
+    some_row : 0 < row
+    in_range : row ≤ z.rows
+    is_base : IsBaseRow (row_at words row)
+    level_is : level (row_at words row) ≡ place.level
+    deep : place.level ≤ z.levels
+    few : count (row_at words row) ≤ z.leaf
+    marked : IsMark place (row_at words row)
+    are_objects : (r : ℕ) → IsIn r (items (row_at words row)) → (0 < r) × (r ≤ z.rows) × IsObjectRow (row_at words r)
+    headed : AreHeaded words row
+
+  -- Its note is on a base.
+  spelled_is : (row : ℕ) (place : Place) → IsSpelled row place → IsBaseNote z (row_note words row place)
+  spelled_is row place at = record {
+    some_row = at.some_row;
+    in_range = at.in_range;
+    is_base = at.is_base;
+    long = row_long words z.rows row f.shape.wide at.in_range;
+    level_is = at.level_is;
+    deep = at.deep;
+    most_levels = f.usable.most_levels;
+    few = at.few;
+    marked = at.marked;
+    named = λ r i. let o = at.are_objects r i in (o.0, o.1);
+    as_many = length-map (items (row_at words row)) (λ r. row_at words r);
+    objects_long = λ its i. let from = of_map
+        (λ r. row_at words r) (items (row_at words row)) i.0 its i.1 in
+        let o = at.are_objects from.0 (i.0, from.1) in
+        subst (λ (x : List ℕ). (length x ≡ row_words)
+        × IsObjectRow x) from.2 (row_long words z.rows from.0 f.shape.wide o.1, o.2);
+    headed = at.headed;
+  }
+
   -- A base of the tree, as a note.
   module _ (row : ℕ) (place : Place) (is : f.role row ≡ Base place) where
     abbrev pub base_note : Note
-    base_note = record {
-      row = row;
-      its = row_at words row;
-      objects = map
-          (λ r. row_at words r) (items (row_at words row));
-      place = place;
-    }
+    base_note = row_note words row place
 
     at : IsBaseAt z words f.role last place row
     at = base_at z words f.role last f.shape row place is
@@ -275,29 +308,50 @@ module _ (z : Sizes) (made : ℕ) (words : List ℕ) (uppers : List TreeView)
 
     -- It is on a base.
     pub base_is : IsBaseNote z base_note
-    base_is = record {
+    base_is = spelled_is row place record {
       some_row = at.some_row;
       in_range = at.in_range;
       is_base = at.is_base;
-      long = row_long words z.rows row f.shape.wide at.in_range;
       level_is = at.level_is;
       deep = at.deep;
-      most_levels = f.usable.most_levels;
       few = at.few;
       marked = mark_of words place (row_at words row) at.marked;
-      named = λ r i. let o = at.are_objects r i in (o.0, o.1);
-      as_many = length-map (items (row_at words row)) (λ r. row_at words r);
-      objects_long = λ its i. let from = of_map
-          (λ r. row_at words r) (items (row_at words row)) i.0 its i.1 in
-          let o = at.are_objects from.0 (i.0, from.1) in
-          subst (λ (x : List ℕ). (length x ≡ row_words)
-          × IsObjectRow x) from.2 (row_long words z.rows from.0 f.shape.wide o.1, o.2);
+      are_objects = at.are_objects;
       headed = at.headed;
     }
 
     -- Its objects are what the last state has of the keys that are led there.
     pub base_has : map pair base_note.objects ≡ part place.span last
     base_has = in_turn words (items (row_at words row)) ∙ at.has
+
+  -- A base that was left over under a route that was unlinked, as a note.
+  module _ (map : StoreMap) (route attempt row : ℕ) (place : Place) (of : IsLinkOf route place.link)
+      (left : IsLeftOver z words f.role map route attempt place row) where
+    -- That note says what the words spell.
+    pub left_true : IsTrue z.rows words f.role (row_note words row place)
+    left_true = record {
+      some_row = left.some_row;
+      in_range = left.in_range;
+      spells = refl;
+      named = λ _ r i. left.are_objects r i;
+      objects_are = λ _. refl;
+      stands = inr left.is_out;
+      marks = λ pass number m. let one = m.0 in let two = left.marked.0 in absurd (omega arith);
+    }
+
+    -- It is on a base.
+    pub left_is : IsBaseNote z (row_note words row place)
+    left_is = spelled_is row place record {
+      some_row = left.some_row;
+      in_range = left.in_range;
+      is_base = left.is_base;
+      level_is = left.level_is;
+      deep = left.deep;
+      few = left.few;
+      marked = inr (inr (left.marked.0, subst (λ t. IsLinkOf t place.link) (sym left.marked.1) of));
+      are_objects = left.are_objects;
+      headed = left.headed;
+    }
 
   -- A route of the tree, as one that is remembered.
   module _ (row : ℕ) (place : Place) (key : List ℕ) (is : f.role row ≡ Route place key) where
@@ -308,11 +362,24 @@ module _ (z : Sizes) (made : ℕ) (words : List ℕ) (uppers : List TreeView)
     there = route_at z words f.role last f.shape row place key is
 
     -- It is what the words spell.
-    pub way_true : IsTrueWay words f.role route_way
-    way_true = record {
+    pub way_true : (since : History) → IsTrueWay z words f.role since f.history route_way
+    way_true since = record {
+      some_row = there.some_row;
+      in_range = there.in_range;
       stands = inl (is ∙ ap (Route place) (sym there.key_is));
       spells = λ index fixed. sym (word_at words row index fixed.0);
+      unsecured = λ attempt. f.unsecured.none row place key attempt is;
     }
+
+    -- A route with this row that a seat remembers was shown at this place.
+    pub way_alike : (since : History) (way : Way) → IsTrueWay z words f.role since f.history way → row ≡ way.row
+        → (place ≡ way.place) × (route_key (row_at words row) ≡ route_key way.its)
+    way_alike since way t e = ⊎_elim
+        (λ (a : IsAlive f.role way). let same = same_route place way.place key (route_key way.its) (sym is ∙ (ap f.role e ∙ a)) in
+        (same.0, there.key_is ∙ same.1))
+        (λ (d : (at : ℕ) × IsDead z words f.role since f.history way at).
+        let y : Route place key ≡ Out = sym is ∙ (ap f.role e ∙ d.1.is_out) in absurd cc)
+        t.stands
 
     pub route_is : IsRouteNote z route_way
     route_is = record {
@@ -327,30 +394,69 @@ module _ (z : Sizes) (made : ℕ) (words : List ℕ) (uppers : List TreeView)
     }
 
   -- What one seat knows of links and words.
-  module _ (j : ℕ) (u : TreeView) (k : Knows z.rows made words f.role uppers f.history j u) where
-    -- A link that it knows leads there.
+  module _ (j : ℕ) (u : TreeView) (k : Knows z made words f.role uppers f.history j u) where
+    -- The link is one of a route that was unlinked since the pin, and leads to a base that was left over.
+    abbrev pub IsLeftLink : ℕ → ℕ → Span → Type 0
+    IsLeftLink link least span = (way : Way) × IsIn way u.ways × (at : ℕ) × (d : IsDead z words f.role u.since f.history way at)
+        × (LedTo z words f.role (state f.history at) way.row d.attempt link least span) × IsLinkOf way.row link
+
+    -- The link of a route that it remembers, on one side, leads there, or is such a link.
+    way_leads : (way : Way) → IsIn way u.ways → (link least : ℕ) (span : Span) → least ≡ way.place.level + 1
+        → ((link ≡ row_words * way.row + 1) × (span ≡ left_of (route_key way.its) way.place.span))
+        ⊎ ((link ≡ row_words * way.row + 2) × (span ≡ right_of (route_key way.its) way.place.span))
+        → LeadsTo words f.role link least span ⊎ IsLeftLink link least span
+    way_leads way i link least span deep side = ⊎_elim
+        (λ (e : IsAlive f.role way). let r = there way.row way.place (route_key way.its) e in inl (⊎_elim
+        (λ t. subst (λ (y : ℕ × ℕ × Span). LeadsTo words f.role y.0 y.1 y.2) (λ n. (sym t.0 n, sym deep n, sym t.1 n)) r.left)
+        (λ t. subst (λ (y : ℕ × ℕ × Span). LeadsTo words f.role y.0 y.1 y.2) (λ n. (sym t.0 n, sym deep n, sym t.1 n)) r.right)
+        side))
+        (λ (d : (at : ℕ) × IsDead z words f.role u.since f.history way at). inr (
+          way,
+          i,
+          d.0,
+          d.1,
+          ⊎_elim
+              (λ t. subst (λ (y : ℕ × ℕ × Span). LedTo z words f.role (state f.history d.0) way.row d.1.attempt y.0 y.1 y.2)
+              (λ n. (sym t.0 n, sym deep n, sym t.1 n)) d.1.left)
+              (λ t. subst (λ (y : ℕ × ℕ × Span). LedTo z words f.role (state f.history d.0) way.row d.1.attempt y.0 y.1 y.2)
+              (λ n. (sym t.0 n, sym deep n, sym t.1 n)) d.1.right)
+              side,
+          ⊎_elim (λ t. inl t.0) (λ t. inr t.0) side,
+        ))
+        (k.ways way i).stands
+
+    -- A link that it knows leads there, or is such a link.
     pub known_leads : (link least : ℕ) (span : Span) → IsKnownLink u link least span
-        → LeadsTo words f.role link least span
+        → LeadsTo words f.role link least span ⊎ IsLeftLink link least span
     known_leads link least span known = ⊎_elim
-        (λ (t : (link ≡ root_word) × (least ≡ 0) × (span ≡ all_keys)). subst
-        (λ (i : ℕ). LeadsTo words f.role i least span) (sym t.0)
-        (subst (λ (i : ℕ). LeadsTo words f.role root_word i span) (sym t.1)
-        (subst (LeadsTo words f.role root_word 0) (sym t.2) f.shape.top)))
-        (λ (t : (way : Way) × IsIn way u.ways × (least ≡ way.place.level + 1)
-        × (((link ≡ row_words * way.row + 1)
-        × (span ≡ left_of (route_key way.its) way.place.span))
-        ⊎ ((link ≡ row_words * way.row + 2) × (span ≡ right_of (route_key way.its) way.place.span)))).
-        let r = there t.0.row t.0.place (route_key t.0.its)
-        (alive f.role t.0 (k.ways t.0 t.1).stands) in
-        subst (λ (i : ℕ). LeadsTo words f.role link i span) (sym t.2) (⊎_elim
-        (λ (e : (link ≡ row_words * t.0.row + 1) × (span ≡ left_of (route_key t.0.its) t.0.place.span)).
-        subst (λ (i : ℕ). LeadsTo words f.role i (t.0.place.level + 1) span) (sym e.0)
-        (subst (LeadsTo words f.role (row_words * t.0.row + 1) (t.0.place.level + 1)) (sym e.1) r.left))
-        (λ (e : (link ≡ row_words * t.0.row + 2) × (span ≡ right_of (route_key t.0.its) t.0.place.span)).
-        subst (λ (i : ℕ). LeadsTo words f.role i (t.0.place.level + 1) span) (sym e.0)
-        (subst (LeadsTo words f.role (row_words * t.0.row + 2) (t.0.place.level + 1)) (sym e.1) r.right))
-        t.3))
+        (λ (t : (link ≡ root_word) × (least ≡ 0) × (span ≡ all_keys)).
+        inl (subst (λ (y : ℕ × ℕ × Span). LeadsTo words f.role y.0 y.1 y.2) (λ n. (sym t.0 n, sym t.1 n, sym t.2 n)) f.shape.top))
+        (λ t. way_leads t.0 t.1 link least span t.2 t.3)
         known
+
+    -- Of one link it knows one level and one part of the keys.
+    known_once : (link a b : ℕ) (s t : Span) → IsKnownLink u link a s → IsKnownLink u link b t → (a ≡ b) × (s ≡ t)
+    known_once link a b s t one other = ⊎_elim
+        (λ (x : (link ≡ root_word) × (a ≡ 0) × (s ≡ all_keys)). ⊎_elim
+        (λ (y : (link ≡ root_word) × (b ≡ 0) × (t ≡ all_keys)). (x.1 ∙ sym y.1, x.2 ∙ sym y.2))
+        (λ y. absurd (no_root y.0.row (⊎_elim (λ e. inl e.0) (λ e. inr e.0) y.3) x.0)) other)
+        (λ x. ⊎_elim
+        (λ (y : (link ≡ root_word) × (b ≡ 0) × (t ≡ all_keys)). absurd (no_root x.0.row (⊎_elim (λ e. inl e.0) (λ e. inr e.0) x.3) y.0))
+        (λ y. let row = link_of_one x.0.row y.0.row link (⊎_elim (λ e. inl e.0) (λ e. inr e.0) x.3) (⊎_elim (λ e. inl e.0) (λ e. inr e.0) y.3) in
+        let same = k.one_place x.0 y.0 x.1 y.1 row in (
+          x.2 ∙ (ap (λ (p : Place). p.level + 1) same.0 ∙ sym y.2),
+          ⊎_elim
+              (λ e. ⊎_elim (λ g. e.1 ∙ (ap (λ (q : List ℕ × Span). left_of q.0 q.1) (λ n. (same.1 n, (same.0 n).span)) ∙ sym g.1))
+              (λ g. let l = e.0 in let m = g.0 in absurd (omega arith)) y.3)
+              (λ e. ⊎_elim (λ g. let l = e.0 in let m = g.0 in absurd (omega arith))
+              (λ g. e.1 ∙ (ap (λ (q : List ℕ × Span). right_of q.0 q.1) (λ n. (same.1 n, (same.0 n).span)) ∙ sym g.1)) y.3)
+              x.3,
+        ))
+        other)
+        one
+      where
+        no_root : (route : ℕ) → IsLinkOf route link → link ≡ root_word → ⊥
+        no_root route of top = ⊎_elim (λ (e : link ≡ row_words * route + 1). omega arith) (λ (e : link ≡ row_words * route + 2). omega arith) of
 
     -- It is a link that the view knows.
     pub link_of_view : (link least : ℕ) (span : Span) → IsKnownLink u link least span
@@ -359,20 +465,11 @@ module _ (z : Sizes) (made : ℕ) (words : List ℕ) (uppers : List TreeView)
         (λ t. inr (t.0, t.1, ⊎_elim (λ e. inl e.0) (λ e. inr e.0) t.3)) known
 
     -- What hangs there hangs at a place as the seat knows it.
-    pub place_known : (link : ℕ) (place : Place) → place.link ≡ link
-        → place_of (f.role (get_or words link 0)) ≡ some place → IsPlaceOf u link place
-    place_known link place here is = (
-      here,
-      λ least span known. let l = known_leads link least span known in
-          let same : place ≡ record {
-            link =
-                link;
-            level = l.level;
-            span = span;
-          } = some-injective place _ (sym is ∙ l.hangs) in (
-            subst (λ (p : Place). least ≤ p.level) (sym same) l.greater,
-            ap (λ (p : Place). p.span) same,
-          ),
+    pub place_known : (link level : ℕ) (least : ℕ) (span : Span) → IsKnownLink u link least span → least ≤ level
+        → IsPlaceOf u link (record { link = link; level = level; span = span })
+    place_known link level least span known greater = (
+      refl,
+      λ a s other. let same = known_once link least a span s known other in let low = same.0 in (omega arith, same.1),
     )
 
     -- Of a row that a true note tells of, a load gives the word that the note says.
@@ -433,7 +530,7 @@ module _ (z : Sizes) where
   -- A seat that has seen the whole history.
   module _ (s : State (Unit {0}) (View TreeView)) (r : R z s) (id : ℕ) (me : MyTree)
       (at : get_elem? s.views id ≡ some me.0) where
-    abbrev mine : Knows z.rows r.made s.words r.above.role (map upper_of s.views) r.above.history id
+    abbrev mine : Knows z r.made s.words r.above.role (map upper_of s.views) r.above.history id
         me.0.upper
     mine = knows_upper z s r id me.0 at
 
@@ -476,247 +573,11 @@ module _ (z : Sizes) where
         subst P (sym (⊎_elim (λ (e : me.0.sizes.rows ≡ 0). absurd (omega arith))
         (λ (e : me.0.sizes ≡ z). e) (r.seat id me.0 at).sizes_are)) p
 
-  -- A load of a link that the seat knows.
-  module _ (s : State (Unit {0}) (View TreeView)) (r : R z s) (id : ℕ) (me : MyTree)
-      (at : get_elem? s.views id ≡ some me.0) (is_pinned : me.0.pin.pinned ≡ true)
-      (walks : Bool) (link : ℕ) (any : IsAnyLink me.0.upper link) where
-    abbrev f : IsTree z r.made s.words (map upper_of s.views)
-    f = r.above
-
-    abbrev u : TreeView
-    u = me.0.upper
-
-    abbrev k : Knows z.rows r.made s.words r.above.role (map upper_of s.views) r.above.history id
-        me.0.upper
-    k = knows_upper z s r id me.0 at
-
-    n : ℕ
-    n = get_or s.words link 0
-
-    abbrev more : History
-    more = k.seen_first.0
-
-    first : get_elem? (map upper_of s.views) id ≡ some u
-    first = at_map upper_of s.views id me.0 at
-
-    abbrev leads_there : LeadsTo s.words f.role link any.0 any.1
-    leads_there =
-        known_leads z r.made s.words (map upper_of s.views) f id u k link any.0 any.1 any.2
-
-    abbrev Next : TreeView → Type 0
-    Next u' = R z record {
-      words = set s.words link (get_or s.words link 0);
-      homes =
-          s.homes;
-      views = set s.views id (record me.0 { upper = u' });
-    }
-
-    -- It names a base,
-    module _ (place : Place) (is : f.role (get_or s.words link 0) ≡ Base place)
-        (here : place.link ≡ link) where
-      abbrev note : Note
-      note = base_note z r.made s.words (map upper_of s.views) f (get_or s.words link 0) place is
-
-      abbrev with_base : TreeView
-      with_base = led_to_base u k.seen_first.0 note (come_to walks u note) (come_at walks u)
-
-      base_linked : IsLinked s.words (get_or s.words link 0)
-      base_linked =
-          placed_linked z s.words f.role (after f.history []) f.shape (get_or s.words link 0) place
-          (ap place_of is)
-
-      pub to_base : Next with_base
-      to_base = let k' = relisted z.rows r.made s.words f.role (map upper_of s.views)
-          (set (map upper_of s.views) id with_base) f.history id u
-          (numbered (map upper_of s.views) id u with_base first (λ _. refl)) k in
-          looked z s r link id me.0 with_base at
-          (λ row m. ⊎_elim (λ o. inl o) (λ l. inr (l, is_pinned))
-          (new_note s.words u k.seen_first.0 note (come_to walks u note) (come_at walks u)
-          base_linked
-          (λ x i. item_linked z s.words f.role (after f.history []) f.shape (get_or s.words link 0)
-          place is x i) row m))
-          (seat_changed z r.made s.words (map upper_of s.views) id u with_base f first (λ _. refl)
-          (λ _. refl) record {
-            made_before = k'.made_before;
-            alone = k'.alone;
-            seen_first = subst (StartsWith f.history) (whole s r id me at) (starts_whole f.history);
-            since_first = subst
-                (λ (h : History). StartsWith h u.since) (whole s r id me at)
-                (since_whole s r id me at);
-            lawful = k'.lawful;
-            past = subst
-                (λ (h : History). ArePast (length h) u.log) (whole s r id me at)
-                (past_whole s r id me at);
-            notes = λ m i. ⊎_elim (λ (e : note ≡ m). subst (IsTrue z.rows s.words f.role) e
-                (base_true z r.made s.words (map upper_of s.views) f (get_or s.words link 0) place
-                is))
-                (λ (o : IsIn m u.notes). k.notes m o) (in_more note m u.notes i);
-            links = λ m i. ⊎_elim (λ (e : note ≡ m). subst
-                (λ (x : Note). IsLinkOfView u x.place.link) e
-                (subst (IsLinkOfView u) (sym here)
-                (link_of_view z r.made s.words (map upper_of s.views) f id u k link any.0 any.1
-                any.2)))
-                (λ (o : IsIn m u.notes). k.links m o) (in_more note m u.notes i);
-            ways = k.ways;
-            joining = joining_noted s.words note u.notes u.ways u.ranges.joins
-                (mark_hangs s.words note (base_at z s.words f.role (after f.history []) f.shape (get_or s.words link 0) place is).marked
-                (ap (λ i. get_or s.words i 0) here)) k.joining;
-            ended = k'.ended;
-          }
-          (f.ranged.each id u first))
-
-      -- It is listed, and so it is in the list of a pass that is the only one.
-      base_listed : IsAlone z u → IsListed u.inventory note
-      base_listed alone = let one = alone.0 in let within = r.within in
-          subst (λ (i : Inventory).
-          IsListed i note) (sym (f.only_one id u first (omega arith) alone.1)) record {
-            row = f.listed.linked (get_or s.words link 0) base_linked;
-            base = f.listed.based (get_or s.words link 0) place is;
-            only = λ row at_place key i has here.
-                f.shape.apart row (get_or s.words link 0) at_place place key
-                (f.listed.bases row at_place i) is has here;
-          }
-
-      pub base_told : IsLedToBase walks link me (get_or s.words link 0) (with_upper me with_base)
-      base_told = record {
-        note = note;
-        more = k.seen_first.0;
-        now = refl;
-        row_is = refl;
-        place = place_known z r.made s.words (map upper_of s.views) f id u k link place here
-            (ap place_of is);
-        has = record {
-          at = length (u.seen ++ k.seen_first.0);
-          since = (
-            (let more = starts_shorter u.seen u.since k.since_first in
-                let sum = length-append u.seen k.seen_first.0 in omega arith),
-            le_refl (length (u.seen ++ k.seen_first.0)),
-          );
-          has = subst (λ (m : StoreMap). map pair note.objects ≡ part place.span m)
-              (sym (last_state (u.seen ++ k.seen_first.0))) (subst
-              (λ (h : History). map pair note.objects ≡ part place.span (after h [])) (whole s r id me at)
-              (base_has z r.made s.words (map upper_of s.views) f (get_or s.words link 0) place
-              is));
-          last = λ _. refl;
-        };
-        known = sized s r id me at (λ y. IsBaseNote y note × IsKnown y with_base) (
-          base_is z r.made s.words (map upper_of s.views) f (get_or s.words link 0) place is,
-          known_now s r id me at with_base refl refl refl,
-        );
-        listed = sized s r id me at (λ y. IsAlone y u → IsListed u.inventory note) base_listed;
-        alike = λ old i same. sym (k.notes old i).spells ∙ (ap (row_at s.words) same
-            ∙ (base_true z r.made s.words (map upper_of s.views) f (get_or s.words link 0) place is).spells);
-      }
-
-    -- or a route.
-    module _ (place : Place) (key : List ℕ) (is : f.role (get_or s.words link 0) ≡ Route place key)
-        (here : place.link ≡ link) where
-      abbrev way : Way
-      way = route_way z r.made s.words (map upper_of s.views) f (get_or s.words link 0) place key is
-
-      abbrev with_route : TreeView
-      with_route = led_to_route u k.seen_first.0 way
-
-      route_linked : IsLinked s.words (get_or s.words link 0)
-      route_linked =
-          placed_linked z s.words f.role (after f.history []) f.shape (get_or s.words link 0) place
-          (ap place_of is)
-
-      -- A link that was known is known.
-      more_links : (i : ℕ) → IsLinkOfView u i → IsLinkOfView with_route i
-      more_links i known = ⊎_elim (λ e. inl e) (λ t. inr (t.0, (suc t.1.0, t.1.1), t.2)) known
-
-      pub to_route : Next with_route
-      to_route =
-          let k' = relisted z.rows r.made s.words f.role (map upper_of s.views)
-          (set (map upper_of s.views) id with_route) f.history id u
-          (numbered (map upper_of s.views) id u with_route first (λ _. refl)) k in
-          looked z s r link id me.0 with_route at
-          (λ row m. ⊎_elim (λ o. inl o) (λ l. inr (l, is_pinned))
-          (new_way s.words u k.seen_first.0 way route_linked
-          (there z r.made s.words (map upper_of s.views) f (get_or s.words link 0) place key
-          is).is_route row m))
-          (seat_changed z r.made s.words (map upper_of s.views) id u with_route f first (λ _. refl)
-          (λ _. refl) record {
-            made_before = k'.made_before;
-            alone = k'.alone;
-            seen_first = subst (StartsWith f.history) (whole s r id me at) (starts_whole f.history);
-            since_first = subst
-                (λ (h : History). StartsWith h u.since) (whole s r id me at)
-                (since_whole s r id me at);
-            lawful = k'.lawful;
-            past = subst
-                (λ (h : History). ArePast (length h) u.log) (whole s r id me at)
-                (past_whole s r id me at);
-            notes = k.notes;
-            links = λ m i. more_links m.place.link (k.links m i);
-            ways = λ w i. ⊎_elim (λ (e : way ≡ w). subst (IsTrueWay s.words f.role) e
-                (way_true z r.made s.words (map upper_of s.views) f (get_or s.words link 0) place
-                key is))
-                (λ (o : IsIn w u.ways). k.ways w o) (in_more way w u.ways i);
-            joining = joining_further s.words u.notes way u.ways u.ranges.joins k.joining;
-            ended = k'.ended;
-          }
-          (f.ranged.each id u first))
-
-      pub route_told : IsLedToRoute link me (get_or s.words link 0) (with_upper me with_route)
-      route_told = record {
-        way = way;
-        more = k.seen_first.0;
-        now = refl;
-        row_is = refl;
-        place = place_known z r.made s.words (map upper_of s.views) f id u k link place here
-            (ap place_of is);
-        known = sized s r id me at (λ y. IsRouteNote y way × IsKnown y with_route) (
-          route_is z r.made s.words (map upper_of s.views) f (get_or s.words link 0) place key
-              is,
-          known_now s r id me at with_route refl refl refl,
-        );
-      }
-
-    abbrev there_place : Place
-    there_place = record { link = link; level = leads_there.level; span = any.1 }
-
-    pub link_loaded : (d' : View TreeView) × Next d'.upper × (d' ≡ record me.0 { upper = d'.upper })
-        × IsLed walks link me (get_or s.words link 0) (d', me.1)
-    link_loaded = ⊎_elim
-        (λ (b : f.role (get_or s.words link 0) ≡ Base there_place). (
-          record me.0 { upper = with_base there_place b refl },
-          to_base there_place b refl,
-          refl,
-          inl (base_told there_place b refl),
-        ))
-        (λ (t : (key : List ℕ) × (f.role (get_or s.words link 0) ≡ Route there_place key)). (
-          record me.0 { upper = with_route there_place t.0 t.1 refl },
-          to_route there_place t.0 t.1 refl,
-          refl,
-          inr (route_told there_place t.0 t.1 refl),
-        ))
-        (by_place (f.role (get_or s.words link 0)) there_place leads_there.hangs)
-
-  -- The load of a link.
-  pub leads : (walks : Bool) (slots id : ℕ) (me : MyTree) (link : ℕ) → me.0.pin.pinned ≡ true
-      → IsAnyLink me.0.upper link
-      → Allows (R z) slots id me link
-      (λ x. x) (Raises MayLoad (Leads walks) (step slots link 0 0 none) me)
-  leads walks slots id me link is_pinned any s r _ at _ =
-      let x = link_loaded s r id me at is_pinned walks link any in
-      let led = subst
-      (λ (d' : View TreeView).
-      IsLed walks link me (get_or s.words link 0) (d', me.1)) x.2 x.3 in (
-        record me.0 { upper = x.0.upper },
-        keeps,
-        tt,
-        x.1,
-        (refl, inl (walks, led), led),
-      )
-
   -- A route that a seat remembers is one of the table.
   remembered_range : (s : State (Unit {0}) (View TreeView)) (r : R z s) (id : ℕ) (me : MyTree) → get_elem? s.views id ≡ some me.0
       → (route : ℕ) → IsRemembered me.0.upper.ways route → route ≤ z.rows
   remembered_range s r id me here route known = subst (λ (c : ℕ). c ≤ z.rows) known.2
-      (route_at z s.words r.above.role (after r.above.history []) r.above.shape known.0.row known.0.place (route_key known.0.its)
-      (alive r.above.role known.0 ((knows_upper z s r id me.0 here).ways known.0 known.1).stands)).in_range
+      ((knows_upper z s r id me.0 here).ways known.0 known.1).in_range
 
   -- The load of a word of a row that was shown.
   pub reads : (slots id : ℕ) (me : MyTree) (i : ℕ) → me.0.sizes ≡ z
@@ -753,7 +614,7 @@ module _ (z : Sizes) where
       let u' : TreeView = entered d.upper event p in
       let low = starts_shorter f.history d.upper.seen k.seen_first in
       let inside = now.since.1 in
-      let k' = relisted z.rows r.made s.words f.role us (set us id u') f.history id d.upper
+      let k' = relisted z r.made s.words f.role us (set us id u') f.history id d.upper
       (numbered us id d.upper u' first (λ _. refl)) k in
       let there : state f.history p ≡ state d.upper.seen p = ap (λ h. state h p) k.seen_first.1
       ∙ state_stays d.upper.seen k.seen_first.0 p now.since.1 in
@@ -780,6 +641,7 @@ module _ (z : Sizes) where
               notes = k'.notes;
               links = k'.links;
               ways = k'.ways;
+              one_place = k'.one_place;
               joining = k'.joining;
               ended = k'.ended;
             }
@@ -801,7 +663,7 @@ module _ (z : Sizes) where
       let us : List TreeView = map upper_of s.views in
       let first = at_map upper_of s.views id d at in
       let u' : TreeView = record d.upper { counts = counts; turns = turns } in
-      let k = relisted z.rows r.made s.words f.role us (set us id u') f.history id d.upper
+      let k = relisted z r.made s.words f.role us (set us id u') f.history id d.upper
       (numbered us id d.upper u' first (λ _. refl))
       (knows_upper z s r id d at) in
       looked z s r i id d u' at (λ row n. inl (noted_alike s.words d.upper u'
@@ -816,6 +678,7 @@ module _ (z : Sizes) where
         notes = k.notes;
         links = k.links;
         ways = k.ways;
+        one_place = k.one_place;
         joining = k.joining;
         ended = k.ended;
       }
@@ -831,7 +694,7 @@ module _ (z : Sizes) where
       }
   loses s r i id d at = let f = r.above in let us : List TreeView = map upper_of s.views in
       let first = at_map upper_of s.views id d at in let u' : TreeView = one_more_lost d.upper in
-      let k = relisted z.rows r.made s.words f.role us (set us id u') f.history id d.upper
+      let k = relisted z r.made s.words f.role us (set us id u') f.history id d.upper
       (numbered us id d.upper u' first (λ _. refl))
       (knows_upper z s r id d at) in
       looked z s r i id d u' at (λ row n. inl (noted_alike s.words d.upper u'
@@ -846,6 +709,7 @@ module _ (z : Sizes) where
         notes = λ m i. absurd (some-ne-none m (sym i.1));
         links = λ m i. absurd (some-ne-none m (sym i.1));
         ways = k.ways;
+        one_place = k.one_place;
         joining = joining_unnoted s.words d.upper.notes d.upper.ways d.upper.ranges.joins k.joining;
         ended = k.ended;
       }

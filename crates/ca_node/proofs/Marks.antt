@@ -30,7 +30,7 @@ use Rattle.ca_node.specs.RangesStay.{active_on, over_on, border_on, active_undec
 use Rattle.ca_node.specs.Reached.{base_at, end_lent}
 use Rattle.ca_node.specs.Row.{row_at, form, mark as mark_kind, mark_owner, mark_number, mark_bound, mark_back, IsBorderRow, IsMarkedBy}
 use Rattle.ca_node.specs.Scenes.{IsBase, span_of, scene_of}
-use Rattle.ca_node.specs.Shape.{Role, Base}
+use Rattle.ca_node.specs.Shape.{Role, Base, place_of}
 use Rattle.ca_node.specs.Told.{MyTree, IsLastThere, one_more_lost, IsMissed, taken_out, given, lent_out}
 use Rattle.ca_node.specs.Tree.{IsTrue}
 use Rattle.ca_node.specs.TreeView.{Note, Border, Begun, KnownRanges, TreeView}
@@ -39,7 +39,8 @@ use Rattle.ca_node.proofs.Exchanging.{own_ranging, is_old, new_row, ins_once}
 use Rattle.ca_node.proofs.Holding.{held_row}
 use Rattle.ca_node.proofs.Looking.{R, loses, hangs_still, in_more}
 use Rattle.ca_node.proofs.Neighbours.{begins_there}
-use Rattle.ca_node.proofs.Rebased.{with_base, with_base_new, relinked_ranges, relinked_border}
+use Rattle.ca_node.proofs.Rebased.{with_base, with_base_new}
+use Rattle.ca_node.proofs.Relinked.{relinked_ranges, relinked_border}
 
 -- A range that is active was begun.
 active_begun : (words : List ℕ) (pass number : ℕ) → IsActive words pass number → HasBegun words pass number
@@ -76,7 +77,7 @@ module _ (z : Sizes) (s : State (Unit {0}) (View TreeView)) (r : R z s) (id : �
 
   same_ranges : (pass : ℕ) → 0 < pass → pass ≤ 64 → result_of words' pass ≡ result_of s.words pass
   same_ranges = relinked_ranges z s.words role (after r.above.history []) r.above.shape x.old.row
-      x.old.place old_is new
+      x.old.place (ap place_of old_is) new
 
   -- Where a range has the copy, it is the one that it is marked for.
   bound_is : (border : ℕ) → IsBoundOf s.words new border → IsActive s.words x.pass x.number
@@ -202,7 +203,7 @@ module _ (z : Sizes) (s : State (Unit {0}) (View TreeView)) (r : R z s) (id : �
       where
         stays : (row : ℕ) → 0 < row → row ≤ z.rows → form (row_at s.words row) ≡ 4 → row_at words' row ≡ row_at s.words row
         stays row lo hi f = relinked_border z s.words role (after r.above.history []) r.above.shape x.old.row
-            x.old.place old_is new row lo hi f
+            x.old.place (ap place_of old_is) new row lo hi f
 
     -- No other pass has this number.
     unmarked : (j : ℕ) (y : View TreeView) → j ≢ id → get_elem? s.views j ≡ some y

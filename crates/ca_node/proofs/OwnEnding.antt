@@ -107,7 +107,7 @@ module _ (z : Sizes) (s : State (Unit {0}) (View TreeView)) (r : R z s) (id : â„
         (f.ranged.runs.each pass begun.number (is_pass, few, end.hit))
         (f.ranged.runs.whole pass begun.number end.base (is_pass, few, end.hit) end.base_is end.marked)).ends)
 
-    own_knows : Knows z.rows r.made words' r.above.role (set (map upper_of s.views) id u') r.above.history id u'
+    own_knows : Knows z r.made words' r.above.role (set (map upper_of s.views) id u') r.above.history id u'
     own_knows = let w = knows_then z s r pass word' is_pass few id me.0 at
         (true_then z s r pass begun.number word' end) id me.0 at u' (Î» _. refl) in record {
           made_before = w.made_before;
@@ -119,6 +119,7 @@ module _ (z : Sizes) (s : State (Unit {0}) (View TreeView)) (r : R z s) (id : â„
           notes = w.notes;
           links = w.links;
           ways = w.ways;
+          one_place = w.one_place;
           joining = w.joining;
           ended = w.ended;
         }

@@ -85,7 +85,7 @@ module _ (z : Sizes) (s : State (Unit {0}) (View TreeView)) (r : R z s) (id : â„
     now_active : IsActive words' me.0.upper.number begun.number
     now_active = (k.is_pass, sequence.0, result_here z s r pass word' k.is_pass sequence.0)
 
-    own_knows : Knows z.rows r.made words' r.above.role (set (map upper_of s.views) id u') r.above.history id u'
+    own_knows : Knows z r.made words' r.above.role (set (map upper_of s.views) id u') r.above.history id u'
     own_knows = let w = knows_then z s r pass word' k.is_pass sequence.0 id me.0 at
         (true_then z s r pass word' k.is_pass sequence.0 rises none_marked fresh) id me.0 at u' (Î» _. refl) in record {
           made_before = w.made_before;
@@ -97,6 +97,7 @@ module _ (z : Sizes) (s : State (Unit {0}) (View TreeView)) (r : R z s) (id : â„
           notes = w.notes;
           links = w.links;
           ways = w.ways;
+          one_place = w.one_place;
           joining = w.joining;
           ended = w.ended;
         }
@@ -176,7 +177,7 @@ module _ (z : Sizes) (s : State (Unit {0}) (View TreeView)) (r : R z s) (id : â„
     had_begun : HasBegun s.words me.0.upper.number begun.number
     had_begun = (k.is_pass, most, (let here = hit in omega arith))
 
-    left_knows : Knows z.rows r.made left r.above.role (set (map upper_of s.views) id given) r.above.history id given
+    left_knows : Knows z r.made left r.above.role (set (map upper_of s.views) id given) r.above.history id given
     left_knows = let w = knows_then z s r pass idle k.is_pass most id me.0 at
         (true_then z s r pass idle k.is_pass most falls_not unmarked none_new) id me.0 at given (Î» _. refl) in record {
           made_before = w.made_before;
@@ -188,6 +189,7 @@ module _ (z : Sizes) (s : State (Unit {0}) (View TreeView)) (r : R z s) (id : â„
           notes = w.notes;
           links = w.links;
           ways = w.ways;
+          one_place = w.one_place;
           joining = w.joining;
           ended = w.ended;
         }

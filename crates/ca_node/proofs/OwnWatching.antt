@@ -103,7 +103,7 @@ module _ (z : Sizes) (s : State (Unit {0}) (View TreeView)) (r : R z s) (id : 鈩
 
     run_learnt : After u'
     run_learnt = let us : List TreeView = map upper_of s.views in
-        let k = relisted z.rows r.made s.words role us (set us id u') f.history id u (numbered us id u u' first (位 _. refl)) (knows_upper z s r id me.0 at) in
+        let k = relisted z r.made s.words role us (set us id u') f.history id u (numbered us id u u' first (位 _. refl)) (knows_upper z s r id me.0 at) in
         looked z s r word_at id me.0 u' at (位 row m. inl (noted_still row m))
         (seat_changed z r.made s.words us id u u' f first (位 _. refl) (位 _. refl) record {
           made_before = k.made_before;
@@ -115,6 +115,7 @@ module _ (z : Sizes) (s : State (Unit {0}) (View TreeView)) (r : R z s) (id : 鈩
           notes = k.notes;
           links = k.links;
           ways = k.ways;
+          one_place = k.one_place;
           joining = k.joining;
           ended = k.ended;
         } record {

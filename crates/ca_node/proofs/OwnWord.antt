@@ -1,5 +1,5 @@
 -- The word is written that says how far the last range of a pass is: what else of the words stays, and what seats know by them.
-use Rattle.std.proofs.Common.{◌≡◌, ◌≢◌, ◌⊎◌, ℕ, ◌+◌, ◌*◌, ◌/◌, ◌<◌, ◌≤◌, List, [], map, get_or, set, sym, ap, ◌∙◌, subst, inl, inr, ⊎_elim, arith, length-set, get_or-set_other, get_or-set_same}
+use Rattle.std.proofs.Common.{◌≡◌, ◌≢◌, ◌⊎◌, ℕ, ◌+◌, ◌*◌, ◌/◌, ◌<◌, ◌≤◌, List, [], map, get_or, set, sym, refl, ap, ◌∙◌, subst, inl, inr, ⊎_elim, arith, length-set, get_or-set_other, get_or-set_same}
 use mathlib.Core.Logic.{dite}
 use mathlib.Core.Option.{some}
 use native.Mathlib.Decide.{ℕ_discrete}
@@ -19,18 +19,20 @@ use Rattle.ca_runs.specs.Runs.{Ends, AreRuns}
 use Rattle.ca_node.specs.Inventory.{IsInventory}
 use Rattle.ca_node.specs.Attempts.{join_of}
 use Rattle.ca_node.specs.JoinsStay.{joining_same, joined_same, unsecured_still}
-use Rattle.ca_node.specs.Laws.{alive, numbered, relisted, placed_range, under_placed}
+use Rattle.ca_node.specs.DeadStays.{dead_stays}
+use Rattle.ca_node.specs.Hindsight.{IsDead}
+use Rattle.ca_node.specs.Laws.{numbered, relisted, placed_range, under_way}
 use Rattle.ca_node.specs.Layout.{root_word, sequence_unit}
 use Rattle.ca_node.specs.Links.{IsIn, IsUnder, IsActive, HasBegun, IsLinked, by_base, IsOfOwnRun, IsNoted, by_note, by_item, by_way, by_link, by_link_item, by_border, by_run, by_run_item, by_shown, by_shown_item}
 use Rattle.ca_node.specs.Place.{Place, IsLinkOf}
 use Rattle.ca_node.specs.Ranging.{IsOver, IsTrueBorder, WasDecided, IsSoFar, IsRanging}
 use Rattle.ca_node.specs.RangesStay.{own_note, own_run_back}
 use Rattle.ca_node.specs.Reached.{base_at, route_at, link_range, placed_linked}
-use Rattle.ca_node.specs.Row.{row_at, IsBaseRow, items, IsMarkedBy, route_key}
+use Rattle.ca_node.specs.Row.{row_at, IsBaseRow, items, IsMarkedBy}
 use Rattle.ca_node.specs.Scenes.{IsBase, scene_of}
 use Rattle.ca_node.specs.Shape.{Role, Base, Route, place_of, IsLink, IsShape}
 use Rattle.ca_node.specs.Stays.{row_same}
-use Rattle.ca_node.specs.Tree.{IsTrue, Knows, IsTree}
+use Rattle.ca_node.specs.Tree.{IsAlive, IsTrue, Knows, IsTree}
 use Rattle.ca_node.specs.TreeView.{Note, Way, Over, Border, Ranging, Quiet, Unmarked, Marking, Left, Inventory, TreeView}
 use Rattle.ca_node.proofs.Listing.{known_by_one}
 use Rattle.ca_node.proofs.Looking.{R, of_map, knows_upper}
@@ -149,11 +151,11 @@ module _ (z : Sizes) (s : State (Unit {0}) (View TreeView)) (r : R z s) (pass wo
     known : IsRanging z s.words r.above.role (r.above.ranged.ends y.upper.number) y.upper.since r.above.history y.upper.number y.upper.ranges
     known = f.ranged.each j y.upper (at_map upper_of s.views j y here)
 
-    knows : Knows z.rows r.made s.words r.above.role (map upper_of s.views) r.above.history j y.upper
+    knows : Knows z r.made s.words r.above.role (map upper_of s.views) r.above.history j y.upper
     knows = knows_upper z s r j y here
 
     way_range : (way : Way) → IsIn way y.upper.ways → (0 < way.row) × (way.row ≤ z.rows)
-    way_range way i = placed_range z s.words role last f.shape way.row way.place (ap place_of (alive role way (knows.ways way i).stands))
+    way_range way i = let t = knows.ways way i in (t.some_row, t.in_range)
 
     under_back : (way : Way) → IsIn way y.upper.ways → (row : ℕ) → IsUnder words' way.row row → IsUnder s.words way.row row
     under_back way i row under = let w = way_range way i in let a = w.1 in
@@ -162,8 +164,7 @@ module _ (z : Sizes) (s : State (Unit {0}) (View TreeView)) (r : R z s) (pass wo
         ⊎_elim (λ e. inl (sym (same 1 (omega arith)) ∙ e)) (λ e. inr (sym (same 2 (omega arith)) ∙ e)) under
 
     under_range : (way : Way) → IsIn way y.upper.ways → (row : ℕ) → IsUnder s.words way.row row → row ≤ z.rows
-    under_range way i row under = let p = under_placed z s.words role last f.shape way.row row way.place (route_key way.its)
-        (alive role way (knows.ways way i).stands) under in (placed_range z s.words role last f.shape row p.0 p.1).1
+    under_range way i row under = (under_way z s.words role last f.shape y.upper.since r.above.history way (knows.ways way i) row under).1
 
     own_range : (row : ℕ) → IsOfOwnRun s.words y.upper row → row ≤ z.rows
     own_range row o = let n = own_note z s.words role (r.above.ranged.ends y.upper.number) f.history y.upper known row o in
@@ -209,8 +210,8 @@ module _ (z : Sizes) (s : State (Unit {0}) (View TreeView)) (r : R z s) (pass wo
   pub knows_then : (id : ℕ) (d : View TreeView) → get_elem? s.views id ≡ some d
       → ((note : Note) → IsTrue z.rows s.words r.above.role note → IsTrue z.rows words' r.above.role note)
       → (j : ℕ) (y : View TreeView) → get_elem? s.views j ≡ some y → (u' : TreeView) → (0 < u'.number → u'.number ≡ d.upper.number)
-      → Knows z.rows r.made words' r.above.role (set (map upper_of s.views) id u') r.above.history j y.upper
-  knows_then id d at true_then j y here u' same = let k = relisted z.rows r.made s.words role (map upper_of s.views)
+      → Knows z r.made words' r.above.role (set (map upper_of s.views) id u') r.above.history j y.upper
+  knows_then id d at true_then j y here u' same = let k = relisted z r.made s.words role (map upper_of s.views)
       (set (map upper_of s.views) id u') f.history j y.upper
       (numbered (map upper_of s.views) id d.upper u' (at_map upper_of s.views id d at) same) (knows_upper z s r j y here) in record {
         made_before = k.made_before;
@@ -221,13 +222,26 @@ module _ (z : Sizes) (s : State (Unit {0}) (View TreeView)) (r : R z s) (pass wo
         past = k.past;
         notes = λ note i. true_then note (k.notes note i);
         links = k.links;
-        ways = λ way i. let t = k.ways way i in record {
-          stands = t.stands;
-          spells = λ index fixed. let w = placed_range z s.words role last f.shape way.row way.place (ap place_of (alive role way t.stands)) in
-              let a = w.1 in let b = fixed.0 in
-              else_word (row_words * way.row + index) (omega arith)
-              ∙ t.spells index fixed;
+        ways = λ way i. let t = k.ways way i in let hi' = t.in_range in record {
+          some_row = t.some_row;
+          in_range = t.in_range;
+          stands = ⊎_elim (λ (e : IsAlive role way). inl e)
+              (λ (d : (place : ℕ) × IsDead z s.words role y.upper.since f.history way place).
+              inr (
+                d.0,
+                dead_stays z s.words words' role role y.upper.since f.history f.history way d.0 d.1.is_out
+                    (λ n l. else_word (row_words * way.row + n) (omega arith))
+                    (λ c under m attempt p left. record {
+                      is_out = left.is_out;
+                      same = row_stays c left.in_range;
+                      objects = λ o n. row_stays o (left.are_objects o n).1;
+                    })
+                    (λ l. (l, refl)) d.1,
+              )) t.stands;
+          spells = λ index fixed. let b = fixed.0 in else_word (row_words * way.row + index) (omega arith) ∙ t.spells index fixed;
+          unsecured = λ attempt now. t.unsecured attempt (sym (else_word (row_words * way.row + 3) (omega arith)) ∙ now);
         };
+        one_place = k.one_place;
         joining = joining_same s.words words' y.upper k.links
             (λ way i index l. let w = way_range j y here way i in let a = w.1 in else_word (row_words * way.row + index) (omega arith)) k.joining;
         ended = k.ended;
@@ -256,10 +270,10 @@ module _ (z : Sizes) (s : State (Unit {0}) (View TreeView)) (r : R z s) (pass wo
   pub tree_with : (id : ℕ) (d : View TreeView) → get_elem? s.views id ≡ some d → 0 < d.upper.number → (u' : TreeView)
       → IsShape z words' r.above.role (after r.above.history []) → (ends' : ℕ → Ends) → AreRuns (scene_of words' r.above.role) ends'
       → ((p n : ℕ) → IsActive words' p n → p ≤ r.made)
-      → Knows z.rows r.made words' r.above.role (set (map upper_of s.views) id u') r.above.history id u'
+      → Knows z r.made words' r.above.role (set (map upper_of s.views) id u') r.above.history id u'
       → IsRanging z words' r.above.role (ends' u'.number) u'.since r.above.history u'.number u'.ranges
       → ((j : ℕ) (y : View TreeView) → j ≢ id → get_elem? s.views j ≡ some y
-      → Knows z.rows r.made words' r.above.role (set (map upper_of s.views) id u') r.above.history j y.upper
+      → Knows z r.made words' r.above.role (set (map upper_of s.views) id u') r.above.history j y.upper
       × IsRanging z words' r.above.role (ends' y.upper.number) y.upper.since r.above.history y.upper.number y.upper.ranges)
       → (change : Inventory → Inventory) → IsInventory words' r.above.role (change r.above.inventory) → u'.inventory ≡ change d.upper.inventory
       → IsTree z r.made words' (set (map upper_of s.views) id u')
@@ -283,13 +297,13 @@ module _ (z : Sizes) (s : State (Unit {0}) (View TreeView)) (r : R z s) (pass wo
     };
     joined = joined_same z s.words words' role join_then child_then f.joined;
     unsecured = unsecured_still z s.words words' role role (λ route p key is. inr (p, key, is, join_then route p key is)) f.unsecured;
-    each_seat = all_seats (Knows z.rows r.made words' role (set (map upper_of s.views) id u') f.history)
+    each_seat = all_seats (Knows z r.made words' role (set (map upper_of s.views) id u') f.history)
         (map upper_of s.views) id u' own_knows (λ j v ne here. let y = of_map upper_of s.views j v here in
-        subst (Knows z.rows r.made words' role (set (map upper_of s.views) id u') f.history j) y.2 (others j y.0 ne y.1).0);
+        subst (Knows z r.made words' role (set (map upper_of s.views) id u') f.history j) y.2 (others j y.0 ne y.1).0);
     inventory = change f.inventory;
     listed = listed;
     at_first = λ (e : r.made ≡ 0). let hi' = (knows_upper z s r id d at).made_before in absurd (omega arith);
-    only_one = known_by_one z.rows r.made s.words role (map upper_of s.views) f.history f.each_seat id d.upper u'
+    only_one = known_by_one z r.made s.words role (map upper_of s.views) f.history f.each_seat id d.upper u'
         (change f.inventory) (at_map upper_of s.views id d at) is_pass
         (λ few. same_inventory ∙ ap change (f.only_one id d.upper (at_map upper_of s.views id d at) few is_pass));
   }

@@ -162,7 +162,7 @@ module _ (z : Sizes) (s : State (Unit {0}) (View TreeView)) (r : R z s) (pass wo
       (ends' : ℕ → Ends) (ends_else : (p : ℕ) → p ≢ pass → ends' p ≡ r.above.ranged.ends p)
       (runs' : AreRuns (scene_of (set s.words (own_word s.words pass + 1) word') r.above.role) ends')
       (own_notes : (row : ℕ) → IsNoted (set s.words (own_word s.words pass + 1) word') u' row → IsNoted s.words d.upper row)
-      (own_knows : Knows z.rows r.made (set s.words (own_word s.words pass + 1) word') r.above.role (set (map upper_of s.views) id u') r.above.history id u')
+      (own_knows : Knows z r.made (set s.words (own_word s.words pass + 1) word') r.above.role (set (map upper_of s.views) id u') r.above.history id u')
       (own_ranging : IsRanging z (set s.words (own_word s.words pass + 1) word') r.above.role (ends' u'.number) u'.since r.above.history u'.number
       u'.ranges) where
     other : (j : ℕ) (y : View TreeView) → j ≢ id → get_elem? s.views j ≡ some y → y.upper.number ≢ pass

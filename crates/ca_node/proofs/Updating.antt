@@ -34,8 +34,8 @@ use Rattle.ca_node.specs.Shape.{Role, Base}
 use Rattle.ca_rows.specs.Told.{met_of, relinked}
 use Rattle.ca_node.specs.May.{MaySwap}
 use Rattle.ca_node.specs.Told.{MyTree, IsKnown, Update, IsUpdate, given, taken_out, updated, one_more_lost, IsUpdated, IsMissed, Updates, HasUpdated}
-use Rattle.ca_node.specs.Tree.{StartsWith, IsLinkOfView, IsTrue, Knows, IsTree}
-use Rattle.ca_node.specs.TreeView.{Note, TreeView}
+use Rattle.ca_node.specs.Tree.{StartsWith, IsLinkOfView, IsTrue, IsTrueWay, Knows, IsTree}
+use Rattle.ca_node.specs.TreeView.{Note, Way, TreeView}
 use Rattle.ca_node.proofs.Joined.{unjoined_over}
 use Rattle.ca_node.proofs.Exchanging.{IsExchange, settled_over, is_old, new_row, old_map, is_last, ins_once, new_its, out_linked, out_unlent, replaced, ranging_keeps, own_notes, old_apart, note_keeps, way_keeps, new_true, exchange_step, joining_keep, joining_more}
 use Rattle.ca_node.proofs.Holding.{unclaimed_row}
@@ -112,7 +112,7 @@ module _ (z : Sizes) (s : State (Unit {0}) (View TreeView)) (r : R z s) (id : �
   abbrev words' : List ℕ
   words' = set s.words x.old.place.link new
 
-  abbrev knows : Knows z.rows r.made s.words r.above.role (map upper_of s.views) r.above.history id
+  abbrev knows : Knows z r.made s.words r.above.role (map upper_of s.views) r.above.history id
       d.upper
   knows = knows_upper z s r id d at
 
@@ -209,9 +209,9 @@ module _ (z : Sizes) (s : State (Unit {0}) (View TreeView)) (r : R z s) (id : �
       (about_edit x.event x.edit u.does)
       (subst (IsAnswer x.event) (old_map z s r id me at new x ex hit over free) u.answer)
 
-  own_knows : Knows z.rows r.made words' role' (set (map upper_of s.views) id u')
+  own_knows : Knows z r.made words' role' (set (map upper_of s.views) id u')
       (r.above.history ++ own ∷ []) id u'
-  own_knows = let k' = relisted z.rows r.made s.words role (map upper_of s.views)
+  own_knows = let k' = relisted z r.made s.words role (map upper_of s.views)
       (set (map upper_of s.views) id u') f.history id d.upper
       (numbered (map upper_of s.views) id d.upper u' first (λ _. refl)) knows in record {
         made_before = k'.made_before;
@@ -254,7 +254,8 @@ module _ (z : Sizes) (s : State (Unit {0}) (View TreeView)) (r : R z s) (id : �
             (λ (o : IsIn note d.upper.notes). knows.links note o)
             (in_more new_note note d.upper.notes i);
         ways = way_keeps z s r id me at new x ex hit over free (r.above.history ++ own ∷ []) mark bounded has_now
-            others_have [] serve once new_end id d at;
+            others_have [] serve once new_end id d at longer;
+        one_place = k'.one_place;
         joining = joining_more z s r id me at new x ex hit over free (r.above.history ++ own ∷ []) mark bounded has_now
             others_have [] serve once new_end;
         ended = λ y i.
@@ -263,10 +264,10 @@ module _ (z : Sizes) (s : State (Unit {0}) (View TreeView)) (r : R z s) (id : �
       }
 
   others_know : (j : ℕ) (v : TreeView) → j ≢ id → get_elem? (map upper_of s.views) j ≡ some v
-      → Knows z.rows r.made words' role' (set (map upper_of s.views) id u')
+      → Knows z r.made words' role' (set (map upper_of s.views) id u')
       (r.above.history ++ own ∷ []) j v
   others_know j v ne here = let y = of_map upper_of s.views j v here in
-      let k = relisted z.rows r.made s.words role (map upper_of s.views)
+      let k = relisted z r.made s.words role (map upper_of s.views)
       (set (map upper_of s.views) id u') f.history j v
       (numbered (map upper_of s.views) id d.upper u' first
       (λ _. refl)) (f.each_seat j v here) in record {
@@ -281,9 +282,10 @@ module _ (z : Sizes) (s : State (Unit {0}) (View TreeView)) (r : R z s) (id : �
             note_keeps z s r id me at new x ex hit over free (r.above.history ++ own ∷ []) mark bounded has_now
             others_have [] serve once new_end j y.0 y.1 note (subst (λ (w : TreeView). IsIn note w.notes) (sym y.2) i);
         links = k.links;
-        ways = λ way i.
-            way_keeps z s r id me at new x ex hit over free (r.above.history ++ own ∷ []) mark bounded has_now
-            others_have [] serve once new_end j y.0 y.1 way (subst (λ (w : TreeView). IsIn way w.ways) (sym y.2) i);
+        ways = subst (λ (w : TreeView). (way : Way) → IsIn way w.ways → IsTrueWay z words' role' w.since (r.above.history ++ own ∷ []) way) y.2
+            (way_keeps z s r id me at new x ex hit over free (r.above.history ++ own ∷ []) mark bounded has_now
+            others_have [] serve once new_end j y.0 y.1 longer);
+        one_place = k.one_place;
         joining = subst (λ (w : TreeView). IsJoining words' w.notes w.ways w.ranges.joins) y.2
             (joining_keep z s r id me at new x ex hit over free (r.above.history ++ own ∷ []) mark bounded has_now
             others_have [] serve once new_end j y.0 y.1);

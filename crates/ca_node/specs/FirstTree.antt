@@ -124,9 +124,9 @@ module _ (z : Sizes) (words : List ℕ) (bounds : AreInBounds z) (usable : AreUs
           (some-injective (blank 0) u e) (no_ranging z words role_of (record { edge = Unbounded; top = 0 }) [])
       by (suc j) u e = absurd (some-ne-none u (sym e))
 
-  only : (j : ℕ) (u : TreeView) → get_elem? (blank 0 ∷ []) j ≡ some u → Knows z.rows 0 words role_of (blank 0 ∷ []) [] j u
-  only zero u e = subst (Knows z.rows 0 words role_of (blank 0 ∷ []) [] 0) (some-injective (blank 0) u e)
-      (knows_nothing z.rows 0 words role_of (blank 0 ∷ []) [] 0 0 (omega arith) (λ lo. absurd (omega arith)) refl)
+  only : (j : ℕ) (u : TreeView) → get_elem? (blank 0 ∷ []) j ≡ some u → Knows z 0 words role_of (blank 0 ∷ []) [] j u
+  only zero u e = subst (Knows z 0 words role_of (blank 0 ∷ []) [] 0) (some-injective (blank 0) u e)
+      (knows_nothing z 0 words role_of (blank 0 ∷ []) [] 0 0 (omega arith) (λ lo. absurd (omega arith)) refl)
   only (suc j) u e = absurd (some-ne-none u (sym e))
 
   -- Row 1 alone is linked.

@@ -17,7 +17,7 @@ use Rattle.ca_rows.specs.Layout.{row_words}
 use Rattle.ca_node.specs.Layout.{root_word}
 
 -- A link is one of one route.
-link_of_one : (a b link : ℕ) → IsLinkOf a link → IsLinkOf b link → a ≡ b
+pub link_of_one : (a b link : ℕ) → IsLinkOf a link → IsLinkOf b link → a ≡ b
 link_of_one a b link of other = ⊎_elim
     (λ (e : link ≡ row_words * a + 1). ⊎_elim (λ (f : link ≡ row_words * b + 1). omega arith) (λ (f : link ≡ row_words * b + 2). omega arith) other)
     (λ (e : link ≡ row_words * a + 2). ⊎_elim (λ (f : link ≡ row_words * b + 1). omega arith) (λ (f : link ≡ row_words * b + 2). omega arith) other)

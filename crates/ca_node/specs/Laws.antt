@@ -12,6 +12,8 @@ use Rattle.ca_runs.specs.Runs.{Ends}
 use Rattle.ca_runs.proofs.Keeping.{runs_still}
 use Rattle.ca_rows.proofs.Making.{at_place}
 use Rattle.ca_rows.proofs.Rules.{all_seats}
+use Rattle.ca_node.specs.Attempts.{IsSecured}
+use Rattle.ca_node.specs.DeadStays.{dead_stays, under_dead}
 use Rattle.ca_node.specs.Inventory.{IsInventory}
 use Rattle.ca_node.specs.Joining.{IsJoining}
 use Rattle.ca_node.specs.JoinsStay.{joining_same, nothing_joining, joined_same, unsecured_still}
@@ -30,9 +32,10 @@ use Rattle.ca_node.specs.TreeView.{Note, Way, Border, Begun, Ranging, Quiet, Unm
 use Rattle.ca_rows.specs.Layout.{row_words, passes_words}
 use Rattle.ca_node.specs.Layout.{root_word}
 
--- A route that a seat remembers is alive, since none is dead as yet.
-pub alive : (role : ℕ → Role) (way : Way) → IsAlive role way ⊎ ((at : ℕ) × IsDead way at) → IsAlive role way
-alive role way stands = ⊎_elim (λ (e : IsAlive role way). e) (λ d. absurd d.1) stands
+-- A route that a seat remembers is alive, if no attempt of it is secured.
+pub alive : (z : Sizes) (words : List ℕ) (role : ℕ → Role) (since history : History) (way : Way) → IsTrueWay z words role since history way
+    → ((attempt : ℕ) → ¬ IsSecured words way.row attempt) → IsAlive role way
+alive z words role since history way t free = ⊎_elim (λ (e : IsAlive role way). e) (λ d. absurd (free d.1.attempt d.1.secured)) t.stands
 
 pub in_nothing : {A : Type 0} (x : A) (xs : List A) → xs ≡ [] → IsIn x xs → ⊥
 in_nothing x xs e i = some-ne-none x (sym (ap (λ ys. get_elem? ys i.0) (sym e) ∙ i.1))
@@ -61,6 +64,16 @@ pub under_placed : (z : Sizes) (words : List ℕ) (role : ℕ → Role) (map : S
 under_placed z words role map shape route row place key is under = let so = subst (IsSo z words role map route) is (shape.each_row route) in ⊎_elim
     (λ (e : get_or words (row_words * route + 1) 0 ≡ row). (_, ap (λ r. place_of (role r)) (sym e) ∙ so.left.hangs))
     (λ (e : get_or words (row_words * route + 2) 0 ≡ row). (_, ap (λ r. place_of (role r)) (sym e) ∙ so.right.hangs)) under
+
+-- What the link of a route names that a seat remembers is in range.
+pub under_way : (z : Sizes) (words : List ℕ) (role : ℕ → Role) (map : StoreMap) → IsShape z words role map → (since history : History) (way : Way)
+    → IsTrueWay z words role since history way → (row : ℕ) → IsUnder words way.row row → (0 < row) × (row ≤ z.rows)
+under_way z words role map shape since history way t row under = ⊎_elim
+    (λ (e : IsAlive role way). let p = under_placed z words role map shape way.row row way.place (route_key way.its) e under in
+    placed_range z words role map shape row p.0 p.1)
+    (λ (d : (at : ℕ) × IsDead z words role since history way at). let b = (under_dead z words role since history way d.0 d.1 row under).1 in
+    (b.some_row, b.in_range))
+    t.stands
 
 -- A seat that remembers no more, but rows of which this holds that say up to where ranges go or are of a run that it was shown, and whose own range is as
 -- far, has no note more, but on rows of which this holds.
@@ -142,7 +155,7 @@ module _ (z : Sizes) (made : ℕ) (uppers : List TreeView) (words others : List 
 
   -- What one seat has a note on.
   module _ (j : ℕ) (u : TreeView) (at : get_elem? uppers j ≡ some u) where
-    knows : Knows z.rows made words f.role uppers f.history j u
+    knows : Knows z made words f.role uppers f.history j u
     knows = f.each_seat j u at
 
     noted_same : (row : ℕ) → 0 < row → row ≤ z.rows → IsNoted words u row → IsSameRow words others row
@@ -191,27 +204,40 @@ module _ (z : Sizes) (made : ℕ) (uppers : List TreeView) (words others : List 
     run_back = own_run_back words others u (decided_back z words others f.role f.role a.results u.number) run_its
 
     way_range : (way : Way) → IsIn way u.ways → (0 < way.row) × (way.row ≤ z.rows)
-    way_range way i = let t = knows.ways way i in
-        placed_range z words f.role (after f.history []) f.shape way.row way.place (ap place_of (alive f.role way t.stands))
+    way_range way i = let t = knows.ways way i in (t.some_row, t.in_range)
 
-    way_now : (way : Way) → IsIn way u.ways → IsTrueWay others f.role way
+    way_same : (way : Way) → IsIn way u.ways → IsSameRow words others way.row
+    way_same way i = noted_same way.row (way_range way i).0 (way_range way i).1 (by_way way way.row i refl)
+
+    way_now : (way : Way) → IsIn way u.ways → IsTrueWay z others f.role u.since f.history way
     way_now way i = let t = knows.ways way i in record {
-      stands = t.stands;
-      spells = λ index fixed. noted_same way.row (way_range way i).0 (way_range way i).1 (by_way way way.row i refl) index fixed.0 ∙ t.spells index fixed;
+      some_row = t.some_row;
+      in_range = t.in_range;
+      stands = ⊎_elim (λ e. inl e)
+          (λ d. inr (
+            d.0,
+            dead_stays z words others f.role f.role u.since f.history f.history way d.0 d.1.is_out (way_same way i)
+                (λ c under m attempt place left. record {
+                  is_out = left.is_out;
+                  same = noted_its c left.some_row left.in_range (by_link way c i under);
+                  objects = λ r k. let o = left.are_objects r k in noted_its r o.0 o.1 (by_link_item way c r i under left.is_base k);
+                })
+                (λ l. (l, refl)) d.1,
+          )) t.stands;
+      spells = λ index fixed. way_same way i index fixed.0 ∙ t.spells index fixed;
+      unsecured = λ attempt now. t.unsecured attempt (sym (way_same way i 3 (omega arith)) ∙ now);
     }
 
     joining_now : IsJoining others u.notes u.ways u.ranges.joins
     joining_now = joining_same words others u knows.links
-        (λ way i. noted_same way.row (way_range way i).0 (way_range way i).1 (by_way way way.row i refl)) knows.joining
+        way_same knows.joining
 
     under_back : (way : Way) → IsIn way u.ways → (row : ℕ) → IsUnder others way.row row → IsUnder words way.row row
-    under_back way i row under = let s = noted_same way.row (way_range way i).0 (way_range way i).1 (by_way way way.row i refl) in
+    under_back way i row under = let s = way_same way i in
         ⊎_elim (λ e. inl (sym (s 1 (omega arith)) ∙ e)) (λ e. inr (sym (s 2 (omega arith)) ∙ e)) under
 
     under_range : (way : Way) → IsIn way u.ways → (row : ℕ) → IsUnder words way.row row → (0 < row) × (row ≤ z.rows)
-    under_range way i row under = let t = knows.ways way i in
-        let p = under_placed z words f.role (after f.history []) f.shape way.row row way.place (route_key way.its) (alive f.role way t.stands) under in
-        placed_range z words f.role (after f.history []) f.shape row p.0 p.1
+    under_range way i = under_way z words f.role (after f.history []) f.shape u.since f.history way (knows.ways way i)
 
     notes_back : (row : ℕ) → IsNoted others u row → IsNoted words u row
     notes_back _ (by_note note row i e) = by_note note row i e
@@ -302,6 +328,7 @@ module _ (z : Sizes) (made : ℕ) (uppers : List TreeView) (words others : List 
       notes = note_now j u at;
       links = k.links;
       ways = way_now j u at;
+      one_place = k.one_place;
       joining = joining_now j u at;
       ended = k.ended;
     };
@@ -339,9 +366,9 @@ numbered uppers id u u' at same i v here lo = ⊎_elim
     (λ (t : (i ≡ id) × (u' ≡ v)). let n = ap (λ (y : TreeView). y.number) t.1 in (u, ap (get_elem? uppers) t.0 ∙ at, sym (same (omega arith)) ∙ n))
     (λ (t : (i ≢ id) × (get_elem? uppers i ≡ some v)). (v, t.1, refl)) (at_set uppers id i u' v here)
 
-pub relisted : (rows made : ℕ) (words : List ℕ) (role : ℕ → Role) (uppers uppers' : List TreeView) (history : History) (j : ℕ) (u : TreeView)
-    → IsNumbered uppers uppers' → Knows rows made words role uppers history j u → Knows rows made words role uppers' history j u
-relisted rows made words role uppers uppers' history j u n k = record {
+pub relisted : (z : Sizes) (made : ℕ) (words : List ℕ) (role : ℕ → Role) (uppers uppers' : List TreeView) (history : History) (j : ℕ) (u : TreeView)
+    → IsNumbered uppers uppers' → Knows z made words role uppers history j u → Knows z made words role uppers' history j u
+relisted z made words role uppers uppers' history j u n k = record {
   made_before = k.made_before;
   alone = λ lo i v here same. let y = n i v here (omega arith) in k.alone lo i y.0 y.1 (y.2 ∙ same);
   seen_first = k.seen_first;
@@ -351,6 +378,7 @@ relisted rows made words role uppers uppers' history j u n k = record {
   notes = k.notes;
   links = k.links;
   ways = k.ways;
+  one_place = k.one_place;
   joining = k.joining;
   ended = λ x i. let e = k.ended x i in let lo = e.some_number in record {
     some_number = lo;
@@ -363,7 +391,7 @@ relisted rows made words role uppers uppers' history j u n k = record {
 -- One seat's view is another.
 pub seat_changed : (z : Sizes) (made : ℕ) (words : List ℕ) (uppers : List TreeView) (id : ℕ) (u u' : TreeView) (f : IsTree z made words uppers)
     → get_elem? uppers id ≡ some u → (0 < u'.number → u'.number ≡ u.number) → (0 < u'.number → u'.inventory ≡ u.inventory)
-    → Knows z.rows made words f.role (set uppers id u') f.history id u'
+    → Knows z made words f.role (set uppers id u') f.history id u'
     → IsRanging z words f.role (f.ranged.ends u'.number) u'.since f.history u'.number u'.ranges → IsTree z made words (set uppers id u')
 seat_changed z made words uppers id u u' f at same has k ranging = record {
   usable = f.usable;
@@ -384,8 +412,8 @@ seat_changed z made words uppers id u u' f at same has k ranging = record {
   };
   joined = f.joined;
   unsecured = f.unsecured;
-  each_seat = all_seats (Knows z.rows made words f.role (set uppers id u') f.history) uppers id u' k
-      (λ j v n here. relisted z.rows made words f.role uppers (set uppers id u') f.history j v (numbered uppers id u u' at same) (f.each_seat j v here));
+  each_seat = all_seats (Knows z made words f.role (set uppers id u') f.history) uppers id u' k
+      (λ j v n here. relisted z made words f.role uppers (set uppers id u') f.history j v (numbered uppers id u u' at same) (f.each_seat j v here));
   inventory = f.inventory;
   listed = f.listed;
   at_first = f.at_first;
@@ -424,7 +452,7 @@ left_so_far z words role ends since since' history pass borders borders' Left k 
 
 pub tree_pinning : Pinning IsLinked IsLent IsNoted IsTree pinned unpinned
 tree_pinning = record {
-  keeps_entering = λ z made uppers words i u f at. let k = relisted z.rows made words f.role uppers (set uppers i (pinned u)) f.history i u
+  keeps_entering = λ z made uppers words i u f at. let k = relisted z made words f.role uppers (set uppers i (pinned u)) f.history i u
       (numbered uppers i u (pinned u) at (λ _. refl)) (f.each_seat i u at) in
       seat_changed z made words uppers i u (pinned u) f at (λ _. refl) (λ _. refl)
       record {
@@ -434,10 +462,11 @@ tree_pinning = record {
         since_first = starts_whole u.seen;
         lawful = k.lawful;
         past = k.past;
-        notes = k.notes;
-        links = k.links;
-        ways = k.ways;
-        joining = k.joining;
+        notes = λ note i. absurd (in_nothing note [] refl i);
+        links = λ note i. absurd (in_nothing note [] refl i);
+        ways = λ way i. absurd (in_nothing way [] refl i);
+        one_place = λ a b i. absurd (in_nothing a [] refl i);
+        joining = nothing_joining words;
         ended = k.ended;
       }
       (let known = f.ranged.each i u at in record {
@@ -448,9 +477,9 @@ tree_pinning = record {
         sequence = known.sequence;
         run = known.run;
       });
-  entering_notes = λ words u. noted_alike words u (pinned u) (λ n i. i) (λ w i. i) (λ b i. i)
+  entering_notes = λ words u. noted_alike words u (pinned u) (λ n i. absurd (in_nothing n [] refl i)) (λ w i. absurd (in_nothing w [] refl i)) (λ b i. i)
       (λ row o. absurd (left_run words u (pinned u) row refl o)) (λ n i. i);
-  keeps_leaving = λ z made uppers words i u f at. let k = relisted z.rows made words f.role uppers (set uppers i (unpinned u)) f.history i u
+  keeps_leaving = λ z made uppers words i u f at. let k = relisted z made words f.role uppers (set uppers i (unpinned u)) f.history i u
       (numbered uppers i u (unpinned u) at (λ _. refl)) (f.each_seat i u at) in
       seat_changed z made words uppers i u (unpinned u) f at (λ _. refl) (λ _. refl)
       record {
@@ -463,6 +492,7 @@ tree_pinning = record {
         notes = λ note i. absurd (in_nothing note [] refl i);
         links = λ note i. absurd (in_nothing note [] refl i);
         ways = λ way i. absurd (in_nothing way [] refl i);
+        one_place = λ a b i. absurd (in_nothing a [] refl i);
         joining = nothing_joining words;
         ended = k.ended;
       }
@@ -489,10 +519,10 @@ one_more made [] b = tt
 one_more made (step ∷ steps) b = let hi = b.1 in (b.0, omega arith, one_more made steps b.2)
 
 -- what a seat knows that knows nothing yet
-pub knows_nothing : (rows made : ℕ) (words : List ℕ) (role : ℕ → Role) (uppers : List TreeView) (history : History) (j number : ℕ) → number ≤ made
+pub knows_nothing : (z : Sizes) (made : ℕ) (words : List ℕ) (role : ℕ → Role) (uppers : List TreeView) (history : History) (j number : ℕ) → number ≤ made
     → (0 < number → (i : ℕ) (v : TreeView) → get_elem? uppers i ≡ some v → v.number ≡ number → i ≡ j) → edits_of_pass number history ≡ []
-    → Knows rows made words role uppers history j (blank number)
-knows_nothing rows made words role uppers history j number before alone unmade = record {
+    → Knows z made words role uppers history j (blank number)
+knows_nothing z made words role uppers history j number before alone unmade = record {
   made_before = before;
   alone = alone;
   seen_first = (history, refl);
@@ -502,6 +532,7 @@ knows_nothing rows made words role uppers history j number before alone unmade =
   notes = λ note i. absurd (in_nothing note [] refl i);
   links = λ note i. absurd (in_nothing note [] refl i);
   ways = λ way i. absurd (in_nothing way [] refl i);
+  one_place = λ a b i. absurd (in_nothing a [] refl i);
   joining = nothing_joining words;
   ended = λ x i. absurd (in_nothing x [] refl i);
 }
@@ -565,6 +596,7 @@ tree_making = record {
           notes = k.notes;
           links = k.links;
           ways = k.ways;
+          one_place = k.one_place;
           joining = k.joining;
           ended = λ x i. let e = k.ended x i in let before = e.made_before in record {
             some_number = e.some_number;
@@ -575,8 +607,8 @@ tree_making = record {
                 absurd (omega arith)) (at_place uppers (blank (made + 1)) v s at);
           };
         })
-        (λ (t : (j ≡ length uppers) × (blank (made + 1) ≡ u)). subst (Knows z.rows (made + 1) words f.role next f.history j) t.1
-        (knows_nothing z.rows (made + 1) words f.role next f.history j (made + 1) (omega arith)
+        (λ (t : (j ≡ length uppers) × (blank (made + 1) ≡ u)). subst (Knows z (made + 1) words f.role next f.history j) t.1
+        (knows_nothing z (made + 1) words f.role next f.history j (made + 1) (omega arith)
         (λ _ i v at same. ⊎_elim (λ (old : get_elem? uppers i ≡ some v). let low = (f.each_seat i v old).made_before in absurd (omega arith))
         (λ (y : (i ≡ length uppers) × (blank (made + 1) ≡ v)). y.0 ∙ sym t.0) (at_place uppers (blank (made + 1)) v i at))
         (none_made made (made + 1) f.history f.by_passes (inr (omega arith)))))
@@ -605,7 +637,7 @@ module _ (z : Sizes) (made : ℕ) (words : List ℕ) (uppers : List TreeView) (i
     (at : get_elem? uppers i ≡ some v) (ne : j ≢ i) (there : get_elem? uppers j ≡ some w) where
   fewer : IsTree z made words (set uppers j (blank 0))
   fewer = seat_changed z made words uppers j w (blank 0) f there (λ lo. absurd (omega arith)) (λ lo. absurd (omega arith))
-      (knows_nothing z.rows made words f.role (set uppers j (blank 0)) f.history j 0 (omega arith) (λ lo. absurd (omega arith))
+      (knows_nothing z made words f.role (set uppers j (blank 0)) f.history j 0 (omega arith) (λ lo. absurd (omega arith))
       (none_made made 0 f.history f.by_passes (inl refl))) (no_ranging z words f.role (f.ranged.ends 0) f.history)
 
   at_too : get_elem? (set uppers j (blank 0)) i ≡ some v
@@ -640,10 +672,10 @@ module _ (z : Sizes) (made : ℕ) (words : List ℕ) (uppers : List TreeView) (i
       }
       by_place (suc k) e = each x (k, e)
 
-  knows_joined : Knows z.rows made words f.role left f.history i joined
-  knows_joined = let k = relisted z.rows made words f.role (set uppers j (blank 0)) left f.history i v
+  knows_joined : Knows z made words f.role left f.history i joined
+  knows_joined = let k = relisted z made words f.role (set uppers j (blank 0)) left f.history i v
       (numbered (set uppers j (blank 0)) i v joined at_too (λ _. refl))
-      (relisted z.rows made words f.role uppers (set uppers j (blank 0)) f.history i v
+      (relisted z made words f.role uppers (set uppers j (blank 0)) f.history i v
       (numbered uppers j w (blank 0) there (λ lo. absurd (omega arith))) (f.each_seat i v at)) in record {
         made_before = k.made_before;
         alone = k.alone;
@@ -654,6 +686,7 @@ module _ (z : Sizes) (made : ℕ) (words : List ℕ) (uppers : List TreeView) (i
         notes = k.notes;
         links = k.links;
         ways = k.ways;
+        one_place = k.one_place;
         joining = k.joining;
         ended = one_more_ended w.number refl v.ended k.ended;
       }

@@ -1,8 +1,10 @@
 pub mod Attempts
 pub mod Bare
 pub mod Copies
+pub mod DeadStays
 pub mod Endings
 pub mod FirstTree
+pub mod Hindsight
 pub mod Inventory
 pub mod JoinCopies
 pub mod JoinSteps

@@ -1,5 +1,5 @@
 -- What the root link reaches in a tree of routes: what has a place, and the objects of the bases.
-use Rattle.std.proofs.Common.{◌≡◌, ◌⊎◌, ℕ, zero, suc, ◌+◌, ◌*◌, ◌<◌, ◌≤◌, List, ◌≢◌, get_or, sym, refl, ap, ◌∙◌, subst, inl, inr, ⊎_elim, arith}
+use Rattle.std.proofs.Common.{◌≡◌, ◌⊎◌, ℕ, zero, suc, ◌+◌, ◌*◌, ◌<◌, ◌≤◌, List, [], ◌≢◌, get_or, sym, refl, ap, ◌∙◌, subst, inl, inr, ⊎_elim, arith}
 use mathlib.Core.Option.{some, some-injective, some-ne-none}
 use Rattle.ca_model.specs.StoreMap.{StoreMap}
 use Rattle.ca_rows.specs.declared.sizes.Sizes.{Sizes}
@@ -19,6 +19,16 @@ by_place (Route p key) place e = inr (key, ap (λ (q : Place). Route q key) (som
 -- A base has its place alone.
 pub same_place : (p q : Place) → Base p ≡ Base q → p ≡ q
 same_place p q e = some-injective p q (ap place_of e)
+
+-- the key of a route
+abbrev key_of : Role → List ℕ
+key_of Out = []
+key_of (Base place) = []
+key_of (Route place key) = key
+
+-- So has a route, and its key.
+pub same_route : (p q : Place) (k l : List ℕ) → Route p k ≡ Route q l → (p ≡ q) × (k ≡ l)
+same_route p q k l e = (some-injective p q (ap place_of e), ap key_of e)
 
 -- the place that a link leads to
 abbrev pub led_to : (words : List ℕ) (role : ℕ → Role) (link least : ℕ) (span : Span) → LeadsTo words role link least span → Place

@@ -7,6 +7,8 @@ use Rattle.ca_model.specs.History.{History, after, AreEdits, AreByPasses}
 use Rattle.ca_model.specs.Lawful.{IsLawful}
 use Rattle.ca_rows.specs.declared.sizes.Sizes.{Sizes}
 use Rattle.ca_rows.specs.Opening.{AreUsable}
+use Rattle.ca_node.specs.Attempts.{IsSecured}
+pub use Rattle.ca_node.specs.Hindsight.{IsDead}
 use Rattle.ca_node.specs.Inventory.{IsInventory}
 use Rattle.ca_node.specs.Joining.{AreJoining, AreUnsecured, IsJoining}
 use Rattle.ca_node.specs.Links.{IsIn}
@@ -39,14 +41,14 @@ IsFixed index = (index < row_words) × (index ≢ 1) × (index ≢ 2) × (index 
 abbrev pub IsAlive : (ℕ → Role) → Way → Type 0
 IsAlive role way = role way.row ≡ Route way.place (route_key way.its)
 
--- The route was unlinked since the seat was pinned, at this place of the history. No step unlinks a route as yet.
-abbrev pub IsDead : Way → ℕ → Type 0
-IsDead way at = ⊥
-
--- The route is alive, or dead with its place. It has the words that it had, but for its links and its join word.
-pub record IsTrueWay (words : List ℕ) (role : ℕ → Role) (way : Way) : Type 0 where
-  pub stands : IsAlive role way ⊎ ((at : ℕ) × IsDead way at)
+-- The route is alive, or was unlinked since the seat was pinned. It has the words that it had, but for its links and its join word. So far none is secured,
+-- and so none was unlinked.
+pub record IsTrueWay (z : Sizes) (words : List ℕ) (role : ℕ → Role) (since history : History) (way : Way) : Type 0 where
+  pub some_row : 0 < way.row
+  pub in_range : way.row ≤ z.rows
+  pub stands : IsAlive role way ⊎ ((at : ℕ) × IsDead z words role since history way at)
   pub spells : (index : ℕ) → IsFixed index → slice_index words (row_words * way.row + index) ≡ slice_index way.its index
+  pub unsecured : (attempt : ℕ) → ¬ IsSecured words way.row attempt
 
 -- A pass that was joined into a seat: its log is lawful, and no seat has its number any more.
 pub record IsEnded (made : ℕ) (uppers : List TreeView) (history : History) (x : Ended) : Type 0 where
@@ -56,7 +58,7 @@ pub record IsEnded (made : ℕ) (uppers : List TreeView) (history : History) (x 
   pub gone : (i : ℕ) (v : TreeView) → get_elem? uppers i ≡ some v → v.number ≢ x.number
 
 -- what the seat number j knows
-pub record Knows (rows made : ℕ) (words : List ℕ) (role : ℕ → Role) (uppers : List TreeView) (history : History) (j : ℕ) (u : TreeView) : Type 0 where
+pub record Knows (z : Sizes) (made : ℕ) (words : List ℕ) (role : ℕ → Role) (uppers : List TreeView) (history : History) (j : ℕ) (u : TreeView) : Type 0 where
   pub made_before : u.number ≤ made
   pub alone : 0 < u.number → (i : ℕ) (v : TreeView) → get_elem? uppers i ≡ some v → v.number ≡ u.number → i ≡ j
   -- What it has seen is the beginning of the history, and its log is lawful for it. It has seen as far as its calls go.
@@ -64,9 +66,10 @@ pub record Knows (rows made : ℕ) (words : List ℕ) (role : ℕ → Role) (upp
   pub since_first : StartsWith u.seen u.since
   pub lawful : IsLawful u.number history u.log
   pub past : ArePast (length u.seen) u.log
-  pub notes : (note : Note) → IsIn note u.notes → IsTrue rows words role note
+  pub notes : (note : Note) → IsIn note u.notes → IsTrue z.rows words role note
   pub links : (note : Note) → IsIn note u.notes → IsLinkOfView u note.place.link
-  pub ways : (way : Way) → IsIn way u.ways → IsTrueWay words role way
+  pub ways : (way : Way) → IsIn way u.ways → IsTrueWay z words role u.since history way
+  pub one_place : (a b : Way) → IsIn a u.ways → IsIn b u.ways → a.row ≡ b.row → (a.place ≡ b.place) × (route_key a.its ≡ route_key b.its)
   pub joining : IsJoining words u.notes u.ways u.ranges.joins
   pub ended : (x : Ended) → IsIn x u.ended → IsEnded made uppers history x
 
@@ -84,7 +87,7 @@ pub record IsTree (z : Sizes) (made : ℕ) (words : List ℕ) (uppers : List Tre
   pub ranged : AreRanged z made words role uppers history
   pub joined : AreJoining z words role
   pub unsecured : AreUnsecured z words role
-  pub each_seat : (j : ℕ) (u : TreeView) → get_elem? uppers j ≡ some u → Knows z.rows made words role uppers history j u
+  pub each_seat : (j : ℕ) (u : TreeView) → get_elem? uppers j ≡ some u → Knows z made words role uppers history j u
   -- What the tree has is listed. Until a pass was made that is what it has at first, and a pass that is the only one knows the list.
   pub inventory : Inventory
   pub listed : IsInventory words role inventory

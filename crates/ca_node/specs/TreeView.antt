@@ -240,9 +240,14 @@ left_over (Unmarked begun) = Left
 left_over (Marking begun border) = Left
 left_over Left = Left
 
--- It is pinned, or not any more.
+-- It is pinned, or not any more. As it is pinned it remembers no base and no route: those that it is shown since stood there since.
 abbrev pub pinned : TreeView → TreeView
-pinned u = record u { since = u.seen; ranges = record u.ranges { own = left_over u.ranges.own; unfinished = [] } }
+pinned u = record u {
+  since = u.seen;
+  notes = [];
+  ways = [];
+  ranges = record u.ranges { own = left_over u.ranges.own; unfinished = []; joins = no_joins };
+}
 
 abbrev pub unpinned : TreeView → TreeView
 unpinned u = record u {

@@ -112,7 +112,7 @@ module _ {R : Type 0} (space : Space R TreeView) (pass new : Pass R TreeView) wh
       → new.tally ≡ pass.tally → new.seat.me ≡ announced told moment pass.seat.me
       → MayBegin space key None false new
   may_first key told moment r same number kept tally is =
-      may_pinned key (announced told moment pass.seat.me).0.pin pass.seat.me.0.upper.notes pass.seat.me.0.upper.ways
+      may_pinned key (announced told moment pass.seat.me).0.pin [] []
       (announced told moment pass.seat.me).0.upper.ranges r.of
       r.numbered (subst (λ n. 0 < n) (sym r.same_number) r.numbered.1)
       (holds_none space.table.shared.table_id space.table.shared.key pass.number pass.kept.rows pass.seat r) r.quiet r.known

@@ -67,7 +67,7 @@ pub missed_pinned : {T : Type 0} (budget : ℕ) (spent : Spent) (r : Result T Mi
     → HasMissedBy budget spent r m n → HasMissedBy budget spent r k n
 missed_pinned budget spent r told moment k m n is h = let u = k.0.upper in
     let pin = (announced told moment k).0.pin in
-    let q = moved_quiet k m pin u.seen u.notes u.ways (announced told moment k).0.upper.ranges is in
+    let q = moved_quiet k m pin u.seen [] [] (announced told moment k).0.upper.ranges is in
     missed_behind budget spent spent r spent k m n q.met (none_paid spent k m q.lost q.same_turns) h
 
 -- What was paid, of a pass that pinned before, and of one that unpinned then.
@@ -75,7 +75,7 @@ pub paid_pinned : (a b : Spent) (told moment : ℕ) (k m n : MyTree) → m ≡ a
     → IsPaid a b m n → IsPaid a b k n
 paid_pinned a b told moment k m n is paid = let u = k.0.upper in
     let pin = (announced told moment k).0.pin in
-    let q = moved_quiet k m pin u.seen u.notes u.ways (announced told moment k).0.upper.ranges is in
+    let q = moved_quiet k m pin u.seen [] [] (announced told moment k).0.upper.ranges is in
     paid_both a a b k m n (none_paid a k m q.lost q.same_turns) paid
 
 pub paid_left : (a b : Spent) (k m n : MyTree) → n ≡ left m → IsPaid a b k m → IsPaid a b k n
@@ -182,7 +182,7 @@ pinned_left k m n is h = pinned_still k m n h (ap (λ (x : MyTree). x.0.pin.lags
 -- What a pass had seen as it pinned.
 pub further_pinned : (told moment : ℕ) (k m : MyTree) → m ≡ announced told moment k → IsFurther k.0.upper m.0.upper
 further_pinned told moment k m is = let u = k.0.upper in
-    moved_further k m (announced told moment k).0.pin u.seen u.notes u.ways (announced told moment k).0.upper.ranges is
+    moved_further k m (announced told moment k).0.pin u.seen [] [] (announced told moment k).0.upper.ranges is
 
 -- What follows where something came of an attempt, and where nothing did.
 pub ok_then : {T E P Q : Type 0} (r : Result T E) → (P → Q) → IfOk r (λ _. P) → IfOk r (λ _. Q)

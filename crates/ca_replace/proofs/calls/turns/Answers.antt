@@ -1,4 +1,4 @@
-use Rattle.std.proofs.Common.{◌∙◌, ap, arith, refl, subst, sym}
+use Rattle.std.proofs.Common.{[], ◌∙◌, ap, arith, refl, subst, sym}
 use Rattle.ca_node.specs.Told.{MyTree}
 use Rattle.ca_rows.specs.declared.view.Pin.{Pin}
 use Rattle.ca_replace.specs.Attempting.{at_pin, total}
@@ -26,16 +26,16 @@ loop-course-init g c = let z = c.args.tree.now.space.table.shared.key in
       may = may_first c.args.tree.now.space c.args.pass.now c.pin.new.pass (g.A.Attempt.about c.args.order.now.what.now) c.pin.ensures.pinned.0
           c.pin.ensures.pinned.1 c.requires.resting c.pin.ensures.frame.same
           c.pin.ensures.frame.number c.pin.ensures.frame.kept c.pin.ensures.frame.tally is;
-      since = first_since k m pin u.notes u.ways ranges is;
+      since = first_since k m pin [] [] ranges is;
       pinned = pinned_once k m (ap (λ (x : MyTree). x.0.pin.lags) is)
           (ap (λ (x : MyTree). x.0.pin.looks) is)
           (ap (λ (x : MyTree). x.0.pin.entered.lags) is)
           (ap (λ (x : MyTree). x.0.pin.begun_at) is) (ap (λ (x : MyTree). x.0.pin.begun) is);
       unspent = c.requires.unspent;
       waiting = waits_none z (g.A.Attempt.adds c.args.order.now.what.now) _ _ k m (refl, refl)
-          (moved_quiet k m pin u.seen u.notes u.ways ranges is)
+          (moved_quiet k m pin u.seen [] [] ranges is)
           (ap (λ (x : MyTree). x.0.upper.seen) is)
-          (moved_further k m pin u.seen u.notes u.ways ranges is);
+          (moved_further k m pin u.seen [] [] ranges is);
     }
 
 pub attempt-tried-requires-clause-ready : goal.attempt-tried-requires-clause-ready
