@@ -6,11 +6,11 @@
 ghost use Rattle.std.specs.Prelude.{◌≡◌, IfErr};
 
 mod answer;
+#[cfg(test)]
+mod calls;
 mod explain;
 mod files;
 mod lines;
-#[cfg(test)]
-mod meeting;
 mod message;
 mod opening;
 mod printed;

@@ -45,7 +45,9 @@ impl Progress<'_> {
         if now.saturating_sub(last) < BETWEEN {
             return;
         }
-        let taken = self.told_at.compare_exchange(last, now, Ordering::Relaxed, Ordering::Relaxed);
+        let taken = self
+            .told_at
+            .compare_exchange(last, now, Ordering::Relaxed, Ordering::Relaxed);
         if taken.is_ok() {
             // Where this can't be told, nobody is told.
             let _ = eprintln!(self.rt; "ca: {answered} lines answered");

@@ -1,36 +1,40 @@
-//! A whole call on files and an output in memory, of two clients that meet on one tree.
+//! Tests of whole calls, on files and an output in memory.
 use crate::status::Status;
 use crate::top::run;
-use ca_client::Rendezvous;
-use ca_outside::{SureDrawer, SureTape};
+use ca_client::{OpenGate, Rendezvous};
+use ca_outside::{SureDrawer, SureTape, Tape};
 use std::alloc::{AllocError, Global};
 use std::test::Fail;
 
-// The tree is one base, which holds two objects and can't be split.
-const WORDS: [&str; 7] = ["run", "--leaf", "2", "--levels", "0", "a", "b"];
-
-const COMMANDS: &str = "insert_new {1}\nmember 1\ninsert {2}\ninsert {3}\n";
-
-fn words_of(alloc: Global) -> Result<Vec<String>, AllocError> {
-    let mut words = Vec::new(alloc);
-    for word in WORDS {
-        words.push(String::from_str(alloc, word)?)?;
+fn words_of(alloc: Global, words: &[&str]) -> Result<Vec<String>, AllocError> {
+    let mut texts = Vec::new(alloc);
+    for word in words {
+        texts.push(String::from_str(alloc, word)?)?;
     }
-    Ok(words)
+    Ok(texts)
 }
 
-// Two files, of the same commands.
-fn files_of(alloc: Global) -> Result<Vec<(String, Vec<u8>)>, AllocError> {
+// Files of these names, each with these commands.
+fn files_of(
+    alloc: Global,
+    names: &[&str],
+    commands: &str,
+) -> Result<Vec<(String, Vec<u8>)>, AllocError> {
     let mut files = Vec::new(alloc);
-    for name in ["a", "b"] {
+    for name in names {
         let file = (
             String::from_str(alloc, name)?,
-            Vec::from_slice(alloc, COMMANDS.as_bytes())?,
+            Vec::from_slice(alloc, commands.as_bytes())?,
         );
         files.push(file)?;
     }
     Ok(files)
 }
+
+// The tree is one base, which holds two objects and can't be split.
+const SMALL: [&str; 7] = ["run", "--leaf", "2", "--levels", "0", "a", "b"];
+
+const MEETING: &str = "insert_new {1}\nmember 1\ninsert {2}\ninsert {3}\n";
 
 // What is printed where the clients' first commands are answered so.
 fn output_of(alloc: Global, one: &str, two: &str) -> Result<String, AllocError> {
@@ -50,8 +54,8 @@ fn output_of(alloc: Global, one: &str, two: &str) -> Result<String, AllocError> 
 #[test]
 fn two_clients_meet(rt: HostRuntime) -> Result<(), Fail> {
     let alloc = rt.alloc();
-    let words = words_of(alloc)?;
-    let mut shelf = SureDrawer::new(files_of(alloc)?);
+    let words = words_of(alloc, SMALL.as_slice())?;
+    let mut shelf = SureDrawer::new(files_of(alloc, ["a", "b"].as_slice(), MEETING)?);
     let mut sink = SureTape::new(alloc, 1_000)?;
     let gate = Rendezvous::new();
     let mut ran = None;
@@ -77,5 +81,32 @@ fn two_clients_meet(rt: HostRuntime) -> Result<(), Fail> {
         assert_eq!(rt; gate.told(client, 3), 1);
         assert_eq!(rt; gate.told(client, 4), 3);
     }
+    Ok(())
+}
+
+// The output takes nine bytes and fails then.
+#[test]
+fn the_run_is_kept_where_the_output_fails(rt: HostRuntime) -> Result<(), Fail> {
+    let alloc = rt.alloc();
+    let words = words_of(alloc, ["run", "a"].as_slice())?;
+    let mut shelf = SureDrawer::new(files_of(alloc, ["a"].as_slice(), "insert {1,a}\nlookup 1\n")?);
+    let mut sink = Tape::new(alloc, 9, 9, Vec::new(alloc))?;
+    let mut ran = None;
+    let status = run(
+        &rt,
+        alloc,
+        words.as_slice(),
+        &mut shelf,
+        &mut sink,
+        &OpenGate,
+        &mut ran,
+    );
+    assert_eq!(rt; status, Status::SinkFault);
+    assert_eq!(rt; sink.taken(), b"client 1\n".as_slice());
+    let kept = match &ran {
+        Some(ran) => (ran.answers.len(), ran.objects.len()),
+        None => (0, 0),
+    };
+    assert_eq!(rt; kept, (1, 1));
     Ok(())
 }
