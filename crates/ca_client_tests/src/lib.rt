@@ -7,8 +7,6 @@ mod files;
 #[cfg(test)]
 mod gates;
 #[cfg(test)]
-mod meeting;
-#[cfg(test)]
 mod refusals;
 #[cfg(test)]
 mod sharing;
