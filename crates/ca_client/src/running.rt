@@ -111,10 +111,7 @@ fn part_of(client: Client<'_, TreeStore<'_>>) -> Option<(Answers, TreePass)>
 }
 
 // What clients that played leave. `Err` where one of them found no memory.
-fn parts_of(
-    alloc: Global,
-    clients: Vec<Client<'_, TreeStore<'_>>>,
-) -> Result<Parts, AllocError>
+fn parts_of(alloc: Global, clients: Vec<Client<'_, TreeStore<'_>>>) -> Result<Parts, AllocError>
     ensures { IfOk result (λ parts. AreLeft clients.entry.items parts) }
 {
     let mut all = Vec::with_capacity(alloc, clients.len())?;
