@@ -40,7 +40,7 @@ impl Progress<'_> {
         let Ok(elapsed) = start.elapsed(self.rt) else {
             return;
         };
-        let now = elapsed.as_millis() as u64;
+        let now = u64::try_from(elapsed.as_millis()).unwrap_or(u64::MAX);
         let last = self.told_at.load(Ordering::Relaxed);
         if now.saturating_sub(last) < BETWEEN {
             return;
