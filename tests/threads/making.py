@@ -5,7 +5,7 @@ from table import Command
 ALL = "[{'_',[],['$_']}]"
 CHOSEN = ["[{{'$1','$2','_'},[{'>','$2',1}],['$1']}]", "[{{'_','$2','$3'},[{'<','$3',20}],[{{'$2','$3'}}]},{{1,'_','_'},[],[one]}]",
           "[{{2,'_','_'},[],['$_']}]"]
-KEYS = ["1", "2", "3", "a", "b", "{1}", "[2]", "<<3>>"]
+KEYS = ["1", "2", "3", "a", "b", "{1}", "[2]", "<<3>>"] + [str(number) for number in range(-300, 300, 30)]
 WEIGHTS = {"insert": 18, "insert_new": 9, "lookup": 12, "member": 5, "delete": 7, "take": 7, "update_counter": 14, "update_element": 6, "first": 2, "last": 2,
            "next": 3, "prev": 3, "select": 4, "select_range": 4, "batch": 3, "more": 4}
 
@@ -32,7 +32,7 @@ def arguments(chance, name, keys, mark):
 
 def files_of(chance, most_lines=60):
     """The texts of the lines of two to four clients."""
-    keys = chance.sample(KEYS, chance.choice([1, 2, 3, 4, 4, 6, 8]))
+    keys = chance.sample(KEYS, chance.choice([1, 2, 3, 4, 4, 6, 8, 12, 24]))
     names = chance.choices(list(WEIGHTS), list(WEIGHTS.values()), k=10_000)
     clients, mark = [], 0
     for _ in range(chance.randint(2, 4)):

@@ -203,12 +203,8 @@ class Search:
         return False
 
 
-def merge_of(clients, objects):
-    return Search(clients, objects).merge()
-
-
 def is_explained_by(clients, objects, merge):
-    """Whether this merge, the clients' numbers in order, gives the answers and the table: looked at anew, one command after the other."""
+    """Whether this merge gives the answers and the table: one command after the other, with no search."""
     left = [iter([line for line in client if not line.said.startswith("refused ")]) for client in clients]
     table, continuations = (), [None] * len(clients)
     for number in merge:
@@ -219,3 +215,11 @@ def is_explained_by(clients, objects, merge):
         if said != line.said:
             return False
     return all(next(rest, None) is None for rest in left) and [row.text for row in table] == objects
+
+
+def merge_of(clients, objects):
+    """A merge that explains the run, the clients' numbers in order, or None. It is played again before it is told."""
+    merge = Search(clients, objects).merge()
+    if merge is not None and not is_explained_by(clients, objects, merge):
+        raise AssertionError("the merge that was found explains nothing")
+    return merge
