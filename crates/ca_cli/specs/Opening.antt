@@ -1,5 +1,5 @@
 -- The tree that the clients of a call share: how large it is and how it adapts.
-use Rattle.std.specs.Prelude.{◌≡◌, ℕ, ◌+◌, ◌/◌, min, max, pos, neg_ℤ, ◌-ℤ◌, Bool, true, false, List, length, Option, None, Some, unwrap_or}
+use Rattle.std.specs.Prelude.{◌≡◌, ℕ, ◌+◌, ◌/◌, min, max, pos, neg_ℤ, ◌-ℤ◌, Bool, true, false, List, length, unwrap_or}
 use Rattle.std.specs.List.{sum_by, count_by}
 use Rattle.ca_adapt.specs.declared.tuning.Tuning.{Tuning}
 use Rattle.ca_ets.specs.Command.{Command}
