@@ -9,7 +9,7 @@ use ca_cmd::{
 };
 use ca_ets::{Cmd, Fault, Reply};
 use ca_term::{Term, try_copy};
-use ca_words::{Request, request_of};
+use ca_words::{Request, command_line_of};
 use std::alloc::{AllocError, Global};
 
 // The most bytes of a command file.
@@ -32,8 +32,13 @@ pub(crate) fn say_request(alloc: Global, text: &[u8], into: &mut Vec<u8>) {
     let Ok(words) = words_of(alloc, text) else {
         return say(b"no memory", into);
     };
-    match request_of(alloc, words.as_slice()) {
-        Ok(Some(Request::Files { keypos, names })) => {
+    let line = match command_line_of(alloc, words.as_slice()) {
+        Ok(Some(line)) => line,
+        Ok(None) => return say(b"usage", into),
+        Err(_) => return say(b"no memory", into),
+    };
+    match line.request {
+        Request::Files { keypos, names } => {
             say(b"files ", into);
             say_value(alloc, &keypos, into);
             for name in names {
@@ -41,20 +46,14 @@ pub(crate) fn say_request(alloc: Global, text: &[u8], into: &mut Vec<u8>) {
                 say(name.as_str().as_bytes(), into);
             }
         }
-        Ok(
-            Some(
-                Request::Generated {
-                    seed,
-                    clients,
-                    lines,
-                },
-            ),
-        ) => {
+        Request::Generated {
+            seed,
+            clients,
+            lines,
+        } => {
             say(b"generated ", into);
             say_value(alloc, &(seed, clients, lines), into);
         }
-        Ok(None) => say(b"usage", into),
-        Err(_) => say(b"no memory", into),
     }
 }
 

@@ -11,11 +11,12 @@ use Rattle.ca_outside.specs.declared.shelf.FetchFault.{FetchFault}
 use Rattle.ca_outside.specs.declared.shelf.FetchFault.TheVariants as fault
 use Rattle.ca_cmd.specs.File.{Numbered}
 use Rattle.ca_cli.specs.Call.{Call, Change, change_of, call_of, Adds}
-use Rattle.ca_cli.specs.Headline.{ArePairs}
-use Rattle.ca_cli.specs.Outcome.{AreAccepted, AreHeld, IsReached, IsOutcomeInTurn, all_well, most_bytes, total_length}
+use Rattle.ca_cli.specs.Accepted.{AreAccepted, ArePairs, all_well, most_bytes, total_length}
+use Rattle.ca_cli.specs.Causes.{IsCause, IsReached}
+use Rattle.ca_cli.specs.Complete.{AreHeld}
 use Rattle.ca_cli.specs.Reading.{wanted_of, IsRead, IsFault}
-use Rattle.ca_cli.specs.StatusText.{text_of_status}
-use Rattle.ca_words.specs.Grammar.{IsLine, Files}
+use Rattle.ca_words.specs.Grammar.{IsLineOf, Files}
+use Rattle.ca_words.specs.declared.tree.TreeOptions.{TreeOptions}
 use Rattle.ca_cli.specs.declared.status.Status.{Status}
 use Rattle.ca_cli.specs.declared.status.Status.TheVariants.{Done, Usage, ShelfFault, SinkFault, BadLine, NoMemory, TooLong}
 use Rattle.ca_cli.proofs.Firsts.{first_more, rest_here, split_here}
@@ -85,7 +86,7 @@ module _ {X : Type 0} (f : X → List ℕ) (names : List X) (i : ℕ) (name : X)
           left = omega (arith, total, h.left, r.fits);
         }
 
-    module _ (words : List (List ℕ)) (keypos : ℕ) (asked : IsLine words (Files keypos (map f names))) where
+    module _ (words : List (List ℕ)) (keypos : ℕ) (options : TreeOptions) (asked : IsLineOf words (Files keypos (map f names)) options) where
       abbrev call : Call
       call = call_of words content whole
 
@@ -93,6 +94,7 @@ module _ {X : Type 0} (f : X → List ℕ) (names : List X) (i : ℕ) (name : X)
       reached number end e g = record {
         keypos = keypos;
         names = map f names;
+        options = options;
         asked = asked;
         earlier = map f (take i names);
         name = f name;
@@ -105,25 +107,22 @@ module _ {X : Type 0} (f : X → List ℕ) (names : List X) (i : ℕ) (name : X)
         fetches = adds_both (all_well (map f (take i names))) (fetched (f name) end ∷ []) h.fetches g;
       }
 
-      -- it was not accepted: what the call comes to, where these files are asked for
-      pub fault_outcome : (number : ℕ) (status : Status) → number ≡ i + 1 → first.faults_before ≤ next.faults_before →
-          IsFault next (wanted_of number (f name) (content (f name)) room) status → IsOutcomeInTurn call status (text_of_status status)
-      fault_outcome number Done e o b = absurd b
-      fault_outcome number Usage e o b = absurd b
-      fault_outcome number (ShelfFault file) e o b = (reached file (Err fault.Failed) (b.0 ∙ e) b.2, risen_since _ _ _ o b.1, refl)
-      fault_outcome number SinkFault e o b = absurd b
-      fault_outcome number (BadLine file line at) e o b = (
-        record {
-          reached = reached file (Ok tt) (b.0 ∙ e) b.2;
-          file = b.1.file;
-          fetched = b.1.fetched;
-          limit = omega (arith, h.left, b.1.fits);
-          why = b.1.why;
-          refused = b.1.refused;
-        },
-        refl,
-      )
-      fault_outcome number NoMemory e o b = (inr (inl (number, b.0, reached number b.0 e b.1)), refl)
-      fault_outcome number (TooLong file) e o b =
+      -- it was not accepted: the cause of the status that the call comes to, where these files are asked for
+      pub fault_cause : (number : ℕ) (status : Status) → number ≡ i + 1 → first.faults_before ≤ next.faults_before →
+          IsFault next (wanted_of number (f name) (content (f name)) room) status → IsCause call status
+      fault_cause number Done e o b = absurd b
+      fault_cause number Usage e o b = absurd b
+      fault_cause number (ShelfFault file) e o b = (reached file (Err fault.Failed) (b.0 ∙ e) b.2, risen_since _ _ _ o b.1)
+      fault_cause number SinkFault e o b = absurd b
+      fault_cause number (BadLine file line at) e o b = record {
+        reached = reached file (Ok tt) (b.0 ∙ e) b.2;
+        file = b.1.file;
+        fetched = b.1.fetched;
+        limit = omega (arith, h.left, b.1.fits);
+        why = b.1.why;
+        refused = b.1.refused;
+      }
+      fault_cause number NoMemory e o b = inr (inl (number, b.0, reached number b.0 e b.1))
+      fault_cause number (TooLong file) e o b =
           let left : room ≡ most_bytes - total_length h.files = omega (arith, h.left) in
-          (record { reached = reached file (Err fault.TooLong) (b.0 ∙ e) b.2; over = rw left at b.1 }, refl)
+          record { reached = reached file (Err fault.TooLong) (b.0 ∙ e) b.2; over = rw left at b.1 }

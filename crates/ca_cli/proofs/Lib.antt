@@ -1,7 +1,5 @@
 pub mod Accepted
-pub mod Answered
+pub mod Bounded
+pub mod Explained
 pub mod Firsts
-pub mod InTurn
-pub mod Outcomes
-pub mod Playing
-pub mod Summed
+pub mod Made

@@ -2,7 +2,8 @@
 use Rattle.std.specs.Prelude.{ℕ, List, Option}
 use Rattle.ca_outside.specs.Fetches.{Fetched}
 use Rattle.ca_outside.specs.Known.{Content, Grows, HasRisen}
-use Rattle.ca_words.specs.Grammar.{Request, IsLine}
+use Rattle.ca_words.specs.Grammar.{Request, IsLineOf}
+use Rattle.ca_words.specs.declared.tree.TreeOptions.{TreeOptions}
 
 -- of a shelf's fetches or a sink's bytes: those so far, where they are told, and the count of faults, before and after
 pub record Change (A : Type 0) : Type 0 where
@@ -31,6 +32,6 @@ pub record Call : Type 0 where
 abbrev pub call_of : List (List ℕ) → (List ℕ → Content) → Change Fetched → Call
 call_of words content shelf = record { words = words; content = content; shelf = shelf }
 
--- The words are a command line, which asks for this.
-abbrev pub Asks : Call → Request → Type 0
-Asks call request = IsLine call.words request
+-- The words are a command line, which asks for this on such a tree.
+abbrev pub Asks : Call → Request → TreeOptions → Type 0
+Asks call request options = IsLineOf call.words request options

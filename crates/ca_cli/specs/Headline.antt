@@ -1,33 +1,19 @@
--- The headline: what is printed is what one thread gives that runs a merge of the files' commands on an ordered set.
-use Rattle.std.specs.Prelude.{◌≡◌, ℕ, List, [], ◌∷◌, map, Ok, Err}
+-- The headline: what is printed is what one thread gives that runs a merge of the clients' commands on an ordered set.
+use Rattle.std.specs.Prelude.{◌≡◌, ℕ, List, ◌++◌, map}
 use Rattle.ca_term.specs.Tree.{Tree}
 use Rattle.ca_ets.specs.Command.{Answer}
 use Rattle.ca_ets.specs.Explained.{Explained}
-use Rattle.ca_cmd.specs.File.{Numbered, commands_in, IsFileOf}
-use Rattle.ca_cmd.specs.Output.{text_of_run}
+use Rattle.ca_cmd.specs.File.{commands_in}
+use Rattle.ca_cli.specs.Call.{Call, Change, Adds}
+use Rattle.ca_cli.specs.Accepted.{IsAccepted}
+use Rattle.ca_cli.specs.Printed.{keypos_of, shape_text, text_of}
 
--- The lists are of one length, and their elements at each place are so related.
-abbrev pub ArePairs : {X Y : Type 0} → (X → Y → Type 0) → List X → List Y → Type 0
-ArePairs R [] [] = Unit {0}
-ArePairs R [] (y ∷ ys) = ⊥
-ArePairs R (x ∷ xs) [] = ⊥
-ArePairs R (x ∷ xs) (y ∷ ys) = R x y × ArePairs R xs ys
-
--- Each file holds these lines.
-abbrev pub AreFilesOf : List (List ℕ) → List (List Numbered) → Type 0
-AreFilesOf files all = ArePairs (λ (file : List ℕ) (lines : List Numbered). IsFileOf file lines) files all
-
--- These bytes are the text of these answers and this table, which are explained for the commands of these lines, a list a client.
-pub record IsAnswer (keypos : ℕ) (lines : List (List Numbered)) (answers : List (List Answer)) (table : List Tree) (bytes : List ℕ) : Type 0 where
-  pub explained : Explained keypos (map commands_in lines) answers table
-  pub written : bytes ≡ text_of_run lines answers table
-
--- No command was refused.
-abbrev pub AreReplies : List Answer → Type 0
-AreReplies [] = Unit {0}
-AreReplies (Ok response ∷ answers) = AreReplies answers
-AreReplies (Err refusal ∷ answers) = ⊥
-
-abbrev pub AllAreReplies : List (List Answer) → Type 0
-AllAreReplies [] = Unit {0}
-AllAreReplies (answers ∷ all) = AreReplies answers × AllAreReplies all
+-- The words and the files were accepted, or lines were made, and in this call the sink took the text of these answers and this table, or their summary;
+-- they are explained for the commands of the clients' lines. Behind it stands the line of the shape, where it is asked for.
+pub record Prints (call : Call) (output : Change ℕ) (answers : List (List Answer)) (table : List Tree) (bytes : List ℕ) : Type 0 where
+  pub accepted : IsAccepted call
+  pub explained : Explained (keypos_of accepted.request) (map commands_in accepted.lines) answers table
+  pub splits : ℕ
+  pub joins : ℕ
+  pub written : bytes ≡ text_of accepted.request accepted.lines answers table ++ shape_text accepted.options splits joins
+  pub taken : Adds output bytes

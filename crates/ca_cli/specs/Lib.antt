@@ -1,10 +1,13 @@
+pub mod Accepted
 pub mod Call
+pub mod Causes
+pub mod Complete
 pub mod Headline
-pub mod InTurn
+pub mod Kept
 pub mod Opening
-pub mod Outcome
-pub mod Played
+pub mod Printed
 pub mod Reading
+pub mod Run
 pub mod StatusText
 pub mod Summary
 pub mod Written

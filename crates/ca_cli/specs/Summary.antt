@@ -1,10 +1,9 @@
 -- The summary of a run of generated lines.
-use Rattle.std.specs.Prelude.{◌≡◌, ℕ, zero, suc, ◌+◌, ℤ, pos, ◌+ℤ◌, List, [], ◌∷◌, ◌++◌, length, map, fold, sum_by, codes, decimal, Ok, Err}
+use Rattle.std.specs.Prelude.{ℕ, zero, suc, ◌+◌, ℤ, pos, ◌+ℤ◌, List, [], ◌∷◌, ◌++◌, length, fold, codes, decimal, Ok, Err}
 use Rattle.std.specs.Fmt.{signed_decimal}
 use Rattle.ca_term.specs.Tree.{Tree, Integer, Atom, Tuple, Nil, Cons, Binary, elements}
 use Rattle.ca_ets.specs.Command.{Answer}
-use Rattle.ca_ets.specs.Explained.{Explained}
-use Rattle.ca_cmd.specs.File.{Numbered, commands_in}
+use Rattle.ca_cmd.specs.File.{Numbered}
 use Rattle.ca_cmd.specs.Generator.{generated}
 
 -- so many clients' lines, from the client of this number on
@@ -58,8 +57,3 @@ sum_line sum = codes "sum " ++ signed_decimal sum ++ codes "\n"
 abbrev pub summary_text : ℕ → ℕ → ℕ → List Tree → List ℕ
 summary_text clients count refused table =
     generated_line clients count ++ number_line (codes "refused ") refused ++ number_line (codes "end ") (length table) ++ sum_line (sum_of table)
-
--- These bytes sum up these answers and this table, which are explained for the generated lines of so many clients, so many lines each.
-pub record IsSummary (seed clients count : ℕ) (answers : List (List Answer)) (table : List Tree) (bytes : List ℕ) : Type 0 where
-  pub explained : Explained 1 (map commands_in (clients_from seed count 1 clients)) answers table
-  pub written : bytes ≡ summary_text clients count (sum_by refusals answers) table

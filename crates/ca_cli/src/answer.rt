@@ -1,30 +1,54 @@
-//! The answer to the files of a call.
-ghost use Rattle.std.specs.Prelude.{◌≡◌, ◌≤◌, [], map, IfOk};
-ghost use Rattle.ca_term.specs.declared.bounds.TheConstants.{MOST_ELEMENTS};
-ghost use Rattle.ca_cmd.specs.File.{commands_in};
+//! The answers of clients, as text.
+ghost use Rattle.std.specs.Prelude.{◌≡◌, ◌++◌, map, OnOk};
+ghost use Rattle.ca_cmd.specs.Answers.{answers_of};
 ghost use Rattle.ca_cmd.specs.Lines.{numbered};
-ghost use Rattle.ca_cli.specs.Headline.{IsAnswer, AllAreReplies};
-ghost use Rattle.ca_cli.specs.InTurn.{run_in_turn};
+ghost use Rattle.ca_cmd.specs.Output.{answer_lines, client_lines, table_text, text_of_run};
+ghost use Rattle.ca_client.specs.Ran.{all_answers_of};
 
-use crate::play::play_all;
-use ca_cmd::{Lines, show_table};
-use ca_model::Plain;
-use ca_table::{Table, objects};
-use std::alloc::{AllocError, Global};
+use ca_cmd::{Answer, Answers, Line, Lines, show_answer, show_client, show_table};
+use ca_term::Term;
+use std::alloc::AllocError;
 
-/// What is printed for the lines of files: the answers to their commands, a file a client, and the table. Element number
-/// `keypos` of an object, counted from 1, is its key.
-#[tactic(auto, using(crate::proofs::InTurn::all_replies))]
-pub fn answer(alloc: Global, keypos: u32, files: &[Lines]) -> Result<Vec<u8>, AllocError>
-    requires { (1 ≤ keypos) × (keypos ≤ MOST_ELEMENTS) }
-    ensures answer { let run = run_in_turn keypos [] (map commands_in (map numbered files.now)) in
-        IfOk result (λ bytes. IsAnswer keypos (map numbered files.now) run.answers run.table bytes.items) }
-    ensures unrefused { AllAreReplies (run_in_turn keypos [] (map commands_in (map numbered files.now))).answers }
+// Appends the lines of a client's answers.
+fn put_answers(lines: &[Line], answers: &[Answer], into: &mut Vec<u8>) -> Result<(), AllocError>
+    ensures { OnOk result (into.new.items ≡ into.old.items ++ answer_lines (numbered lines.now) (answers_of answers.now)) }
 {
-    let mut table = Table::new(Plain::new(alloc, keypos), keypos);
-    let mut bytes = Vec::new(alloc);
-    play_all(alloc, &mut table, files, &mut bytes)?;
-    let objects = objects(alloc, &table.into_store())?;
-    show_table(objects.as_slice(), &mut bytes)?;
-    Ok(bytes)
+    let mut rest = answers;
+    for line in lines {
+        let [answer, behind @ ..] = rest else {
+            return Ok(());
+        };
+        show_answer(line.number, answer, into)?;
+        rest = behind;
+    }
+    Ok(())
+}
+
+// Appends each client's answers.
+fn put_clients(files: &[Lines], all: &[Answers], into: &mut Vec<u8>) -> Result<(), AllocError>
+    ensures { OnOk result (into.new.items ≡ into.old.items ++ client_lines 1 (map numbered files.now) (all_answers_of all.now)) }
+{
+    let mut rest = all;
+    for (i, lines) in files.iter().enumerate() {
+        let [answers, behind @ ..] = rest else {
+            return Ok(());
+        };
+        show_client(i as u64 + 1, into)?;
+        put_answers(lines.as_slice(), answers.as_slice(), into)?;
+        rest = behind;
+    }
+    Ok(())
+}
+
+/// Appends what is printed of clients' answers to their lines, and of a table.
+pub fn put_run(
+    files: &[Lines],
+    all: &[Answers],
+    table: &[Term],
+    into: &mut Vec<u8>,
+) -> Result<(), AllocError>
+    ensures { OnOk result (into.new.items ≡ into.old.items ++ text_of_run (map numbered files.now) (all_answers_of all.now) table.now) }
+{
+    put_clients(files, all, into)?;
+    show_table(table, into)
 }

@@ -6,7 +6,7 @@ use crate::files::MOST_BYTES;
 use crate::status::Status;
 use ca_cmd::{FileFault, LineWhy, read_file};
 use ca_outside::{DirShelf, Shelf};
-use ca_words::{Request, fault_in, request_of};
+use ca_words::{Request, command_line_of, fault_in};
 use std::alloc::{AllocError, Global};
 use std::io::Read;
 use std::{env, fs, io};
@@ -18,12 +18,21 @@ const MOST_BEHIND: usize = 40;
 
 // What follows the fault of a command line.
 const OPTIONS: &str = "
-usage: ca run [--keypos N] [--] FILE...
-       ca run --seed S --clients C --lines L
+usage: ca run [--keypos N] [TREE] [--] FILE...
+       ca run --seed S --clients C --lines L [TREE]
   --keypos N   which element of an object is its key: 1 to 120, and 1 without it
   --seed S     the number from which commands are made: 0 to 2147483647
   --clients C  how many clients have commands made: 1 to 64
   --lines L    how many commands each client has: 1 to 20000
+TREE, what is said of the tree that the clients share:
+  --rows N     how many rows it has: 384 to 16777215, and enough for the commands without it
+  --levels N   at which level no base is split any more: 0 to 4096, and 4096 without it
+  --leaf N     how many objects a base has at most: 2 to 120, and 64 without it
+  --high N     above which statistic a base is split: 0 to 1000000, and 1000 without it
+  --low N      below which one, minus N, it is joined: 0 to 1000000, and 1000 without it
+  --calm N     what an update takes from the statistic: 0 to 1000000, and 1 without it
+  --heat N     what it adds: 0 to 1000000, and 0 without it
+  --shape      print how many bases were split and joined
 ";
 
 // Appends these bytes as text: a blank for a tab, `?` for any other control character and for each byte that is ill-formed.
@@ -181,12 +190,12 @@ fn name_at(names: &[String], number: u32) -> &str {
 
 // The name of the file of this number, counted from 1.
 fn name_of(alloc: Global, words: &[String], file: u32) -> &str {
-    let Ok(request) = request_of(alloc, words) else {
+    let Ok(Some(line)) = command_line_of(alloc, words) else {
         return "";
     };
-    match request {
-        Some(Request::Files { names, .. }) => name_at(names, file),
-        _ => "",
+    match line.request {
+        Request::Files { names, .. } => name_at(names, file),
+        Request::Generated { .. } => "",
     }
 }
 

@@ -5,11 +5,13 @@ ghost use Rattle.ca_outside.specs.Fetches.{fetched};
 ghost use Rattle.ca_outside.specs.Known.{Holds, HasRisen, Grows};
 ghost use Rattle.ca_cmd.specs.File.{Numbered, IsFileOf};
 ghost use Rattle.ca_cmd.specs.Lines.{numbered};
+ghost use Rattle.ca_words.specs.Grammar.{IsLineOf, Files};
+ghost use Rattle.ca_words.specs.declared.tree.TreeOptions.{TreeOptions};
+ghost use Rattle.ca_cli.specs.Accepted.{AreRead, most_bytes};
 ghost use Rattle.ca_cli.specs.Call.{change_of, call_of};
-ghost use Rattle.ca_cli.specs.Outcome.{most_bytes, AreRead, AreHeld, IsOutcomeInTurn};
+ghost use Rattle.ca_cli.specs.Causes.{IsCause};
+ghost use Rattle.ca_cli.specs.Complete.{AreHeld};
 ghost use Rattle.ca_cli.specs.Reading.{wanted_of, IsRead, IsFault};
-ghost use Rattle.ca_cli.specs.StatusText.{text_of_status};
-ghost use Rattle.ca_words.specs.Grammar.{IsLine, Files};
 
 use crate::status::Status;
 use ca_cmd::{FileFault, Lines, read_file};
@@ -69,13 +71,14 @@ pub fn read_all<F: Shelf>(
 ) -> Result<Vec<Lines>, Status>
     requires { length names.now ≤ 64 }
 
+    ensures read { IfOk result (λ all. AreRead (F.content shelf.old)
+        (change_of (F.fetches shelf.old) (F.fetches shelf.new) (F.faults shelf.old) (F.faults shelf.new))
+        (map string_bytes names.now) (map numbered all.items)) }
+
     // What each call comes to that asks for these files.
-    ensures read { IfOk result (λ all. (words : List (List ℕ)) (keypos : ℕ) → IsLine words (Files keypos (map string_bytes names.now)) → AreRead
-        (call_of words (F.content shelf.old) (change_of (F.fetches shelf.old) (F.fetches shelf.new) (F.faults shelf.old) (F.faults shelf.new)))
-        keypos (map string_bytes names.now) (map numbered all.items)) }
-    ensures refused { IfErr result (λ status. (words : List (List ℕ)) (keypos : ℕ) → IsLine words (Files keypos (map string_bytes names.now))
-        → IsOutcomeInTurn (call_of words (F.content shelf.old)
-        (change_of (F.fetches shelf.old) (F.fetches shelf.new) (F.faults shelf.old) (F.faults shelf.new))) status (text_of_status status)) }
+    ensures refused { IfErr result (λ status. (words : List (List ℕ)) (keypos : ℕ) (options : TreeOptions)
+        → IsLineOf words (Files keypos (map string_bytes names.now)) options → IsCause (call_of words (F.content shelf.old)
+        (change_of (F.fetches shelf.old) (F.fetches shelf.new) (F.faults shelf.old) (F.faults shelf.new))) status) }
     ensures complete { AreHeld (F.content shelf.old) (map string_bytes names.now) most_bytes → ¬ HasRisen (F.faults shelf.old) (F.faults shelf.new)
         → IfErr result (λ status. status ≡ Status.NoMemory) }
 

@@ -1,21 +1,26 @@
 //! `ca run [OPTIONS] [--] FILE...`: reads command files, runs their commands on one table that behaves as an `ordered_set` of Erlang's
-//! `ets`, a file a client, one client after the other, and prints every answer and the final table. `ca run --seed S --clients C --lines L`
-//! makes the commands itself, and prints a summary. Where a call ends early, standard error tells a person why.
+//! `ets`, a file a client and each client on a thread of its own, and prints every answer and the final table. `ca run --seed S --clients C
+//! --lines L` makes the commands itself, and prints a summary. Where a call ends early, standard error tells a person why.
 #![tactic(auto)]
 
 ghost use Rattle.std.specs.Prelude.{◌≡◌, IfErr};
 
 mod answer;
+#[cfg(test)]
+mod calls;
 mod explain;
 mod files;
+mod lines;
 mod message;
 mod opening;
-mod play;
+mod printed;
+mod progress;
 mod status;
 mod summary;
 mod top;
 
 use crate::explain::tell;
+use crate::progress::Progress;
 use crate::status::{Status, finish};
 use crate::top::run;
 use ca_outside::{DirShelf, OutSink};
@@ -46,7 +51,17 @@ fn main(rt: HostRuntime) -> ExitCode {
         Ok(words) => {
             let mut shelf = DirShelf::new(rt.alloc(), &rt);
             let mut sink = OutSink::new(io::writer(&rt));
-            let status = run(rt.alloc(), words.as_slice(), &mut shelf, &mut sink);
+            let gate = Progress::new(&rt);
+            let mut ran = None;
+            let status = run(
+                &rt,
+                rt.alloc(),
+                words.as_slice(),
+                &mut shelf,
+                &mut sink,
+                &gate,
+                &mut ran,
+            );
             tell(&rt, words.as_slice(), status);
             status
         }

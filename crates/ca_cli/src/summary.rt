@@ -1,20 +1,14 @@
-//! Runs of lines that are made from a seed, and what is printed of them.
-ghost use Rattle.std.specs.Prelude.{◌≡◌, ◌++◌, [], map, IfOk, OnOk};
-ghost use Rattle.ca_cmd.specs.File.{commands_in};
-ghost use Rattle.ca_cli.specs.Headline.{AllAreReplies};
-ghost use Rattle.ca_cli.specs.InTurn.{run_in_turn};
-ghost use Rattle.ca_cli.specs.Summary.{IsSummary, clients_from, generated_line, integer_of, number_line, second_in, second_of, sum_line, sum_of, summary_text};
+//! What is printed of runs of lines that are made from a seed.
+ghost use Rattle.std.specs.Prelude.{◌≡◌, [], ◌∷◌, ◌++◌, codes, sum_by, OnOk};
+ghost use Rattle.ca_cmd.specs.Answers.{answer_of, answers_of};
+ghost use Rattle.ca_client.specs.Ran.{all_answers_of};
+ghost use Rattle.ca_cli.specs.Summary.{generated_line, integer_of, number_line, refusals, second_in, second_of, sum_line, sum_of, summary_text};
 
-use crate::play::play_made;
-use ca_model::Plain;
-use ca_table::{Table, objects};
+use ca_cmd::{Answer, Answers};
 use ca_term::{Kind, Term};
 use ca_text::{put, put_number};
 use itoa::Buffer;
-use std::alloc::{AllocError, Global};
-
-// Which element of a generated object is its key, counted from 1.
-const KEYPOS: u32 = 1;
+use std::alloc::AllocError;
 
 // The integer that a term is, else 0.
 fn integer(term: &Term) -> i64
@@ -56,6 +50,38 @@ fn sum(table: &[Term]) -> i128
     sum
 }
 
+// 1 where a command was refused, else 0.
+fn refusal(answer: &Answer) -> u64
+    ensures { result ≡ refusals (answer_of answer.now ∷ []) }
+{
+    match answer {
+        Answer::Replied(_) => 0,
+        Answer::Full | Answer::Deep | Answer::Worn => 1,
+    }
+}
+
+// How many of a client's commands were refused.
+fn refusals(answers: &[Answer]) -> u64
+    ensures { result ≡ refusals (answers_of answers.now) }
+{
+    let mut count = 0;
+    for answer in answers {
+        count += refusal(answer);
+    }
+    count
+}
+
+// How many commands were refused. A client has fewer than 2^63 answers, and there are fewer than 2^63 clients.
+fn all_refusals(all: &[Answers]) -> u128
+    ensures { result ≡ sum_by refusals (all_answers_of all.now) }
+{
+    let mut count = 0;
+    for answers in all {
+        count += u128::from(refusals(answers.as_slice()));
+    }
+    count
+}
+
 fn put_generated(clients: u32, lines: u32, into: &mut Vec<u8>) -> Result<(), AllocError>
     ensures { OnOk result (into.new.items ≡ into.old.items ++ generated_line clients lines) }
 {
@@ -64,11 +90,20 @@ fn put_generated(clients: u32, lines: u32, into: &mut Vec<u8>) -> Result<(), All
     put_number_line(b" ", u64::from(lines), into)
 }
 
-fn put_number_line(name: &[u8], n: u64, into: &mut Vec<u8>) -> Result<(), AllocError>
+/// Appends a text and a number, up to the end of the line.
+pub fn put_number_line(name: &[u8], n: u64, into: &mut Vec<u8>) -> Result<(), AllocError>
     ensures { OnOk result (into.new.items ≡ into.old.items ++ number_line name.now n) }
 {
     put(name, into)?;
     put_number(n, into)?;
+    put(b"\n", into)
+}
+
+fn put_refused(all: &[Answers], into: &mut Vec<u8>) -> Result<(), AllocError>
+    ensures { OnOk result (into.new.items ≡ into.old.items ++ number_line (codes "refused ") (sum_by refusals (all_answers_of all.now))) }
+{
+    put(b"refused ", into)?;
+    put(Buffer::new().format(all_refusals(all)).as_bytes(), into)?;
     put(b"\n", into)
 }
 
@@ -80,33 +115,20 @@ fn put_sum(sum: i128, into: &mut Vec<u8>) -> Result<(), AllocError>
     put(b"\n", into)
 }
 
-// Appends the summary of a table that so many clients left with so many lines each, and of how many commands were refused.
-fn put_summary(
+/// Appends the summary of clients' answers and of a table, where so many clients had so many lines each: how many commands were refused, how many objects
+/// there are, and the sum of their second elements.
+pub fn put_summary(
     clients: u32,
     lines: u32,
-    refused: u64,
+    all: &[Answers],
     table: &[Term],
     into: &mut Vec<u8>,
 ) -> Result<(), AllocError>
-    ensures { OnOk result (into.new.items ≡ into.old.items ++ summary_text clients lines refused table.now) }
+    ensures { OnOk result (into.new.items
+        ≡ into.old.items ++ summary_text clients lines (sum_by refusals (all_answers_of all.now)) table.now) }
 {
     put_generated(clients, lines, into)?;
-    put_number_line(b"refused ", refused, into)?;
+    put_refused(all, into)?;
     put_number_line(b"end ", table.len() as u64, into)?;
     put_sum(sum(table), into)
-}
-
-/// What is printed for lines that are made from a seed: so many for each of so many clients, which play in turn on an empty table. It is a
-/// summary of the table, which has the first element of an object as its key. No command is refused.
-pub fn summary(alloc: Global, seed: u32, clients: u32, lines: u32) -> Result<Vec<u8>, AllocError>
-    ensures summary { let run = run_in_turn 1 [] (map commands_in (clients_from seed lines 1 clients)) in
-        IfOk result (λ bytes. IsSummary seed clients lines run.answers run.table bytes.items) }
-    ensures unrefused { AllAreReplies (run_in_turn 1 [] (map commands_in (clients_from seed lines 1 clients))).answers }
-{
-    let mut table = Table::new(Plain::new(alloc, KEYPOS), KEYPOS);
-    play_made(alloc, &mut table, seed, clients, lines)?;
-    let objects = objects(alloc, &table.into_store())?;
-    let mut bytes = Vec::new(alloc);
-    put_summary(clients, lines, 0, objects.as_slice(), &mut bytes)?;
-    Ok(bytes)
 }

@@ -1,25 +1,48 @@
 //! The top call.
-ghost use Rattle.std.specs.Prelude.{◌≡◌, ◌≤◌, ◌⊎◌, ℕ, List, [], length, map, IsSome, IfOk, IfErr, IsErrOf};
+ghost use Rattle.std.specs.Prelude.{◌≡◌, ◌≤◌, ◌⊎◌, ℕ, List, [], length, map, None, IsSome, IfOk, IfErr, IsErrOf};
 ghost use Rattle.std.specs.String.{string_bytes};
 ghost use Rattle.ca_outside.specs.Known.{HasRisen};
 ghost use Rattle.ca_term.specs.Tree.{Tree};
 ghost use Rattle.ca_ets.specs.Command.{Answer};
-ghost use Rattle.ca_term.specs.declared.bounds.TheConstants.{MOST_ELEMENTS};
-ghost use Rattle.ca_words.specs.Grammar.{IsLine, Files, Generated};
-ghost use Rattle.ca_cli.specs.Call.{Adds, Asks, Call, change_of, call_of};
-ghost use Rattle.ca_cli.specs.Headline.{AllAreReplies};
-ghost use Rattle.ca_cli.specs.Outcome.{AreHeld, IsOutcomeInTurn, IsWellFormed, IsDoneOrWant, most_bytes};
+ghost use Rattle.ca_cmd.specs.Lines.{numbered};
+ghost use Rattle.ca_words.specs.Grammar.{IsBounded, IsWithin};
+ghost use Rattle.ca_words.specs.Words.{request_in};
+ghost use Rattle.ca_cli.specs.Call.{change_of, call_of};
+ghost use Rattle.ca_cli.specs.Causes.{IsCause};
+ghost use Rattle.ca_cli.specs.Complete.{IsWellFormed, IsDoneOrWant};
+ghost use Rattle.ca_cli.specs.Headline.{Prints};
+ghost use Rattle.ca_cli.specs.Kept.{IsKept};
+ghost use Rattle.ca_cli.specs.Run.{HasPlayed, IsRunOf, text_of_ran};
 ghost use Rattle.ca_cli.specs.StatusText.{text_of_status};
-ghost use Rattle.ca_cli.specs.Written.{HasRun, Prints, IsFaultless};
+ghost use Rattle.ca_cli.specs.Written.{HasLeft, IsOutcome, IsFaultless};
 
-use crate::answer::answer;
-use crate::files::read_all;
+use crate::lines::lines_of;
 use crate::message::message;
+use crate::opening::open_tree;
+use crate::printed::{keypos_of, printed};
 use crate::status::Status;
-use crate::summary::summary;
+use ca_client::{Gate, Ran, run_clients};
+use ca_cmd::Lines;
 use ca_outside::{Shelf, Sink, write_out};
-use ca_words::{Request, request_of};
-use std::alloc::Global;
+use ca_words::{CommandLine, command_line_of};
+use std::alloc::{AllocError, Global};
+use std::sync::Wait;
+use std::thread::Threads;
+
+// A run of clients, and the bytes that tell of it.
+#[derive(Drop)]
+struct Report {
+    ran: Ran,
+    bytes: Vec<u8>,
+}
+
+// What a call comes to before anything is written.
+#[derive(Drop)]
+struct End {
+    status: Status,
+    bytes: Vec<u8>,
+    ran: Option<Ran>,
+}
 
 // A status with its message, or want of memory.
 fn told(alloc: Global, status: Status) -> (Status, Vec<u8>)
@@ -31,109 +54,119 @@ fn told(alloc: Global, status: Status) -> (Status, Vec<u8>)
     }
 }
 
-// The whole output for files of these names, or how the call ends early.
-fn output_of_files<F: Shelf>(
+// Clients with these lines play on a tree that is opened for them as the command line says.
+fn play<R: Threads + Wait + Sync, G: Gate + Sync>(
+    rt: &R,
     alloc: Global,
-    keypos: u32,
-    names: &[String],
+    line: CommandLine<'_>,
+    files: &[Lines],
+    gate: &G,
+) -> Result<Report, AllocError>
+    requires bounds { IsBounded (request_in line.request) }
+    requires options { IsWithin line.tree }
+    requires clients { (1 ≤ length files.now) × (length files.now ≤ 64) }
+    ensures run { IfOk result (λ report. IsRunOf (request_in line.entry.request) line.entry.tree (map numbered files.now) report.ran) }
+    ensures bytes { IfOk result (λ report. report.bytes.items
+        ≡ text_of_ran (request_in line.entry.request) line.entry.tree (map numbered files.now) report.ran) }
+{
+    let keypos = keypos_of(line.request);
+    let tree = open_tree(alloc, keypos, line.tree, files)?;
+    let ran = run_clients(rt, alloc, tree, files, keypos, gate)?;
+    let bytes = printed(alloc, line, files, &ran)?;
+    Ok(Report { ran, bytes })
+}
+
+// The run of what the words ask for, or how the call ends early.
+fn played<R: Threads + Wait + Sync, F: Shelf, G: Gate + Sync>(
+    rt: &R,
+    alloc: Global,
+    words: &[String],
     shelf: &mut F,
-) -> Result<Vec<u8>, Status>
-    requires { (1 ≤ keypos) × (keypos ≤ MOST_ELEMENTS) × (length names.now ≤ 64) }
-    ensures output { IfOk result (λ bytes. (words : List (List ℕ)) → IsLine words (Files keypos (map string_bytes names.now)) → IsOutcomeInTurn
-        (call_of words (F.content shelf.old) (change_of (F.fetches shelf.old) (F.fetches shelf.new) (F.faults shelf.old) (F.faults shelf.new)))
-        Status.Done bytes.items) }
-    ensures early { IfErr result (λ status. (words : List (List ℕ)) → IsLine words (Files keypos (map string_bytes names.now)) → IsOutcomeInTurn
-        (call_of words (F.content shelf.old) (change_of (F.fetches shelf.old) (F.fetches shelf.new) (F.faults shelf.old) (F.faults shelf.new)))
-        status (text_of_status status)) }
-    ensures complete { AreHeld (F.content shelf.old) (map string_bytes names.now) most_bytes → ¬ HasRisen (F.faults shelf.old) (F.faults shelf.new)
-        → IfErr result (λ status. status ≡ Status.NoMemory) }
-    ensures told { ¬ IsErrOf result Status.NoMemory → IsSome (F.fetches shelf.old) → IsSome (F.fetches shelf.new) }
-    ensures later { F.faults shelf.old ≤ F.faults shelf.new }
-{
-    let files = read_all(alloc, shelf, names)?;
-    let Ok(bytes) = answer(alloc, keypos, files.as_slice()) else {
-        return Err(Status::NoMemory);
-    };
-    Ok(bytes)
-}
-
-// The whole output for lines that are made from a seed, or want of memory.
-fn output_of_seed(alloc: Global, seed: u32, clients: u32, lines: u32) -> Result<Vec<u8>, Status>
-    ensures output { IfOk result (λ bytes. (call : Call) → Asks call (Generated seed clients lines) → Adds call.shelf []
-        → IsOutcomeInTurn call Status.Done bytes.items) }
-    ensures want { IfErr result (λ status. status ≡ Status.NoMemory) }
-{
-    match summary(alloc, seed, clients, lines) {
-        Ok(bytes) => Ok(bytes),
-        Err(_) => Err(Status::NoMemory),
-    }
-}
-
-// The whole output of what the words ask for, or how the call ends early.
-fn output<F: Shelf>(alloc: Global, words: &[String], shelf: &mut F) -> Result<Vec<u8>, Status>
-    ensures output { let call = call_of (map string_bytes words.now) (F.content shelf.old)
+    gate: &G,
+) -> Result<Report, Status>
+    ensures played { let call = call_of (map string_bytes words.now) (F.content shelf.old)
         (change_of (F.fetches shelf.old) (F.fetches shelf.new) (F.faults shelf.old) (F.faults shelf.new)) in
-        IfOk result (λ bytes. IsOutcomeInTurn call Status.Done bytes.items) }
+        IfOk result (λ report. HasPlayed call report.ran report.bytes.items) }
     ensures early { let call = call_of (map string_bytes words.now) (F.content shelf.old)
         (change_of (F.fetches shelf.old) (F.fetches shelf.new) (F.faults shelf.old) (F.faults shelf.new)) in
-        IfErr result (λ status. IsOutcomeInTurn call status (text_of_status status)) }
+        IfErr result (λ status. IsCause call status) }
     ensures complete { let call = call_of (map string_bytes words.now) (F.content shelf.old)
         (change_of (F.fetches shelf.old) (F.fetches shelf.new) (F.faults shelf.old) (F.faults shelf.new)) in
         IsWellFormed call → ¬ HasRisen (F.faults shelf.old) (F.faults shelf.new) → IfErr result (λ status. status ≡ Status.NoMemory) }
     ensures told { ¬ IsErrOf result Status.NoMemory → IsSome (F.fetches shelf.old) → IsSome (F.fetches shelf.new) }
     ensures later { F.faults shelf.old ≤ F.faults shelf.new }
 {
-    let Ok(request) = request_of(alloc, words) else {
+    let Ok(line) = command_line_of(alloc, words) else {
         return Err(Status::NoMemory);
     };
-    match request {
-        None => Err(Status::Usage),
-        Some(Request::Files { keypos, names }) => output_of_files(alloc, keypos, names, shelf),
-        Some(
-            Request::Generated {
-                seed,
-                clients,
-                lines,
-            },
-        ) => output_of_seed(alloc, seed, clients, lines),
-    }
+    let Some(line) = line else {
+        return Err(Status::Usage);
+    };
+    let files = lines_of(alloc, line.request, shelf)?;
+    let Ok(report) = play(rt, alloc, line, files.as_slice(), gate) else {
+        return Err(Status::NoMemory);
+    };
+    Ok(report)
 }
 
-// What the call comes to, before anything is written: the status, and the bytes that go with it.
-fn outcome<F: Shelf>(alloc: Global, words: &[String], shelf: &mut F) -> (Status, Vec<u8>)
-    ensures outcome { IsOutcomeInTurn
+// What the call comes to, before anything is written.
+fn outcome<R: Threads + Wait + Sync, F: Shelf, G: Gate + Sync>(
+    rt: &R,
+    alloc: Global,
+    words: &[String],
+    shelf: &mut F,
+    gate: &G,
+) -> End
+    ensures outcome { IsOutcome
         (call_of (map string_bytes words.now) (F.content shelf.old)
         (change_of (F.fetches shelf.old) (F.fetches shelf.new) (F.faults shelf.old) (F.faults shelf.new)))
-        result.0 result.1.items }
+        result.ran result.status result.bytes.items }
     ensures complete { let call = call_of (map string_bytes words.now) (F.content shelf.old)
         (change_of (F.fetches shelf.old) (F.fetches shelf.new) (F.faults shelf.old) (F.faults shelf.new)) in
-        IsWellFormed call → ¬ HasRisen (F.faults shelf.old) (F.faults shelf.new) → IsDoneOrWant result.0 }
-    ensures told { ¬ (result.0 ≡ Status.NoMemory) → IsSome (F.fetches shelf.old) → IsSome (F.fetches shelf.new) }
+        IsWellFormed call → ¬ HasRisen (F.faults shelf.old) (F.faults shelf.new) → IsDoneOrWant result.status }
+    ensures told { ¬ (result.status ≡ Status.NoMemory) → IsSome (F.fetches shelf.old) → IsSome (F.fetches shelf.new) }
     ensures later { F.faults shelf.old ≤ F.faults shelf.new }
 {
-    match output(alloc, words, shelf) {
-        Ok(bytes) => (Status::Done, bytes),
-        Err(status) => told(alloc, status),
+    match played(rt, alloc, words, shelf, gate) {
+        Ok(Report { ran, bytes }) => End {
+            status: Status::Done,
+            bytes,
+            ran: Some(ran),
+        },
+        Err(status) => {
+            let (status, bytes) = told(alloc, status);
+            End {
+                status,
+                bytes,
+                ran: None,
+            }
+        }
     }
 }
 
-/// Reads the files that the words name, gives their commands to an empty table, all of the first file's, then all of the
-/// second's, and so on, and writes every answer and the final table. `words` are the words after the program's name. All
-/// files are read before the first command is given. Where the words ask for lines that are made from a seed, these take the place of the
-/// files', and a summary is written.
+/// Reads the files that the words name, plays their commands on one empty table, a file a client and each client on a thread of its own, and writes every
+/// answer and the final table. `words` are the words after the program's name. All files are read before anybody plays. Where the words ask for lines
+/// that are made from a seed, these take the place of the files', and a summary is written. With `--shape` it is written too how many bases of the table's
+/// tree were split and joined. The gate is told of each line as it is played.
 ///
-/// The whole output is made before its first byte is written, so without memory nothing is written.
-pub fn run<F: Shelf, S: Sink>(
+/// The whole output is made before its first byte is written, so without memory nothing is written. What the clients' run came to is put into `ran`, also
+/// where the output can't be written.
+pub fn run<R: Threads + Wait + Sync, F: Shelf, S: Sink, G: Gate + Sync>(
+    rt: &R,
     alloc: Global,
     words: &[String],
     shelf: &mut F,
     sink: &mut S,
+    gate: &G,
+    ran: &mut Option<Ran>,
 ) -> Status
+    requires { ran.old ≡ None }
+
     // The cause of each status, the fetches that were made, the bytes that go with it, and which of them the sink took.
     ensures run { let call = call_of (map string_bytes words.now) (F.content shelf.old)
         (change_of (F.fetches shelf.old) (F.fetches shelf.new) (F.faults shelf.old) (F.faults shelf.new)) in
         let output = change_of (S.taken sink.old) (S.taken sink.new) (S.faults sink.old) (S.faults sink.new) in
-        (status : Status) × (bytes : List ℕ) × HasRun call output result status bytes }
+        (status : Status) × (bytes : List ℕ) × HasLeft call output ran.new result status bytes }
 
     // The headline: where the status is `Done`, the answers and the table are those of one thread.
     ensures headline { let call = call_of (map string_bytes words.now) (F.content shelf.old)
@@ -142,12 +175,11 @@ pub fn run<F: Shelf, S: Sink>(
         result ≡ Status.Done → (answers : List (List Answer)) × (table : List Tree) × (bytes : List ℕ)
         × Prints call output answers table bytes }
 
-    // No command was refused.
-    ensures unrefused { let call = call_of (map string_bytes words.now) (F.content shelf.old)
+    // The run of the clients that was printed is kept.
+    ensures ran { let call = call_of (map string_bytes words.now) (F.content shelf.old)
         (change_of (F.fetches shelf.old) (F.fetches shelf.new) (F.faults shelf.old) (F.faults shelf.new)) in
         let output = change_of (S.taken sink.old) (S.taken sink.new) (S.faults sink.old) (S.faults sink.new) in
-        result ≡ Status.Done → (answers : List (List Answer)) × (table : List Tree) × (bytes : List ℕ)
-        × Prints call output answers table bytes × AllAreReplies answers }
+        IsKept call output result ran.new }
 
     // Right words, files of the form within the limit and no fault give the answers, or want of memory.
     ensures complete { let call = call_of (map string_bytes words.now) (F.content shelf.old)
@@ -161,9 +193,10 @@ pub fn run<F: Shelf, S: Sink>(
     ensures shelf_later { F.faults shelf.old ≤ F.faults shelf.new }
     ensures sink_later { S.faults sink.old ≤ S.faults sink.new }
 {
-    let (status, bytes) = outcome(alloc, words, shelf);
-    match write_out(sink, bytes.as_slice()) {
-        Ok(()) => status,
+    let end = outcome(rt, alloc, words, shelf, gate);
+    *ran = end.ran;
+    match write_out(sink, end.bytes.as_slice()) {
+        Ok(()) => end.status,
         Err(_) => Status::SinkFault,
     }
 }

@@ -1,4 +1,7 @@
 pub mod Commands
 pub mod Crossing
+pub mod Logs
 pub mod Refusals
+pub mod Shares
+pub mod Sharing
 pub mod Trying

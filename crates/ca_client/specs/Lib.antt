@@ -1,3 +1,5 @@
 pub mod Clients
 pub mod Tries
 pub mod Played
+pub mod Ran
+pub mod Sharing

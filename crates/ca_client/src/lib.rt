@@ -4,11 +4,14 @@
 mod clients;
 mod gate;
 mod laws;
+mod listing;
 mod playing;
 mod rendezvous;
+mod running;
 
 pub use clients::{Client, play_all};
 pub use gate::{Gate, OpenGate};
 pub use laws::{lines_are_shared, logs_are_parts};
 pub use playing::play;
 pub use rendezvous::Rendezvous;
+pub use running::{Ran, run_clients};

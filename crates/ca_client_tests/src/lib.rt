@@ -10,3 +10,5 @@ mod gates;
 mod meeting;
 #[cfg(test)]
 mod refusals;
+#[cfg(test)]
+mod sharing;

@@ -14,6 +14,6 @@ mod table;
 mod update;
 
 pub use laws::{sure_and_alone_is_done, sure_and_alone_is_done_from, tables_cross};
-pub use listing::objects;
+pub use listing::{objects, term_of};
 pub use outcome::Played;
 pub use table::Table;

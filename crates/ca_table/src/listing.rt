@@ -25,8 +25,8 @@ pub fn objects(alloc: Global, store: &Plain) -> Result<Terms, AllocError>
     Ok(objects)
 }
 
-// The term that these bytes are the code of.
-pub(crate) fn term_of(alloc: Global, code: &[u8]) -> Result<Term, AllocError>
+/// The term that these bytes are the code of. `Err` where memory wasn't found.
+pub fn term_of(alloc: Global, code: &[u8]) -> Result<Term, AllocError>
     requires { IsTermCode code.now }
     ensures code { IfOk result (λ term. code.now ≡ code_of term) }
     ensures bounded { IfOk result (λ term. IsTerm term) }

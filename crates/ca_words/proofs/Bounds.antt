@@ -1,7 +1,7 @@
 -- What the command lines bound.
 use Rattle.std.proofs.Common.{◌≡◌, ℕ, ◌≤◌, List, length, None, Some, inl, inr, arith, le_refl, subst, sym}
 use Rattle.std.specs.Prelude.{Option, ◌⊎◌}
-use Rattle.ca_words.specs.Grammar.{Request, Files, Generated, Values, AreOptions, least_of, most_of, NoOption, InOneWord, InTwoWords, WithoutValue, IsAsked, ForFiles, ForGenerated, IsGivenWithin, IsLine, IsLineOf, IsWithin, no_tree, no_values, value_named, with_named, WithoutParting, WithParting}
+use Rattle.ca_words.specs.Grammar.{Request, Files, Generated, Values, AreOptions, least_of, most_of, NoOption, InOneWord, InTwoWords, WithoutValue, IsAsked, IsBounded, ForFiles, ForGenerated, IsGivenWithin, IsLineOf, IsWithin, no_values, value_named, with_named, WithoutParting, WithParting}
 use Rattle.ca_words.specs.declared.tree.TreeOptions.{TreeOptions}
 use Rattle.ca_words.specs.declared.words.Name.{Name}
 use Rattle.ca_words.specs.declared.words.Name.TheVariants.{Keypos, Seed, Clients, Lines, Rows, Levels, Leaf, High, Low, Calm, Heat}
@@ -60,19 +60,11 @@ options_within _ _ _ (WithParting options names given request are asked) = tree_
 
 -- ---- what a line asks for
 
--- A request for files has a key place within its bounds, and 1 to 64 files.
-abbrev pub IsBounded : Request → Type 0
-IsBounded (Files keypos names) = (1 ≤ keypos) × (keypos ≤ 120) × (length names ≤ 64) × (1 ≤ length names)
-IsBounded (Generated seed clients count) = Unit {0}
-
 asked_within : (given : Values) (names : List (List ℕ)) (request : Request) → AreGivenWithin given → IsAsked given names request → IsBounded request
-asked_within _ _ _ within (ForFiles None tree names some few) = let most : 1 ≤ 120 = omega arith in (le_refl 1, most, few, some)
-asked_within _ _ _ within (ForFiles (Some n) tree names some few) = ((within Keypos).0, (within Keypos).1, few, some)
-asked_within _ _ _ within (ForGenerated keypos seed clients lines tree first) = tt
+asked_within _ _ _ within (ForFiles None tree names some few) = let most : 1 ≤ 120 = omega arith in (le_refl 1, most, some, few)
+asked_within _ _ _ within (ForFiles (Some n) tree names some few) = ((within Keypos).0, (within Keypos).1, some, few)
+asked_within _ _ _ within (ForGenerated keypos seed clients lines tree first) = within Clients
 
 pub request_within : (words : List (List ℕ)) (request : Request) (tree : TreeOptions) → IsLineOf words request tree → IsBounded request
 request_within _ _ _ (WithoutParting options names given request are plain asked) = asked_within given names request (are_within options given are) asked
 request_within _ _ _ (WithParting options names given request are asked) = asked_within given names request (are_within options given are) asked
-
-pub line_within : (words : List (List ℕ)) (request : Request) → IsLine words request → IsBounded request
-line_within words request line = request_within words request no_tree line

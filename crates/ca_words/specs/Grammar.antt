@@ -150,6 +150,11 @@ pub record IsWithin (tree : TreeOptions) : Type 0 where
   pub calm : IsGivenWithin Calm tree.calm
   pub heat : IsGivenWithin Heat tree.heat
 
+-- A request is for 1 to 64 clients, and its key place is within its bounds.
+abbrev pub IsBounded : Request → Type 0
+IsBounded (Files keypos names) = (1 ≤ keypos) × (keypos ≤ 120) × (1 ≤ length names) × (length names ≤ 64)
+IsBounded (Generated seed clients count) = (1 ≤ clients) × (clients ≤ 64)
+
 -- What values and file words ask for together: 1 to 64 files and no option but the key place, or no file and the three other options, and
 -- then the key place is 1 or isn't given.
 pub data IsAsked : Values → List (List ℕ) → Request → Type 0 where
@@ -171,7 +176,3 @@ pub data IsLineOf : List (List ℕ) → Request → TreeOptions → Type 0 where
       → IsAsked given names request → IsLineOf (codes "run" ∷ (options ++ names)) request given.tree
   WithParting : (options names : List (List ℕ)) (given : Values) (request : Request) → AreOptions options given
       → IsAsked given names request → IsLineOf (codes "run" ∷ (options ++ codes "--" ∷ names)) request given.tree
-
--- The same of a line that says nothing of the tree.
-abbrev pub IsLine : List (List ℕ) → Request → Type 0
-IsLine words request = IsLineOf words request no_tree

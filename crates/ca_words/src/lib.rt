@@ -8,4 +8,4 @@ mod words;
 
 pub use fault::fault_in;
 pub use tree::TreeOptions;
-pub use words::{CommandLine, Request, command_line_of, request_of};
+pub use words::{CommandLine, Request, command_line_of};

@@ -14,17 +14,3 @@ pub struct TreeOptions {
     pub heat: Option<u32>,
     pub shape: bool,
 }
-
-impl TreeOptions {
-    /// Nothing is said of the tree.
-    pub const NONE: TreeOptions = TreeOptions {
-        rows: None,
-        levels: None,
-        leaf: None,
-        high: None,
-        low: None,
-        calm: None,
-        heat: None,
-        shape: false,
-    };
-}

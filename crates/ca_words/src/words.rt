@@ -2,7 +2,7 @@
 ghost use Rattle.std.specs.Prelude.{◌≡◌, ◌≤◌, IfOk, IfSome, Some, false, length, map, not, option_map};
 ghost use Rattle.std.specs.List.{list_all};
 ghost use Rattle.std.specs.String.{string_bytes};
-ghost use Rattle.ca_words.specs.Grammar.{IsLine, IsLineOf, IsWithin, Request as Asked, are_undashed, begins_with_dash, no_tree};
+ghost use Rattle.ca_words.specs.Grammar.{IsBounded, IsLineOf, IsWithin, Request as Asked, are_undashed, begins_with_dash};
 ghost use Rattle.ca_words.specs.declared.tree.TreeOptions.{TreeOptions};
 ghost use Rattle.ca_words.specs.Words.{asking_in, has_equals, is_option, line_behind, line_of, line_with, names_in, options_end, request_in, request_with, texts_of};
 
@@ -185,30 +185,8 @@ pub fn command_line_of(
         → IsLineOf (map string_bytes words.now) request tree) }
     ensures complete { IfOk result (λ r. (request : Asked) (tree : TreeOptions) → IsLineOf (map string_bytes words.now) request tree
         → option_map asking_in r ≡ Some (request, tree)) }
+    ensures bounded { IfOk result (λ r. IfSome r (λ line. IsBounded (request_in line.request))) }
     ensures within { IfOk result (λ r. IfSome r (λ line. IsWithin line.tree)) }
 {
     read(alloc, words)
-}
-
-// The request of a line that says nothing of the tree.
-fn request_alone(line: CommandLine<'_>) -> Option<Request<'_>>
-    ensures alone { (request : Asked) → option_map request_in result ≡ Some request → asking_in line.entry ≡ (request, no_tree) }
-    ensures all { (request : Asked) → asking_in line.entry ≡ (request, no_tree) → option_map request_in result ≡ Some request }
-{
-    if line.tree == TreeOptions::NONE {
-        Some(line.request)
-    } else {
-        None
-    }
-}
-
-/// What the words after the program's name ask for, or `None` where they are no command line, or say something of the tree; `Err` where memory lacks.
-pub fn request_of(alloc: Global, words: &[String]) -> Result<Option<Request<'_>>, AllocError>
-    ensures sound { IfOk result (λ r. (request : Asked) → option_map request_in r ≡ Some request → IsLine (map string_bytes words.now) request) }
-    ensures complete { IfOk result (λ r. (request : Asked) → IsLine (map string_bytes words.now) request → option_map request_in r ≡ Some request) }
-{
-    match command_line_of(alloc, words)? {
-        Some(line) => Ok(request_alone(line)),
-        None => Ok(None),
-    }
 }

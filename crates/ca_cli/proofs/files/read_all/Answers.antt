@@ -5,7 +5,7 @@ use Rattle.std.specs.String.{string_bytes}
 use Rattle.ca_outside.proofs.Counts.{risen_since}
 use Rattle.ca_cmd.specs.Lines.{numbered}
 use Rattle.ca_cli.specs.Call.{change_of}
-use Rattle.ca_cli.proofs.Accepted.{first_held, held_on, reads_next, fault_outcome}
+use Rattle.ca_cli.proofs.Accepted.{first_held, held_on, reads_next, fault_cause}
 use Rattle.ca_cli.proofs.files.read_all.Goals as goal
 
 pub returns-in_err-lines-clause-refused : goal.returns-in_err-lines-clause-refused
@@ -17,8 +17,8 @@ returns-in_err-lines-clause-refused g c =
     (g.F.Shelf.faults c.read_one.new.shelf) in
     let fault = rw (c.loop-name.invariant.same c.as_str.result.now, c.as_str.ensures.value) at c.in_err-lines.ensures.refused in
     let p = err_from_is_err_and c.from_residual.result c.from_residual.ensures.1 in
-    rw (p.1, p.2) (λ words keypos asked. fault_outcome string_bytes names c.loop-name.name-index c.name-item.result within c.name-item.is content _ _ next refl _
-    c.loop-name.invariant.reading words keypos asked (c.loop-name.number + 1) c.in_err-lines.field-0.0 (omega (arith, c.loop-name.invariant.number))
+    rw (p.1, p.2) (λ words keypos options asked. fault_cause string_bytes names c.loop-name.name-index c.name-item.result within c.name-item.is content _ _ next refl _
+    c.loop-name.invariant.reading words keypos options asked (c.loop-name.number + 1) c.in_err-lines.field-0.0 (omega (arith, c.loop-name.invariant.number))
     c.loop-name.invariant.later fault)
 
 pub returns-in_err-lines-clause-complete : goal.returns-in_err-lines-clause-complete

@@ -3,7 +3,8 @@ use Rattle.std.specs.Prelude.{IsSome}
 use Rattle.std.specs.String.{string_bytes}
 use Rattle.ca_cmd.specs.Lines.{numbered}
 use Rattle.ca_cli.specs.Call.{change_of}
-use Rattle.ca_cli.specs.Outcome.{AreHeld, most_bytes}
+use Rattle.ca_cli.specs.Accepted.{most_bytes}
+use Rattle.ca_cli.specs.Complete.{AreHeld}
 use Rattle.ca_cli.proofs.Accepted.{IsReading}
 use Rattle.ca_cli.proofs.files.read_all.Given as goal
 

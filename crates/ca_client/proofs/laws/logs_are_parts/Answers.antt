@@ -1,17 +1,5 @@
-use Rattle.std.proofs.Common.{◌≡◌, ◌∙◌, List, [], sym, ap, Some, None}
-use Rattle.std.specs.Prelude.{Option}
-use Rattle.ca_model.specs.Event.{Entry}
-use Rattle.ca_model.specs.Known.{Seen, seen_with}
-use Rattle.ca_explain.specs.Clients.{log_of}
+use Rattle.ca_client.proofs.Logs.{log_of_parts}
 use Rattle.ca_client.proofs.laws.logs_are_parts.Goals as goal
 
--- the log that was seen
-log_in : Option Seen → List Entry
-log_in None = []
-log_in (Some seen) = seen.log
-
 pub returns : goal.returns
-unfolding log_in
-returns c = λ a b commands answers before behind log played first last.
-    let entries = log_of played.parts in
-    sym (ap log_in last) ∙ ap log_in played.grown.seen ∙ ap (λ (s : Option Seen). log_in (seen_with s played.learnt entries)) first
+returns c = log_of_parts

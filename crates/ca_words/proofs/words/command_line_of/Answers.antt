@@ -3,9 +3,9 @@ use Rattle.std.proofs.lemmas.Result.{IfOk-weaker}
 use Rattle.std.specs.Prelude.{IfSome}
 use Rattle.std.specs.String.{string_bytes}
 use Rattle.ca_words.specs.declared.words.CommandLine.{CommandLine}
-use Rattle.ca_words.specs.Grammar.{IsWithin}
-use Rattle.ca_words.specs.Words.{asking_in, line_of}
-use Rattle.ca_words.proofs.Bounds.{options_within}
+use Rattle.ca_words.specs.Grammar.{IsBounded, IsWithin}
+use Rattle.ca_words.specs.Words.{asking_in, line_of, request_in}
+use Rattle.ca_words.proofs.Bounds.{options_within, request_within}
 use Rattle.ca_words.proofs.Sound.{line_told}
 use Rattle.ca_words.proofs.Spelled.{line_read}
 use Rattle.ca_words.proofs.words.command_line_of.Goals as goal
@@ -22,3 +22,10 @@ within words (Some line) e = options_within words _ line.tree (line_told words _
 
 pub returns-clause-within : goal.returns-clause-within
 returns-clause-within c = IfOk-weaker c.read.result _ _ (λ r e. within (map string_bytes c.args.words.now) r e) c.read.ensures
+
+bounded : (words : List (List ℕ)) (r : Option CommandLine) → option_map asking_in r ≡ line_of words → IfSome r (λ line. IsBounded (request_in line.request))
+bounded words None e = tt
+bounded words (Some line) e = request_within words _ line.tree (line_told words _ line.tree (sym e))
+
+pub returns-clause-bounded : goal.returns-clause-bounded
+returns-clause-bounded c = IfOk-weaker c.read.result _ _ (λ r e. bounded (map string_bytes c.args.words.now) r e) c.read.ensures

@@ -1,0 +1,36 @@
+-- A run that was printed is explained.
+use Rattle.std.proofs.Common.{◌≡◌, ℕ, List, subst}
+use Rattle.std.specs.Prelude.{Option, None, Some}
+use Rattle.ca_term.specs.Tree.{Tree}
+use Rattle.ca_ets.specs.Command.{Answer}
+use Rattle.ca_explain.specs.Explaining.{merge_of}
+use Rattle.ca_client.specs.declared.running.Ran.{Ran}
+use Rattle.ca_cli.specs.Call.{Call, Change, Adds}
+use Rattle.ca_cli.specs.Causes.{IsCause}
+use Rattle.ca_cli.specs.Headline.{Prints}
+use Rattle.ca_cli.specs.Run.{HasPlayed}
+use Rattle.ca_cli.specs.Written.{IsOutcome}
+use Rattle.ca_cli.specs.declared.status.Status.{Status}
+use Rattle.ca_cli.specs.declared.status.Status.TheVariants.{Done}
+
+printed : (call : Call) (output : Change ℕ) (ran : Ran) (bytes : List ℕ) → HasPlayed call ran bytes → Adds output bytes
+    → (answers : List (List Answer)) × (table : List Tree) × (bytes : List ℕ) × Prints call output answers table bytes
+printed call output ran bytes h taken = (
+  _,
+  _,
+  bytes,
+  record {
+    accepted = h.accepted;
+    explained = (merge_of h.run.played.history h.run.played.clients, h.run.played.explained);
+    splits = ran.splits;
+    joins = ran.joins;
+    written = h.written;
+    taken = taken;
+  },
+)
+
+-- With `Done` there is a run, and the bytes tell of it.
+pub headline_whole : (call : Call) (output : Change ℕ) (ran : Option Ran) (status : Status) (bytes : List ℕ) → IsOutcome call ran status bytes
+    → Adds output bytes → status ≡ Done → (answers : List (List Answer)) × (table : List Tree) × (bytes : List ℕ) × Prints call output answers table bytes
+headline_whole call output (Some ran) status bytes h taken done = printed call output ran bytes h.1 taken
+headline_whole call output None status bytes h taken done = absurd (subst (IsCause call) done h.0)

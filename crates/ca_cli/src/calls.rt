@@ -1,0 +1,112 @@
+//! Tests of whole calls, on files and an output in memory.
+use crate::status::Status;
+use crate::top::run;
+use ca_client::{OpenGate, Rendezvous};
+use ca_outside::{SureDrawer, SureTape, Tape};
+use std::alloc::{AllocError, Global};
+use std::test::Fail;
+
+fn words_of(alloc: Global, words: &[&str]) -> Result<Vec<String>, AllocError> {
+    let mut texts = Vec::new(alloc);
+    for word in words {
+        texts.push(String::from_str(alloc, word)?)?;
+    }
+    Ok(texts)
+}
+
+// Files of these names, each with these commands.
+fn files_of(
+    alloc: Global,
+    names: &[&str],
+    commands: &str,
+) -> Result<Vec<(String, Vec<u8>)>, AllocError> {
+    let mut files = Vec::new(alloc);
+    for name in names {
+        let file = (
+            String::from_str(alloc, name)?,
+            Vec::from_slice(alloc, commands.as_bytes())?,
+        );
+        files.push(file)?;
+    }
+    Ok(files)
+}
+
+// The tree is one base, which holds two objects and can't be split.
+const SMALL: [&str; 7] = ["run", "--leaf", "2", "--levels", "0", "a", "b"];
+
+const MEETING: &str = "insert_new {1}\nmember 1\ninsert {2}\ninsert {3}\n";
+
+// What is printed where the clients' first commands are answered so.
+fn output_of(alloc: Global, one: &str, two: &str) -> Result<String, AllocError> {
+    let mut output = String::new(alloc);
+    for (client, first) in [(1, one), (2, two)] {
+        write!(
+            output,
+            "client {client}\n1 {first}\n2 true\n3 true\n4 refused deep\n"
+        )?;
+    }
+    output.push_str("table\n{1}.\n{2}.\nend 2\n")?;
+    Ok(output)
+}
+
+// Each client comes to its first line before the other one's is answered, and to its second line behind that. So one of them finds no object and the other
+// one does, each sees what the other one left, and the gate is told what is printed. Clients that play in turn don't meet.
+#[test]
+fn two_clients_meet(rt: HostRuntime) -> Result<(), Fail> {
+    let alloc = rt.alloc();
+    let words = words_of(alloc, SMALL.as_slice())?;
+    let mut shelf = SureDrawer::new(files_of(alloc, ["a", "b"].as_slice(), MEETING)?);
+    let mut sink = SureTape::new(alloc, 1_000)?;
+    let gate = Rendezvous::new();
+    let mut ran = None;
+    let status = run(
+        &rt,
+        alloc,
+        words.as_slice(),
+        &mut shelf,
+        &mut sink,
+        &gate,
+        &mut ran,
+    );
+    assert_eq!(rt; status, Status::Done);
+    assert!(rt; gate.met());
+    let wanted = match gate.told(1, 1) {
+        1 => output_of(alloc, "true", "false")?,
+        _ => output_of(alloc, "false", "true")?,
+    };
+    assert_eq!(rt; sink.taken(), wanted.as_bytes());
+    assert!(rt; matches!((gate.told(1, 1), gate.told(2, 1)), (1, 2) | (2, 1)));
+    for client in [1, 2] {
+        assert_eq!(rt; gate.told(client, 2), 1);
+        assert_eq!(rt; gate.told(client, 3), 1);
+        assert_eq!(rt; gate.told(client, 4), 3);
+    }
+    Ok(())
+}
+
+// The output takes nine bytes and fails then.
+#[test]
+fn the_run_is_kept_where_the_output_fails(rt: HostRuntime) -> Result<(), Fail> {
+    let alloc = rt.alloc();
+    let words = words_of(alloc, ["run", "a"].as_slice())?;
+    let mut shelf = SureDrawer::new(files_of(alloc, ["a"].as_slice(), "insert {1,a}\nlookup 1\n")?);
+    let mut sink = Tape::new(alloc, 9, 9, Vec::new(alloc))?;
+    let mut ran = None;
+    let status = run(
+        &rt,
+        alloc,
+        words.as_slice(),
+        &mut shelf,
+        &mut sink,
+        &OpenGate,
+        &mut ran,
+    );
+    assert_eq!(rt; status, Status::SinkFault);
+    assert_eq!(rt; sink.taken(), b"client 1\n".as_slice());
+    let kept = match &ran {
+        Some(ran) => (ran.answers.len(), ran.objects.len()),
+        None => (0, 0),
+    };
+    assert_eq!(rt; kept, (1, 1));
+    Ok(())
+}

@@ -1,0 +1,227 @@
+-- What clients that shared a tree come to, once the tree is closed.
+use Rattle.std.proofs.Common.{◌≡◌, ℕ, zero, suc, ◌+◌, ◌≤◌, ◌<◌, List, [], ◌∷◌, ◌++◌, length, map, take, get_or, drop, refl, sym, ◌∙◌, ap, subst, arith}
+use Rattle.std.specs.Prelude.{All}
+use Rattle.std.proofs.lemmas.List.{take_all}
+use Rattle.std.proofs.lemmas.List.Elements.{All-cons}
+use Rattle.std.proofs.Math.Seq.{take-append_seam}
+use Rattle.atomic_table.specs.Seated.{TableId}
+use Rattle.ca_term.specs.Tree.{Tree}
+use Rattle.ca_ets.specs.Command.{Command, Never, Answer as PlainAnswer}
+use Rattle.ca_ets.specs.Explained.{ExplainedBy}
+use Rattle.ca_cmd.specs.Answers.{answers_of}
+use Rattle.ca_cmd.specs.File.{commands_in}
+use Rattle.ca_cmd.specs.Lines.{numbered}
+use Rattle.ca_cmd.specs.declared.answer.Answer.{Answer}
+use Rattle.ca_cmd.specs.declared.line.Line.{Line}
+use Rattle.ca_model.specs.Event.{Entry}
+use Rattle.ca_model.specs.History.{History, state, after, AreByPasses}
+use Rattle.ca_model.specs.Known.{Known}
+use Rattle.ca_model.specs.Lawful.{IsLawful}
+use Rattle.ca_model.specs.StoreMap.{StoreMap, IsStoreMap}
+use Rattle.ca_model.proofs.Edits.{map_after}
+use Rattle.ca_node.specs.Links.{IsIn}
+use Rattle.ca_node.specs.TreePasses.{tree_of}
+use Rattle.ca_node.specs.TreeView.{TreeView, no_refusals}
+use Rattle.ca_replace.specs.Closing.{IsClosed}
+use Rattle.ca_replace.specs.Resting.{numbers_of}
+use Rattle.ca_rows.specs.Closed.{IsClosable}
+use Rattle.ca_rows.specs.declared.sizes.Sizes.{Sizes}
+use Rattle.ca_rows.specs.declared.space.Pass.{Pass}
+use Rattle.ca_explain.specs.Clients.{Client as Player, Part, log_of, Plays}
+use Rattle.ca_explain.specs.Explaining.{HaveLogs, client_of, merge_of, nobody}
+use Rattle.ca_explain.specs.Stands.{Stands}
+use Rattle.ca_explain.proofs.Explains.{explains}
+use Rattle.ca_client.specs.Clients.{IsBehind, HavePlayed}
+use Rattle.ca_client.specs.Played.{AreCounted, HasPlayed}
+use Rattle.ca_client.specs.Ran.{HasRun, IsPlayedBy, ArePlayedBy, all_answers_of, splits_of, joins_of}
+use Rattle.ca_client.specs.Sharing.{IsReady, AreReady, IsPart, AreParts, AreLeft}
+use Rattle.ca_client.specs.declared.clients.Client.{Client}
+use Rattle.ca_client.specs.declared.running.Parts.{Parts}
+use Rattle.ca_client.specs.declared.running.Ran.{Ran}
+use Rattle.ca_client.proofs.Logs.{log_of_parts}
+
+-- The numbers of a table tell it from all others.
+pub one_table : (a b : TableId) → numbers_of a ≡ numbers_of b → a ≡ b
+one_table a b e = λ i. record {
+  words = get_or (e i) 0 0;
+  slots = get_or (e i) 1 0;
+  views_name = get_or (e i) 2 0;
+  atom = get_or (e i) 3 0;
+  block = get_or (e i) 4 0;
+  offset = get_or (e i) 5 0;
+  slot_names = drop 6 (e i);
+}
+
+-- What a client's play on its pass comes to: it played these lines, by this pass, which is one of the table and isn't pinned.
+pub record IsShare {R : Type 0} (table : TableId) (z : Sizes) (number : ℕ) (file : List Line) (answers : List Answer) (pass : Pass R TreeView) : Type 0 where
+  pub parts : List Part
+  pub plays : Plays z.keypos Never (commands_in (numbered file)) (answers_of answers) parts
+  pub played : IsPlayedBy number (record { commands = commands_in (numbered file); answers = answers_of answers; parts = parts }) (tree_of pass)
+  pub closable : IsClosable table pass.seat
+
+module _ {R : Type 0} (table : TableId) (z : Sizes) where
+  -- So it is with clients, of which the first has this number.
+  abbrev pub AreShares : ℕ → List (List Line) → List (List Answer) → List (Pass R TreeView) → Type 0
+  AreShares first [] [] [] = Unit {0}
+  AreShares first (file ∷ files) (answers ∷ all) (pass ∷ passes) = IsShare table z first file answers pass × AreShares (suc first) files all passes
+  AreShares first files all passes = ⊥
+
+module _ {S R : Type 0} (table : TableId) (z : Sizes) where
+  module _ (number : ℕ) (file : List Line) (a b : Client S) (answers : List Answer) (pass : Pass R TreeView)
+      (ready : IsReady table z number file a) (behind : IsBehind a b) (part : IsPart b answers pass) where
+    play : HasPlayed a.table b.table (commands_in (numbered a.lines.now)) (answers_of answers)
+    play = behind.played answers part.answered
+
+    -- What a pass that was just made played is its client's share.
+    pub share : IsShare table z number file answers pass
+    unfolding play
+    share = record {
+      parts = play.parts;
+      plays = subst (λ (l : List Line). Plays z.keypos Never (commands_in (numbered l)) (answers_of answers) play.parts) ready.lines
+          (subst (λ (k : Known). Plays k.keypos Never (commands_in (numbered a.lines.now)) (answers_of answers) play.parts) ready.begins play.plays);
+      played = record {
+        number_is = sym (ap (λ (k : Known). k.pass) part.knows) ∙ play.grown.same.pass ∙ ap (λ (k : Known). k.pass) ready.begins;
+        log = log_of_parts a.table b.table (commands_in (numbered a.lines.now)) (answers_of answers) [] (tree_of pass).seen (tree_of pass).log play
+            (ap (λ (k : Known). k.seen) ready.begins) (ap (λ (k : Known). k.seen) part.knows);
+        counted = subst (λ (k : Known). AreCounted no_refusals k.counts (answers_of answers)) part.knows
+            (subst (λ (k : Known). AreCounted k.counts b.table.counts (answers_of answers)) ready.begins play.counted);
+      };
+      closable = (
+        one_table pass.seat.table_id table
+            (sym (ap (λ (k : Known). k.store) part.knows) ∙ play.grown.same.store ∙ ap (λ (k : Known). k.store) ready.begins),
+        part.unpinned,
+      );
+    }
+
+  -- What these played is their clients' shares.
+  pub shares : (first : ℕ) (files : List (List Line)) (olds news : List (Client S)) (all : List (List Answer)) (passes : List (Pass R TreeView))
+      → length news ≡ length olds → AreReady table z first files olds → HavePlayed olds news → AreParts news all passes → AreShares table z first files all passes
+  shares first [] [] [] [] [] e ready played parts = tt
+  shares first [] [] [] [] (p ∷ passes) e ready played parts = absurd parts
+  shares first [] [] [] (x ∷ all) passes e ready played parts = absurd parts
+  shares first [] [] (b ∷ news) all passes e ready played parts = absurd (omega (arith, e))
+  shares first [] (a ∷ olds) news all passes e ready played parts = absurd ready
+  shares first (f ∷ files) [] news all passes e ready played parts = absurd ready
+  shares first (f ∷ files) (a ∷ olds) [] all passes e ready played parts = absurd (omega (arith, e))
+  shares first (f ∷ files) (a ∷ olds) (b ∷ news) [] passes e ready played parts = absurd parts
+  shares first (f ∷ files) (a ∷ olds) (b ∷ news) (x ∷ all) [] e ready played parts = absurd parts
+  shares first (f ∷ files) (a ∷ olds) (b ∷ news) (x ∷ all) (p ∷ passes) e ready played parts = (
+    share first f a b x p ready.0 (played 0 a (omega arith)) parts.0,
+    shares (suc first) files olds news all passes (omega (arith, e)) ready.1 (λ i d l. played (suc i) d (omega (arith, l))) parts.1,
+  )
+
+-- The same of clients that were lent to be played, and came back.
+pub shares_left : {S : Type 0} (table : TableId) (z : Sizes) (files : List (List Line)) (n : ℕ) (olds lent news : List (Client S)) (parts : Parts)
+    → n ≡ length olds → lent ≡ olds → length news ≡ length lent → AreReady table z 1 files olds → HavePlayed lent news
+    → AreLeft (take n (news ++ drop (length news) olds)) parts → AreShares table z 1 files parts.answers.items parts.passes.items
+shares_left table z files n olds lent news parts many same all ready played left =
+    let count : length news ≡ length olds = all ∙ ap (λ cs. length cs) same in
+    let whole : take n (news ++ drop (length news) olds) ≡ news =
+    ap (λ (k : ℕ). take k (news ++ drop (length news) olds)) (many ∙ sym count) ∙ take-append_seam news (drop (length news) olds) in
+    shares table z 1 files olds news parts.answers.items parts.passes.items count ready (subst (λ cs. HavePlayed cs news) same played)
+    (subst (λ cs. AreParts cs parts.answers.items parts.passes.items) whole left.each)
+
+-- What a closed tree has is a map.
+pub closed_map : (keypos made : ℕ) (passes : List TreeView) (objects : StoreMap) → IsClosed keypos made passes objects → IsStoreMap keypos objects
+closed_map keypos made passes objects closed =
+    subst (λ (m : StoreMap). IsStoreMap keypos m) (sym closed.has) (map_after keypos closed.history [] closed.edits tt)
+
+-- Clients that played these files by these passes, with these answers.
+pub record ArePlayers (keypos first : ℕ) (files : List (List Line)) (all : List (List Answer)) (passes : List TreeView) : Type 0 where
+  pub clients : List Player
+  pub count : length clients ≡ length files
+  pub commands_are : map (λ (c : Player). c.commands) clients ≡ map commands_in (map numbered files)
+  pub answers_are : map (λ (c : Player). c.answers) clients ≡ all_answers_of all
+  pub played : ArePlayedBy first clients passes
+  pub plays : All (λ (c : Player). Plays keypos Never c.commands c.answers c.parts) clients
+
+module _ {R : Type 0} (table : TableId) (z : Sizes) where
+  -- The passes of such clients may be closed with the table.
+  pub closable : (first : ℕ) (files : List (List Line)) (all : List (List Answer)) (passes : List (Pass R TreeView))
+      → AreShares table z first files all passes → All (λ (pass : Pass R TreeView). IsClosable table pass.seat) passes
+  closable first [] [] [] shares = λ k d l. absurd (omega (arith, l))
+  closable first [] [] (p ∷ passes) shares = absurd shares
+  closable first [] (x ∷ all) passes shares = absurd shares
+  closable first (f ∷ files) [] passes shares = absurd shares
+  closable first (f ∷ files) (x ∷ all) [] shares = absurd shares
+  closable first (f ∷ files) (x ∷ all) (p ∷ passes) shares =
+      All-cons (λ (pass : Pass R TreeView). IsClosable table pass.seat) p passes shares.0.closable (closable (suc first) files all passes shares.1)
+
+  pub players : (first : ℕ) (files : List (List Line)) (all : List (List Answer)) (passes : List (Pass R TreeView))
+      → AreShares table z first files all passes → ArePlayers z.keypos first files all (map tree_of passes)
+  players first [] [] [] shares =
+      record { clients = []; count = refl; commands_are = refl; answers_are = refl; played = tt; plays = λ k d l. absurd (omega (arith, l)) }
+  players first [] [] (p ∷ passes) shares = absurd shares
+  players first [] (x ∷ all) passes shares = absurd shares
+  players first (f ∷ files) [] passes shares = absurd shares
+  players first (f ∷ files) (x ∷ all) [] shares = absurd shares
+  players first (f ∷ files) (x ∷ all) (p ∷ passes) shares =
+      let rest = players (suc first) files all passes shares.1 in
+      let player : Player = record { commands = commands_in (numbered f); answers = answers_of x; parts = shares.0.parts } in
+      record {
+        clients = player ∷ rest.clients;
+        count = ap (λ (n : ℕ). suc n) rest.count;
+        commands_are = ap (λ (cs : List (List Command)). commands_in (numbered f) ∷ cs) rest.commands_are;
+        answers_are = ap (λ (xs : List (List PlainAnswer)). answers_of x ∷ xs) rest.answers_are;
+        played = (shares.0.played, rest.played);
+        plays = All-cons (λ (c : Player). Plays z.keypos Never c.commands c.answers c.parts) player rest.clients shares.0.plays rest.plays;
+      }
+
+-- The log of each client is lawful, where those of the passes are.
+lawful_at : (first : ℕ) (clients : List Player) (passes : List TreeView) (history : History) → 0 < first → ArePlayedBy first clients passes
+    → ((pass : TreeView) → IsIn pass passes → 0 < pass.number → IsLawful pass.number history pass.log)
+    → (i : ℕ) → i < length clients → IsLawful (first + i) history (log_of (get_or clients i nobody).parts)
+lawful_at first [] passes history low played lawful i l = absurd (omega (arith, l))
+lawful_at first (c ∷ clients) [] history low played lawful i l = absurd played
+lawful_at first (c ∷ clients) (p ∷ passes) history low played lawful zero l =
+    let number = played.0.number_is in
+    let same : p.number ≡ first + 0 = omega (arith, number) in
+    subst (λ (n : ℕ). IsLawful n history (log_of c.parts)) same
+    (subst (λ (log : List Entry). IsLawful p.number history log) played.0.log (lawful p (0, refl) (omega (arith, number, low))))
+lawful_at first (c ∷ clients) (p ∷ passes) history low played lawful (suc i) l =
+    let next : suc first + i ≡ first + suc i = omega arith in
+    subst (λ (n : ℕ). IsLawful n history (log_of (get_or clients i nobody).parts)) next
+    (lawful_at (suc first) clients passes history (omega arith) played.1 (λ u is_in positive. lawful u (suc is_in.0, is_in.1) positive) i (omega (arith, l)))
+
+-- A fact of each client, by its number.
+by_number : (P : ℕ → Player → Type 0) (clients : List Player) → ((i : ℕ) → i < length clients → P (1 + i) (get_or clients i nobody))
+    → (i : ℕ) → 1 ≤ i → i ≤ length clients → P i (client_of clients i)
+by_number P clients at zero low high = absurd (omega (arith, low))
+by_number P clients at (suc i) low high =
+    let same : 1 + i ≡ suc i = omega arith in subst (λ (n : ℕ). P n (get_or clients i nobody)) same (at i (omega (arith, high)))
+
+have_logs : (keypos made : ℕ) (clients : List Player) (passes : List TreeView) (objects : StoreMap) (table : List Tree)
+    (closed : IsClosed keypos made passes objects) → made ≡ length clients → ArePlayedBy 1 clients passes
+    → All (λ (c : Player). Plays keypos Never c.commands c.answers c.parts) clients → Stands keypos objects table
+    → HaveLogs keypos closed.history clients table
+have_logs keypos made clients passes objects table closed e played plays stands = let h = closed.history in record {
+  enrolled = subst (λ (n : ℕ). AreByPasses n h) e closed.by_passes;
+  plays = by_number (λ i c. Plays keypos Never c.commands c.answers c.parts) clients (λ i l. plays i nobody l);
+  lawful = by_number (λ i c. IsLawful i h (log_of c.parts)) clients (lawful_at 1 clients passes h (omega arith) played closed.lawful);
+  ends = subst (λ (m : StoreMap). Stands keypos m table)
+      (closed.has ∙ ap (λ (steps : History). after steps []) (sym (take_all (length h) h (omega arith)))) stands;
+}
+
+-- Clients that shared a tree have run, once it is closed.
+pub has_run : {R : Type 0} (table : TableId) (z : Sizes) (made : ℕ) (files : List (List Line)) (passes : List (Pass R TreeView)) (objects : StoreMap)
+    (ran : Ran) → AreShares table z 1 files ran.answers.items passes → made ≡ length files → IsClosed z.keypos made (map tree_of passes) objects
+    → Stands z.keypos objects ran.objects.items → ran.splits ≡ splits_of (map tree_of passes) → ran.joins ≡ joins_of (map tree_of passes)
+    → HasRun z.keypos (map commands_in (map numbered files)) ran
+has_run table z made files passes objects ran shares e closed stands splits joins =
+    let p = players table z 1 files ran.answers.items passes shares in
+    let logs = have_logs z.keypos made p.clients (map tree_of passes) objects ran.objects.items closed (e ∙ sym p.count) p.played p.plays stands in
+    let merge = merge_of closed.history p.clients in
+    record {
+      history = closed.history;
+      clients = p.clients;
+      commands_are = p.commands_are;
+      answers_are = p.answers_are;
+      logs = logs;
+      passes = map tree_of passes;
+      played = p.played;
+      splits_are = splits;
+      joins_are = joins;
+      explained = subst (λ (cs : List (List Command)). ExplainedBy z.keypos cs (all_answers_of ran.answers.items) merge ran.objects.items) p.commands_are
+          (subst (λ (xs : List (List PlainAnswer)). ExplainedBy z.keypos (map (λ (c : Player). c.commands) p.clients) xs merge ran.objects.items) p.answers_are
+          (explains z.keypos closed.history p.clients ran.objects.items logs));
+    }

@@ -1,0 +1,57 @@
+-- Passes that were just made, the clients that play by them, and what these leave.
+use Rattle.std.specs.Prelude.{◌≡◌, ℕ, suc, false, List, [], ◌∷◌, map, Some}
+use Rattle.atomic_table.specs.Seated.{TableId}
+use Rattle.ca_cmd.specs.declared.answer.Answer.{Answer}
+use Rattle.ca_cmd.specs.declared.line.Line.{Line}
+use Rattle.ca_node.specs.TreePasses.{tree_of}
+use Rattle.ca_node.specs.TreeView.{TreeView, blank}
+use Rattle.ca_replace.specs.Resting.{IsResting, known_of}
+use Rattle.ca_rows.specs.declared.sizes.Sizes.{Sizes}
+use Rattle.ca_rows.specs.declared.space.Pass.{Pass}
+use Rattle.ca_rows.specs.Rule.{fresh}
+use Rattle.ca_client.specs.Ran.{splits_of, joins_of}
+use Rattle.ca_client.specs.declared.clients.Client.{Client}
+use Rattle.ca_client.specs.declared.running.Parts.{Parts}
+
+module _ {R : Type 0} (table : TableId) (z : Sizes) where
+  -- The pass is one of this table, has this number, and was just made.
+  pub record IsNew (number : ℕ) (pass : Pass R TreeView) : Type 0 where
+    pub begins : pass.seat.me ≡ (fresh z number (blank number), [])
+    pub resting : IsResting table z pass.number pass.tally pass.kept.rows pass.seat
+
+  -- So are these, of which the first has this number.
+  abbrev pub AreNew : ℕ → List (Pass R TreeView) → Type 0
+  AreNew first [] = Unit {0}
+  AreNew first (pass ∷ passes) = IsNew first pass × AreNew (suc first) passes
+
+module _ {S : Type 0} (table : TableId) (z : Sizes) where
+  -- The client has these lines, and its store is that of the pass of this number, which was just made.
+  pub record IsReady (number : ℕ) (file : List Line) (client : Client S) : Type 0 where
+    pub lines : client.lines.now ≡ file
+    pub begins : client.table ≡ known_of table z (blank number)
+
+  -- So it is with a client for each file, of which the first has this number.
+  abbrev pub AreReady : ℕ → List (List Line) → List (Client S) → Type 0
+  AreReady first [] [] = Unit {0}
+  AreReady first (file ∷ files) (client ∷ clients) = IsReady first file client × AreReady (suc first) files clients
+  AreReady first files clients = ⊥
+
+module _ {S R : Type 0} where
+  -- The client has these answers, and this is its store's pass, which isn't pinned.
+  pub record IsPart (client : Client S) (answers : List Answer) (pass : Pass R TreeView) : Type 0 where
+    pub answered : client.answers ≡ Some answers
+    pub z : Sizes
+    pub knows : client.table ≡ known_of pass.seat.table_id z (tree_of pass)
+    pub unpinned : pass.seat.me.0.pin.pinned ≡ false
+
+  -- So it is with each client.
+  abbrev pub AreParts : List (Client S) → List (List Answer) → List (Pass R TreeView) → Type 0
+  AreParts [] [] [] = Unit {0}
+  AreParts (client ∷ clients) (answers ∷ all) (pass ∷ passes) = IsPart client answers pass × AreParts clients all passes
+  AreParts clients all passes = ⊥
+
+-- These are the clients' answers and passes, and what all passes together did to the tree.
+pub record AreLeft {S : Type 0} (clients : List (Client S)) (parts : Parts) : Type 0 where
+  pub each : AreParts clients parts.answers.items parts.passes.items
+  pub splits_are : parts.splits ≡ splits_of (map tree_of parts.passes.items)
+  pub joins_are : parts.joins ≡ joins_of (map tree_of parts.passes.items)
