@@ -19,6 +19,7 @@ use Rattle.ca_rows.specs.declared.view.View.{View}
 use Rattle.ca_runs.specs.Runs.{AreRuns}
 use Rattle.ca_runs.specs.Scenes.{IsFirst, IsNext, Replaces}
 use Rattle.ca_runs.proofs.Marking.{marks}
+use Rattle.ca_node.specs.LoneStays.{KeepsOwn}
 use Rattle.ca_node.specs.Attempts.{IsUnderWay}
 use Rattle.ca_node.specs.Copies.{Copy, update_of, copy_note, IsCopy, copied, IsCopied}
 use Rattle.ca_node.specs.Inventory.{AreOnce, row_itself}
@@ -34,7 +35,7 @@ use Rattle.ca_node.specs.Scenes.{IsBase, scene_of}
 use Rattle.ca_node.specs.Shape.{Role, Base}
 use Rattle.ca_node.specs.Told.{MyTree, taken_out, given, lent_out}
 use Rattle.ca_node.specs.Tree.{IsTrue, IsTrueWay, IsLinkOfView, Knows, IsTree}
-use Rattle.ca_node.specs.TreeView.{Note, Way, Border, KnownRanges, TreeView}
+use Rattle.ca_node.specs.TreeView.{Note, Way, Border, KnownRanges, TreeView, KnownJoins}
 use Rattle.ca_node.proofs.Joined.{unjoined_over}
 use Rattle.ca_node.proofs.Exchanging.{IsExchange, settled_over, old_map, new_its, out_linked, out_unlent, note_keeps, shown_keeps, way_keeps, ranging_keeps, replaced, served_lent, new_true, own_notes, exchange_step, joining_keep, joining_more}
 use Rattle.ca_node.proofs.Holding.{unclaimed_row}
@@ -206,7 +207,8 @@ module _ (z : Sizes) (s : State (Unit {0}) (View TreeView)) (r : R z s) (id : �
         (run : (row : ℕ) → IsOfOwnRun (set s.words x.old.place.link new)
         (copied served ranges new x me.0.upper) row
         → IsOfOwnRun (set s.words x.old.place.link new) me.0.upper row)
-        (shown : ranges.run ≡ me.0.upper.ranges.run) (joins : ranges.joins ≡ me.0.upper.ranges.joins) where
+        (shown : ranges.run ≡ me.0.upper.ranges.run) (joins : ranges.joins ≡ me.0.upper.ranges.joins)
+        (keeps_own : KeepsOwn me.0.upper.ranges.own ranges.own) where
       abbrev u' : TreeView
       u' = copied served ranges new x me.0.upper
 
@@ -246,6 +248,7 @@ module _ (z : Sizes) (s : State (Unit {0}) (View TreeView)) (r : R z s) (id : �
                 (in_more (copy_note new x) note me.0.upper.notes i);
             ways = way_keeps z s r id me at new (update_of x) ex hit over free r.above.history mark bounded
                 has_now others_have served serve served_once new_end id me.0 at longer;
+            way_links = k.way_links;
             one_place = k.one_place;
             joining = subst (λ js. IsJoining words' (copy_note new x ∷ me.0.upper.notes) me.0.upper.ways js) (sym joins)
                 (joining_more z s r id me at new (update_of x) ex hit over free r.above.history mark bounded
@@ -275,6 +278,7 @@ module _ (z : Sizes) (s : State (Unit {0}) (View TreeView)) (r : R z s) (id : �
               ways = subst (λ (w : TreeView). (way : Way) → IsIn way w.ways → IsTrueWay z words' role' w.since r.above.history way) y.2
                   (way_keeps z s r id me at new (update_of x) ex hit over free r.above.history mark
                   bounded has_now others_have served serve served_once new_end j y.0 y.1 longer);
+              way_links = k.way_links;
               one_place = k.one_place;
               joining = subst (λ (w : TreeView). IsJoining words' w.notes w.ways w.ranges.joins) y.2
                   (joining_keep z s r id me at new (update_of x) ex hit over free r.above.history mark bounded
@@ -292,7 +296,7 @@ module _ (z : Sizes) (s : State (Unit {0}) (View TreeView)) (r : R z s) (id : �
           has_now others_have served serve served_once new_end u'
           (own_notes z s r id me at new (update_of x) ex hit over free r.above.history mark bounded has_now
           others_have served serve served_once new_end u' refl refl borders run shown)
-          refl f.edits f.by_passes (runs_now fits) own_knows own others_know
+          refl keeps_own refl (ap (λ (y : KnownJoins). y.begun) joins) f.edits f.by_passes (runs_now fits) own_knows own others_know
 
       pub copied_now : IsCopied served ranges new x me (d', me.1)
       copied_now = record {

@@ -16,6 +16,7 @@ use Rattle.ca_rows.specs.Words.{own_word}
 use Rattle.ca_rows.specs.declared.sizes.Sizes.{Sizes}
 use Rattle.ca_rows.specs.declared.view.View.{View}
 use Rattle.ca_rows.proofs.Relinking.{Change, Stays, Ends, IsChange, relinks}
+use Rattle.ca_node.specs.LoneStays.{KeepsOwn}
 use Rattle.ca_node.specs.Endings.{without}
 use Rattle.ca_node.specs.Laws.{tree_lends}
 use Rattle.ca_node.specs.Links.{IsLinked, IsLent, IsOfOwnRun, IsNoted, by_note, by_item, by_way, by_link, by_link_item, by_border, by_run, by_run_item, by_shown, by_shown_item}
@@ -49,6 +50,8 @@ module _ (z : Sizes) (s : State (Unit {0}) (View TreeView)) (r : R z s) (id : �
 
   -- The seat knows this then.
   module _ (u' : TreeView) (is_pinned : me.0.pin.pinned ≡ true) (is_pass : 0 < me.0.upper.number)
+      (keeps_own : KeepsOwn me.0.upper.ranges.own u'.ranges.own) (same_ways : u'.ways ≡ me.0.upper.ways)
+      (same_begun : u'.ranges.joins.begun ≡ me.0.upper.ranges.joins.begun)
       (same_inventory : u'.inventory ≡ without (mark_bound (row_at s.words end.base)) me.0.upper.inventory)
       (own_notes : (row : ℕ) → IsNoted (set s.words (own_word s.words pass + 1) word') u' row
       → IsNoted s.words me.0.upper row ⊎ IsLinked (set s.words (own_word s.words pass + 1) word') row)
@@ -106,7 +109,7 @@ module _ (z : Sizes) (s : State (Unit {0}) (View TreeView)) (r : R z s) (id : �
         (shape' z s r pass number word' end) f.ranged.ends
         (runs' z s r pass number word' end)
         (λ p n now. f.ranged.made_before p n (active_before z s r pass number word' end p n now).0)
-        own_knows own_ranging others (without top) (listed' z s r pass number word' end) same_inventory
+        own_knows own_ranging others (without top) (listed' z s r pass number word' end) same_inventory keeps_own same_ways same_begun
 
     pub ends_step : R z record { words = set s.words (own_word s.words pass + 1) word'; homes = s.homes; views = set s.views id (relinked me me.0.claims u').0 }
     ends_step = relinks IsLinked IsLent IsNoted IsTree tree_lends z s r id me.0 d' words' kind record {

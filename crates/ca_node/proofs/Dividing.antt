@@ -23,9 +23,11 @@ use Rattle.ca_runs.specs.Runs.{AreRuns}
 use Rattle.ca_runs.proofs.Keeping.{runs_still}
 use Rattle.ca_rows.proofs.Relinking.{Change, Stays, Comes, Goes, IsChange, relinks}
 use Rattle.ca_rows.proofs.Rules.{all_seats}
+use Rattle.ca_node.specs.LoneStays.{same_kept, lone_still}
+use Rattle.ca_node.proofs.Lone.{lone_by_one}
 use Rattle.ca_node.specs.Inventory.{IsInventory}
 use Rattle.ca_node.specs.Attempts.{join_of, IsJoinWord, IsSecured, IsUnderWay}
-use Rattle.ca_node.specs.JoinsStay.{joining_unnoted, unsecured_still}
+use Rattle.ca_node.specs.JoinsStay.{joining_unnoted}
 use Rattle.ca_node.specs.Laws.{noted_alike, tree_lends, in_nothing, numbered, relisted}
 use Rattle.ca_node.specs.Links.{IsIn, IsActive, IsBoundOf, IsLinked, by_range, IsLent, IsNoted, by_note}
 use Rattle.ca_node.specs.Place.{Place, left_place, right_place}
@@ -45,7 +47,7 @@ use Rattle.ca_node.proofs.Divided.{IsNewRoute, AreDivided, with_route, with_rout
 use Rattle.ca_node.proofs.Exchanging.{settled_over}
 use Rattle.ca_node.proofs.Holding.{held_row, unclaimed_row}
 use Rattle.ca_node.proofs.Joined.{unjoined_over, joined_keeps, states_keep, joining_keeps}
-use Rattle.ca_node.proofs.Listing.{in_either, in_front, in_back, Relists, listed_again, known_by_one}
+use Rattle.ca_node.proofs.Listing.{in_either, in_front, in_back, not_one, Relists, listed_again, known_by_one}
 use Rattle.ca_node.proofs.Looking.{R, loses, hangs_still, of_map, knows_upper, in_more}
 use Rattle.ca_node.proofs.Members.{in_notes, has, given_here, given_else, taken_here, taken_else}
 use Rattle.ca_node.proofs.Relinked.{IsNewBase, relinked_wide, relinked_else, relinked_ranges, relinked_told, relinked_joins, relinked_keeps, relinked_row, base_no_route, out_no_route}
@@ -703,6 +705,7 @@ module _ (z : Sizes) (s : State (Unit {0}) (View TreeView)) (r : R z s) (id : �
         notes = note_keeps j y here;
         links = k.links;
         ways = way_keeps j y here;
+        way_links = k.way_links;
         one_place = k.one_place;
         joining = let w = knows_upper z s r j y here in
             joining_keeps z s.words role last shape x.old.row place (ap place_of is_old) x.route (λ _. old_free) y.upper w.links
@@ -722,6 +725,7 @@ module _ (z : Sizes) (s : State (Unit {0}) (View TreeView)) (r : R z s) (id : �
     notes = λ note i. absurd (in_nothing note [] refl i);
     links = λ note i. absurd (in_nothing note [] refl i);
     ways = k.ways;
+    way_links = k.way_links;
     one_place = k.one_place;
     joining = joining_unnoted words' d.upper.notes d.upper.ways d.upper.ranges.joins k.joining;
     ended = k.ended;
@@ -808,7 +812,7 @@ module _ (z : Sizes) (s : State (Unit {0}) (View TreeView)) (r : R z s) (id : �
       (in_nothing t.0 [] refl)
       (in_more right_part t.0 [] t.1)
 
-  relists : Relists s.words words' r.above.role role' ins outs parts x.old.row
+  relists : Relists s.words words' r.above.role role' ins outs parts (x.old.row ∷ [])
   relists = record {
     comes = come_linked;
     came_out = λ row i. let h = held_in row i in (held row h.0 h.1).3;
@@ -824,8 +828,8 @@ module _ (z : Sizes) (s : State (Unit {0}) (View TreeView)) (r : R z s) (id : �
     );
     base_comes = part_now;
     base_out = part_out;
-    base_back = part_back;
-    base_on = λ row p e ne. role_else row (no_coming row p (ap place_of e)) ne ∙ e;
+    base_back = λ row p e. ⊎_elim (λ i. inl i) (λ w. inr (w.0, not_one row x.old.row w.1)) (part_back row p e);
+    base_on = λ row p e ne. role_else row (no_coming row p (ap place_of e)) (λ o. ne (0, ap some (sym o))) ∙ e;
     bases_once = (
       parts_once,
       ((λ (t : (y : ℕ × Place) × IsIn y [] × (y.0 ≡ x.right)). in_nothing t.0 [] refl t.1), tt),
@@ -834,7 +838,7 @@ module _ (z : Sizes) (s : State (Unit {0}) (View TreeView)) (r : R z s) (id : �
 
   listed_now : IsInventory words' role' (divided_inventory x r.above.inventory)
   listed_now =
-      listed_again s.words words' role role' ins outs parts x.old.row f.inventory relists f.listed
+      listed_again s.words words' role role' ins outs parts (x.old.row ∷ []) f.inventory relists f.listed
 
   tree_now : IsTree z r.made words' (set (map upper_of s.views) id u')
   tree_now = record {
@@ -870,10 +874,15 @@ module _ (z : Sizes) (s : State (Unit {0}) (View TreeView)) (r : R z s) (id : �
           (λ (was : role c ≡ Route p key). states_keep z s.words role last shape x.old.row place (ap place_of is_old) x.route (λ _. old_free) f.joined c p key was)
           (routes_back c p key e);
     };
-    unsecured = unsecured_still z s.words words' role role' (λ c p key e. ⊎_elim
+    lone = lone_by_one z r.made s.words words' role role' (map upper_of s.views) f.history f.each_seat id d.upper u' mine u.is_pass
+        (λ few. lone_still s.words words' role role' d.upper.ranges.own d.upper.ranges.own d.upper.ways d.upper.ways d.upper.ranges.joins.begun
+        d.upper.ranges.joins.begun (λ c p key e. ⊎_elim
         (λ (new : c ≡ x.route). inl (subst (λ t. join_of words' t % 4 ≡ 0) (sym new) route_word))
         (λ (was : role c ≡ Route p key). inr (p, key, was, relinked_joins z s.words role last shape x.old.row place (ap place_of is_old) x.route c))
-        (routes_back c p key e)) f.unsecured;
+        (routes_back c p key e))
+        (λ c p key e. (routes_stay c p key e, relinked_joins z s.words role last shape x.old.row place (ap place_of is_old) x.route c))
+        (λ way i. inl i) (same_kept d.upper.ranges.own) refl
+        (f.lone id d.upper mine few u.is_pass));
     each_seat =
         all_seats (Knows z r.made words' role' (set (map upper_of s.views) id u') f.history)
         (map upper_of s.views) id u' own_knows
@@ -965,7 +974,7 @@ module _ (z : Sizes) where
         subst (λ (y : ℕ). R z (stepped s x.old.place.link y id me.1 d' keeps))
             (sym (ap (λ b. either b x.route n) (eq-eqb n x.old.row hit)))
             (division_step z s r id me at x u hit),
-        ((λ _. refl), (λ miss. absurd (miss hit)), inr (inl (x, (u.shown, refl, refl), won)), won),
+        ((λ _. refl), (λ miss. absurd (miss hit)), inr (inl (inl (x, (u.shown, refl, refl), won))), won),
       ))
       (λ miss. let lost : View TreeView = record d { upper = one_more_lost d.upper } in
       let missed : Divides x (step slots x.old.place.link x.old.row x.route none) me n (
@@ -981,7 +990,7 @@ module _ (z : Sizes) where
         subst (λ (y : ℕ). R z (stepped s x.old.place.link y id me.1 lost keeps))
             (sym (ap (λ b. either b x.route n) (ne_eqb n x.old.row miss)))
             (loses z s r x.old.place.link id d at),
-        ((λ hit. absurd (miss hit)), (λ _. refl), inr (inl (x, (u.shown, refl, refl), missed)), missed),
+        ((λ hit. absurd (miss hit)), (λ _. refl), inr (inl (inl (x, (u.shown, refl, refl), missed))), missed),
       ))
 
   -- The same, where the old row, the route and the link have other names.

@@ -23,10 +23,12 @@ use Rattle.ca_runs.specs.Runs.{AreRuns}
 use Rattle.ca_runs.specs.Scenes.{Replaces}
 use Rattle.ca_rows.proofs.Relinking.{Change, Stays, Comes, Serves, Goes, IsChange, relinks}
 use Rattle.ca_rows.proofs.Rules.{all_seats}
+use Rattle.ca_node.specs.LoneStays.{KeepsOwn, lone_still}
+use Rattle.ca_node.proofs.Lone.{lone_by_one}
 use Rattle.ca_node.specs.Inventory.{AreOnce, row_itself, IsInventory}
 use Rattle.ca_node.specs.Attempts.{HasAttempt, IsUnderWay}
 use Rattle.ca_node.specs.Joining.{IsJoining}
-use Rattle.ca_node.specs.JoinsStay.{joining_noted, unsecured_still}
+use Rattle.ca_node.specs.JoinsStay.{joining_noted}
 use Rattle.ca_node.specs.Laws.{tree_lends, in_nothing}
 use Rattle.ca_node.specs.Links.{IsIn, IsActive, HasBegun, IsBoundOf, IsLinked, by_range, IsLent, IsOfOwnRun, IsNoted, by_note, by_item, by_way, by_link, by_link_item, by_border, by_run, by_run_item, by_shown, by_shown_item}
 use Rattle.ca_node.specs.Marks.{IsOfRange, IsOfJoin, IsMarkIn, IsBorder}
@@ -44,7 +46,7 @@ use Rattle.ca_node.specs.Tree.{IsTrue, IsTrueWay, Knows, IsTree}
 use Rattle.ca_node.specs.TreeView.{Note, Way, Over, Border, TreeView}
 use Rattle.ca_node.proofs.Holding.{held_row}
 use Rattle.ca_node.proofs.Joined.{joined_keeps, states_keep, joining_keeps, new_hangs}
-use Rattle.ca_node.proofs.Listing.{in_either, in_front, in_back, Relists, listed_again, known_by_one}
+use Rattle.ca_node.proofs.Listing.{in_either, in_front, in_back, not_one, Relists, listed_again, known_by_one}
 use Rattle.ca_node.proofs.Looking.{R, knows_upper, in_turn, in_more}
 use Rattle.ca_node.proofs.Members.{in_notes, in_rest, has, given_here, given_else, lent_here, lent_else, taken_here, taken_else, other_has, map_is_list}
 use Rattle.ca_node.proofs.Named.{named_once}
@@ -705,7 +707,7 @@ module _ (z : Sizes) (s : State (Unit {0}) (View TreeView)) (r : R z s) (id : �
       abbrev coming : ℕ × Place
       coming = (new, x.old.place)
 
-      relists : Relists s.words words' r.above.role role' ins outs (coming ∷ []) x.old.row
+      relists : Relists s.words words' r.above.role role' ins outs (coming ∷ []) (x.old.row ∷ [])
       relists = record {
         comes = in_linked;
         came_out = λ row i. let h = held_in row i in (held row h.0 h.1).3;
@@ -724,9 +726,9 @@ module _ (z : Sizes) (s : State (Unit {0}) (View TreeView)) (r : R z s) (id : �
                   ∙ ap (λ q. (row, q)) (same_place place p (sym is_new
                   ∙ (ap role' (sym same) ∙ e)))),
             ))
-            (λ (ne : row ≢ new). inr (was_base row p e ne));
+            (λ (ne : row ≢ new). let w = was_base row p e ne in inr (w.0, not_one row x.old.row w.1));
         base_on = λ row p e ne. role_else row
-            (λ n. (let y : Base p ≡ Out = sym e ∙ (ap role n ∙ new_out) in cc)) ne ∙ e;
+            (λ n. (let y : Base p ≡ Out = sym e ∙ (ap role n ∙ new_out) in cc)) (λ o. ne (0, ap some (sym o))) ∙ e;
         bases_once =
             ((λ (t : (y : ℕ × Place) × IsIn y [] × (y.0 ≡ new)). in_nothing t.0 [] refl t.1), tt);
       }
@@ -738,7 +740,7 @@ module _ (z : Sizes) (s : State (Unit {0}) (View TreeView)) (r : R z s) (id : �
 
       listed_now : IsInventory words' role' (exchanged_inventory served new x r.above.inventory)
       listed_now =
-          listed_again s.words words' role role' ins outs (coming ∷ []) x.old.row f.inventory
+          listed_again s.words words' role role' ins outs (coming ∷ []) (x.old.row ∷ []) f.inventory
           relists f.listed
 
       -- A seat's own new note is on rows that are linked.
@@ -812,6 +814,8 @@ module _ (z : Sizes) (s : State (Unit {0}) (View TreeView)) (r : R z s) (id : �
           → IsNoted (set s.words x.old.place.link new) d.upper row
           ⊎ IsLinked (set s.words x.old.place.link new) row)
           (same_inventory : u'.inventory ≡ exchanged_inventory served new x d.upper.inventory)
+          (keeps_own : KeepsOwn d.upper.ranges.own u'.ranges.own) (same_ways : u'.ways ≡ d.upper.ways)
+          (same_begun : u'.ranges.joins.begun ≡ d.upper.ranges.joins.begun)
           (edits : AreEdits z.keypos next) (by_passes : AreByPasses r.made next)
           (runs : AreRuns (scene_of (set s.words x.old.place.link new) role') r.above.ranged.ends)
           (own_knows : Knows z r.made (set s.words x.old.place.link new) role'
@@ -921,9 +925,13 @@ module _ (z : Sizes) (s : State (Unit {0}) (View TreeView)) (r : R z s) (id : �
             states = λ route p key e. states_keep z s.words role last shape x.old.row place (ap place_of is_old) new (λ _. old_free)
                 f.joined route p key (routes_back route p key e);
           };
-          unsecured = unsecured_still z s.words words' role role'
+          lone = lone_by_one z r.made s.words words' role role' (map upper_of s.views) f.history f.each_seat id d.upper u' first u.is_pass
+              (λ few. lone_still s.words words' role role' d.upper.ranges.own u'.ranges.own d.upper.ways u'.ways d.upper.ranges.joins.begun
+              u'.ranges.joins.begun
               (λ route p key e. inr (p, key, routes_back route p key e, relinked_joins z s.words role last shape x.old.row place (ap place_of is_old) new route))
-              f.unsecured;
+              (λ route p key e. (routes_stay route p key e, relinked_joins z s.words role last shape x.old.row place (ap place_of is_old) new route))
+              (λ way i. inl (subst (IsIn way) same_ways i)) keeps_own same_begun
+              (f.lone id d.upper first few u.is_pass));
           each_seat =
               all_seats (Knows z r.made words' role' (set (map upper_of s.views) id u') next)
               (map upper_of s.views) id u' own_knows (λ j v ne here. (others_know j v ne here).0);

@@ -69,7 +69,7 @@ tree_learning = record {
       (λ _. refl)) (f.each_seat i v at) in
       let long =
       longer_is f.history v.seen w.seen k.seen_first (f.each_seat j w there).seen_first in
-      let g = seat_changed z made words uppers i v u' f at (λ _. refl) (λ _. refl) record {
+      let g = seat_changed z made words uppers i v u' f at (λ _. refl) (λ _. refl) (λ _ _ l. l) record {
         made_before = k.made_before;
         alone = k.alone;
         seen_first = long.0;
@@ -80,6 +80,7 @@ tree_learning = record {
         notes = k.notes;
         links = k.links;
         ways = k.ways;
+        way_links = k.way_links;
         one_place = k.one_place;
         joining = k.joining;
         ended = k.ended;
@@ -88,6 +89,7 @@ tree_learning = record {
       seat_changed z made words us j w (blank 0) g (set_else uppers i j u' ne ∙ there)
       (λ lo. absurd (omega arith))
       (λ lo. absurd (omega arith))
+      (λ _ lo. absurd (omega arith))
       (knows_nothing z made words g.role (set us j (blank 0)) g.history j 0 (omega arith)
       (λ lo. absurd (omega arith))
       (none_made made 0 g.history g.by_passes (inl refl)))
@@ -125,7 +127,11 @@ front_more z made words uppers id u f at = let next : List TreeView = uppers ++ 
             (at_place uppers (front_of u) v j here);
       };
       joined = f.joined;
-      unsecured = f.unsecured;
+      lone = λ j v here few lo. ⊎_elim
+          (λ (was : get_elem? uppers j ≡ some v). f.lone j v was few lo)
+          (λ (t : (j ≡ length uppers) × (front_of u ≡ v)).
+          let n : 0 ≡ v.number = ap (λ (x : TreeView). x.number) t.1 in absurd (omega arith))
+          (at_place uppers (front_of u) v j here);
       each_seat = λ j v here. ⊎_elim
           (λ (was : get_elem? uppers j ≡ some v). let k = f.each_seat j v was in record {
             made_before = k.made_before;
@@ -141,6 +147,7 @@ front_more z made words uppers id u f at = let next : List TreeView = uppers ++ 
             notes = k.notes;
             links = k.links;
             ways = k.ways;
+            way_links = k.way_links;
             one_place = k.one_place;
             joining = k.joining;
             ended = λ x i. let e = k.ended x i in let lo = e.some_number in record {
@@ -182,6 +189,7 @@ front_more z made words uppers id u f at = let next : List TreeView = uppers ++ 
       notes = λ note i. absurd (in_nothing note [] refl i);
       links = λ note i. absurd (in_nothing note [] refl i);
       ways = λ way i. absurd (in_nothing way [] refl i);
+      way_links = λ way i. absurd (in_nothing way [] refl i);
       one_place = λ a b i. absurd (in_nothing a [] refl i);
       joining = nothing_joining words;
       ended = λ x i. absurd (in_nothing x [] refl i);

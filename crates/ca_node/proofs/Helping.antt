@@ -18,6 +18,7 @@ use Rattle.ca_rows.specs.declared.view.View.{View}
 use Rattle.ca_rows.proofs.OwnWords.{own_is}
 use Rattle.ca_runs.specs.Runs.{range_of}
 use Rattle.ca_runs.proofs.Keeping.{of_run}
+use Rattle.ca_node.specs.LoneStays.{same_kept}
 use Rattle.ca_node.specs.Endings.{active_word, decided_word, IsHelping, over_up_to, without, helped, too_late, Helps, HasHelped}
 use Rattle.ca_node.specs.Laws.{noted_alike}
 use Rattle.ca_node.specs.Layout.{sequence_unit}
@@ -30,7 +31,7 @@ use Rattle.ca_node.specs.Scenes.{IsBase, span_of, scene_of}
 use Rattle.ca_node.specs.Shape.{Role, Base}
 use Rattle.ca_node.specs.Told.{MyTree, status_word}
 use Rattle.ca_node.specs.Tree.{IsTrue, Knows, IsTree}
-use Rattle.ca_node.specs.TreeView.{Note, Border, Ranging, Quiet, Unmarked, Marking, Left, TreeView}
+use Rattle.ca_node.specs.TreeView.{Note, Border, Ranging, Quiet, Unmarked, Marking, Left, Joining, Secured, TreeView}
 use Rattle.ca_node.proofs.Copying.{one_active}
 use Rattle.ca_node.proofs.Deciding.{ends_step}
 use Rattle.ca_node.proofs.Ended.{IsEnd, not_active, began, over_then, true_then, sequence_then, ranging_then}
@@ -203,6 +204,8 @@ module _ (z : Sizes) (s : State (Unit {0}) (View TreeView)) (r : R z s) (id : �
                   → (subst (λ (b : Bound). IsRunShown y.upper.since r.above.history b last.row the_run) same shown).high ≡ shown.high
               high_of same shown = refl
       so_far Left is so = tt
+      so_far (Joining x) is so = absurd (so number now_mine)
+      so_far (Secured x) is so = absurd (so number now_mine)
 
       ranging_mine : IsRanging z words' r.above.role (r.above.ranged.ends y.upper.number) y.upper.since r.above.history y.upper.number y.upper.ranges
       ranging_mine = record {
@@ -236,6 +239,7 @@ module _ (z : Sizes) (s : State (Unit {0}) (View TreeView)) (r : R z s) (id : �
       notes = w.notes;
       links = w.links;
       ways = w.ways;
+      way_links = w.way_links;
       one_place = w.one_place;
       joining = w.joining;
       ended = w.ended;
@@ -254,7 +258,7 @@ module _ (z : Sizes) (s : State (Unit {0}) (View TreeView)) (r : R z s) (id : �
 
     pub help_step : R z record { words = words'; homes = s.homes; views = set s.views id (relinked me me.0.claims u').0 }
     help_step = ends_step z s r id me at pass number word' end u' k.ending.is_pinned
-        k.ending.is_pass (ap (λ b. without b me.0.upper.inventory) (sym border_same))
+        k.ending.is_pass (same_kept me.0.upper.ranges.own) refl refl (ap (λ b. without b me.0.upper.inventory) (sym border_same))
         (λ row n. inl (noted_same z s r pass word' begun.0 begun.1 id me.0 at own_run_before row
         (noted_alike words' me.0.upper u' (λ x i. i) (λ x i. i) (λ x i. i) (λ x i. i) (λ x i. i) row n)))
         own_knows own_ranging_now (λ _. refl)
@@ -274,7 +278,7 @@ module _ (z : Sizes) (s : State (Unit {0}) (View TreeView)) (r : R z s) (id : �
     pub late_step : R z record { words = set s.words i (get_or s.words i 0); homes = s.homes; views = set s.views id (record me.0 { upper = late }) }
     late_step = let known = f.ranged.each id me.0.upper first in knows_ranges z s r i id me.0 at late.ranges late.turns
         (knows_upper z s r id me.0 at).joining
-        (λ row n. inl (noted_alike s.words me.0.upper late (λ x m. m) (λ x m. m) (λ x m. m) (λ x m. m) (λ x m. m) row n)) record {
+        (λ row n. inl (noted_alike s.words me.0.upper late (λ x m. m) (λ x m. m) (λ x m. m) (λ x m. m) (λ x m. m) row n)) (λ _ _ l. l) record {
           over = λ x m. ⊎_elim (λ (e : over_up_to pass number ≡ x). subst (IsOver s.words) e
               (over_behind s.words pass number begun (λ now. miss now.2)))
               (λ o. known.over x o) (in_more (over_up_to pass number) x me.0.upper.ranges.over m);

@@ -1,5 +1,5 @@
 -- A pass begins an attempt to join, behind one that is finished.
-use Rattle.std.proofs.Common.{◌≡◌, ◌≢◌, ℕ, ◌+◌, ◌*◌, ◌%◌, ◌<◌, Bool, eqb, List, map, get_or, set, sym, refl, ap, ◌∙◌, subst, inl, inr, ⊎_elim, arith, max, eq-eqb, ne_eqb}
+use Rattle.std.proofs.Common.{◌≡◌, ◌≢◌, ℕ, suc, ◌+◌, ◌*◌, ◌/◌, ◌%◌, ◌<◌, ◌≤◌, Bool, false, true, eqb, List, ◌∷◌, map, get_or, set, sym, refl, ap, ◌∙◌, subst, inl, inr, ⊎_elim, arith, max, eq-eqb, ne_eqb}
 use mathlib.Core.Logic.{dite}
 use mathlib.Core.Option.{some, none}
 use native.Mathlib.Decide.{ℕ_discrete}
@@ -13,22 +13,27 @@ use Rattle.ca_rows.specs.Rule.{upper_of}
 use Rattle.ca_rows.specs.Told.{relinked}
 use Rattle.ca_rows.specs.declared.sizes.Sizes.{Sizes}
 use Rattle.ca_rows.specs.declared.view.View.{View}
-use Rattle.ca_node.specs.Attempts.{join_of, HasAttempt, JoinGoesOn}
-use Rattle.ca_node.specs.Joining.{AreJoining, AreUnsecured, IsRemembered, AreFinished, IsJoining}
+use Rattle.ca_node.specs.Attempts.{join_of, HasAttempt, IsPrepared, JoinGoesOn}
+use Rattle.ca_node.specs.Joining.{AreJoining, IsRemembered, AreFinished, IsJoining}
 use Rattle.ca_node.specs.JoinsStay.{joined_still}
-use Rattle.ca_node.specs.JoinSteps.{join_place, attempt_of, before, with_joins, joins_begun, IsBeginning, BeginsJoin, HasBegunJoin, BeginsSome}
+use Rattle.ca_node.specs.JoinSteps.{join_place, attempt_of, before, beginning, joins_begun, IsBeginning, IsNext, BeginsJoin, HasBegunJoin, BeginsSome}
 use Rattle.ca_node.specs.Links.{IsIn}
 use Rattle.ca_node.specs.May.{MaySwap}
 use Rattle.ca_node.specs.Place.{Place}
 use Rattle.ca_node.specs.Row.{route_key}
+use Rattle.ca_node.specs.Lone.{IsOfTree, IsLone}
+use Rattle.ca_node.specs.States.{IsAlone}
+use Rattle.ca_node.specs.LoneStays.{none_by_quiet}
 use Rattle.ca_node.specs.Shape.{Route}
 use Rattle.ca_node.specs.Told.{MyTree}
 use Rattle.ca_node.specs.Tree.{IsTree}
-use Rattle.ca_node.specs.TreeView.{Note, Way, Attempt, Finished, KnownJoins, TreeView}
-use Rattle.ca_node.proofs.JoinEnds.{is_route}
+use Rattle.ca_node.specs.TreeView.{Note, Way, Attempt, Finished, KnownJoins, Joining, TreeView}
+use Rattle.ca_node.proofs.JoinEnds.{is_route, same_joining}
 use Rattle.ca_node.proofs.JoinTurns.{begun_goes_on}
 use Rattle.ca_node.proofs.JoinWord.{join_else, join_here, child_stays, joining_then, join_step}
-use Rattle.ca_node.proofs.Looking.{R, looked, in_more}
+use Rattle.ca_node.proofs.Lone.{no_other}
+use Rattle.ca_node.proofs.Looking.{R, looked, knows_upper, in_more}
+use Rattle.ca_node.proofs.OwnTurns.{TurnsOwn, IsRangeless}
 use Rattle.ca_rows.specs.Layout.{row_words}
 
 -- What a seat knows of joins that began this attempt.
@@ -88,24 +93,60 @@ module _ (z : Sizes) (s : State (Unit {0}) (View TreeView)) (r : R z s) (id : �
   begun_joining = begun_more words' me.0.upper.notes me.0.upper.ways me.0.upper.ranges.joins x known here
       (joining_then z s r x.route place key spot (4 * x.number + 1) on id me.0.upper (at_map upper_of s.views id me.0 at))
 
-  unsecured_then : 1 < z.passes → AreUnsecured z words' r.above.role
-  unsecured_then several = record {
-    none = λ t p k attempt e now. dite (ℕ_discrete t x.route)
-        (λ (w : t ≡ x.route). let word : join_of words' t ≡ 4 * x.number + 1 = ap (join_of words') w ∙ here in absurd (omega (arith, word, now)))
-        (λ (ne : t ≢ x.route). r.above.unsecured.none t p k attempt e (sym (same t ne) ∙ now));
-    idle = λ few. absurd (omega (arith, several, few));
-  }
+  first : get_elem? (map upper_of s.views) id ≡ some me.0.upper
+  first = at_map upper_of s.views id me.0 at
 
-  -- So the whole rule holds again.
-  pub begin_step : 1 < z.passes → R z record {
-    words = set s.words (row_words * x.route + 3) (4 * x.number + 1);
-    homes = s.homes;
-    views = set s.views id (relinked me me.0.claims (with_joins me.0.upper (joins_begun x me.0.upper.ranges.joins))).0;
-  }
-  begin_step several = join_step z s r x.route place key spot (4 * x.number + 1) on id me.0 at
-      (joins_begun x me.0.upper.ranges.joins) me.0.upper.turns (max me.0.most (held_count me.0.claims)) begun_joined (unsecured_then several) begun_joining
+  module _ (k : IsBeginning me x) where
+    -- No attempt of a route of the tree was under way, if the pass is the only one; now its own is.
+    lone_then : r.made ≤ 1 → 0 < me.0.upper.number → IsLone (set s.words (row_words * x.route + 3) (4 * x.number + 1)) r.above.role (Joining x) me.0.upper.ways
+        (x ∷ me.0.upper.ranges.joins.begun)
+    lone_then few pass = let l = r.above.lone id me.0.upper first few pass in let none = none_by_quiet me.0.upper.ranges.own k.quiet in record {
+      prepared = λ t p key' attempt e now. dite (ℕ_discrete t x.route)
+          (λ (w : t ≡ x.route). let there : join_of words' t ≡ 4 * x.number + 1 = ap (join_of words') w ∙ here in
+          let number : x.number ≡ attempt = omega (arith, there, now) in λ i. Joining (attempt_of (sym w i) (number i)))
+          (λ (ne : t ≢ x.route). absurd ((none (attempt_of t attempt)).0 (l.prepared t p key' attempt e (sym (same t ne) ∙ now))));
+      secured = λ t p key' attempt e now. dite (ℕ_discrete t x.route)
+          (λ (w : t ≡ x.route). let there : join_of words' t ≡ 4 * x.number + 1 = ap (join_of words') w ∙ here in absurd (omega (arith, there, now)))
+          (λ (ne : t ≢ x.route). absurd ((none (attempt_of t attempt)).1 (l.secured t p key' attempt e (sym (same t ne) ∙ now))));
+      still = λ y e. subst (λ (w : Attempt). IsOfTree r.above.role w.route × IsPrepared words' w.route w.number) (same_joining x y e) ((place, key, spot), here);
+      alive = l.alive;
+      latest = λ y i. dite (ℕ_discrete y.route x.route)
+          (λ (w : y.route ≡ x.route). subst (λ t. IsOfTree r.above.role t × IsIn (attempt_of t (join_of words' t / 4)) (x ∷ me.0.upper.ranges.joins.begun)) (sym w)
+          ((place, key, spot), (0, let n : x.number ≡ join_of words' x.route / 4 = let h = here in omega arith in ap (λ k. some (attempt_of x.route k)) n)))
+          (λ (ne : y.route ≢ x.route). ⊎_elim (λ (e : x ≡ y). absurd (ne (sym (ap (λ (w : Attempt). w.route) e))))
+          (λ (o : IsIn y me.0.upper.ranges.joins.begun). let t = l.latest y o in
+          subst (λ w. IsOfTree r.above.role y.route × IsIn (attempt_of y.route (w / 4)) (x ∷ me.0.upper.ranges.joins.begun)) (sym (same y.route ne))
+          (t.0, (suc t.1.0, t.1.1))) (in_more x y me.0.upper.ranges.joins.begun i));
+    }
+
+    turn : TurnsOwn me.0.upper.ranges.own (Joining x)
+    turn = inr (subst IsRangeless (sym k.quiet) tt, tt)
+
+    -- So the whole rule holds again.
+    pub begin_step : R z record {
+      words = set s.words (row_words * x.route + 3) (4 * x.number + 1);
+      homes = s.homes;
+      views = set s.views id (relinked me me.0.claims (beginning x me.0.upper)).0;
+    }
+    begin_step = join_step z s r x.route place key spot (4 * x.number + 1) on id me.0 at
+        (joins_begun x me.0.upper.ranges.joins) me.0.upper.turns (max me.0.most (held_count me.0.claims)) begun_joined begun_joining
+        (Joining x) turn lone_then
+        (λ j v ne here few pass. absurd (no_other z r.made s.words r.above.role (map upper_of s.views) r.above.history r.above.each_seat id me.0.upper first
+        k.is_pass j v ne here few pass))
 
 module _ (z : Sizes) where
+  -- Where the route's last attempt isn't the one that the seat knows, or isn't finished, though it was so, the pass isn't the only one.
+  not_alone : (s : State (Unit {0}) (View TreeView)) (r : R z s) (id : ℕ) (me : MyTree) → get_elem? s.views id ≡ some me.0 → (x : Attempt) (last : ℕ)
+      → x.number ≡ last + 1 → me.0.sizes ≡ z → IsNext x me.0.upper.ranges.joins → get_or s.words (row_words * x.route + 3) 0 ≢ 4 * last
+      → ¬ IsAlone me.0.sizes me.0.upper
+  not_alone s r id me at x last next sized is_next miss alone = let few : z.passes ≡ 1 = subst (λ (y : Sizes). y.passes ≡ 1) sized alone.0 in
+      let within = r.within in let before_it = is_next.next in
+      let l = r.above.lone id me.0.upper (at_map upper_of s.views id me.0 at) (omega (arith, few, within)) alone.1 in
+      let late = is_next.none_later (attempt_of x.route (join_of s.words x.route / 4)) (l.latest (attempt_of x.route is_next.last) is_next.begun).1 refl in
+      let over = ((knows_upper z s r id me.0 at).joining.finished (before x.route (is_next.last + 1)) is_next.finished).1 is_next.last (omega arith) in
+      ⊎_elim (λ (e : join_of s.words x.route ≡ 4 * is_next.last). miss (omega (arith, e, next, before_it)))
+      (λ (m : 4 * is_next.last + 4 ≤ join_of s.words x.route). omega (arith, m, late)) over
+
   -- The exchange that begins an attempt.
   begins_join : (slots id : ℕ) (me : MyTree) (x : Attempt) (last : ℕ) → x.number ≡ last + 1 → me.0.sizes ≡ z → IsBeginning me x
       → Allows (R z) slots id me (row_words * x.route + 3) (λ n. either (eqb n (4 * last)) (4 * x.number + 1) n)
@@ -113,7 +154,7 @@ module _ (z : Sizes) where
   begins_join slots id me x last next sized k s r _ at _ = let n : ℕ = get_or s.words (row_words * x.route + 3) 0 in
       let first : 4 * last + 4 ≡ 4 * x.number = omega (arith, next) in
       dite (ℕ_discrete n (4 * last))
-      (λ (hit : n ≡ 4 * last). let d' : View TreeView = (relinked me me.0.claims (with_joins me.0.upper (joins_begun x me.0.upper.ranges.joins))).0 in
+      (λ (hit : n ≡ 4 * last). let d' : View TreeView = (relinked me me.0.claims (beginning x me.0.upper)).0 in
       let told : BeginsSome (step slots (row_words * x.route + 3) (4 * last) (4 * x.number + 1) none) me n (d', me.1) =
       (x, (refl, first), ((λ _. refl), λ miss. absurd (miss hit))) in (
         d',
@@ -121,11 +162,11 @@ module _ (z : Sizes) where
         tt,
         subst (λ (y : ℕ). R z (stepped s (row_words * x.route + 3) y id me.1 d' keeps))
             (sym (ap (λ b. either b (4 * x.number + 1) n) (eq-eqb n (4 * last) hit)))
-            (begin_step z s r id me at x k.remembered last next hit (subst (λ (y : Sizes). 1 < y.passes) sized k.not_alone)),
+            (begin_step z s r id me at x k.remembered last next hit k),
         ((λ _. refl), (λ miss. absurd (miss hit)), inr (inr (inr (inr (inr (inl told))))), told),
       ))
       (λ miss. let told : BeginsSome (step slots (row_words * x.route + 3) (4 * last) (4 * x.number + 1) none) me n me =
-      (x, (refl, first), ((λ hit. absurd (miss hit)), λ _. refl)) in (
+      (x, (refl, first), ((λ hit. absurd (miss hit)), λ _. (refl, λ is_next. not_alone s r id me at x last next sized is_next miss))) in (
         me.0,
         keeps,
         tt,
@@ -153,4 +194,14 @@ has_begun_join n slots word route number last m m' at next t = let there : word 
     let told = subst (λ (x : Attempt). BeginsJoin x (step slots word (4 * last) (4 * number + 1) none) m n m') (λ k. attempt_of (r k) (i k)) t.2 in
     dite (ℕ_discrete n (4 * last))
     (λ hit. subst (λ (b : Bool). HasBegunJoin b (attempt_of route number) m m') (sym (eq-eqb n (4 * last) hit)) (told.0 hit))
-    (λ miss. subst (λ (b : Bool). HasBegunJoin b (attempt_of route number) m m') (sym (ne_eqb n (4 * last) miss)) (told.1 miss))
+    (λ miss. subst (λ (b : Bool). HasBegunJoin b (attempt_of route number) m m') (sym (ne_eqb n (4 * last) miss)) (told.1 miss).0)
+
+-- The pass isn't the only one, where another one began an attempt since.
+pub lost_beginning : (n slots word route number last : ℕ) (m m' : MyTree) → word ≡ join_place route → number ≡ last + 1
+    → BeginsSome (step slots word (4 * last) (4 * number + 1) none) m n m' → eqb n (4 * last) ≡ false
+    → IsNext (attempt_of route number) m.0.upper.ranges.joins → ¬ IsAlone m.0.sizes m.0.upper
+lost_beginning n slots word route number last m m' at next t lost is_next = let there : word ≡ join_place t.0.route = t.1.0 in
+    let here : 4 * last + 4 ≡ 4 * t.0.number = t.1.1 in let r : route ≡ t.0.route = omega (arith, there, at) in
+    let i : number ≡ t.0.number = omega (arith, here, next) in
+    (t.2.1 (λ hit. let e : true ≡ false = sym (eq-eqb n (4 * last) hit) ∙ lost in absurd cc)).1
+    (subst (λ (x : Attempt). IsNext x m.0.upper.ranges.joins) (λ k. attempt_of (r k) (i k)) is_next)

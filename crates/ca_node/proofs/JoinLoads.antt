@@ -1,24 +1,27 @@
 -- A load of the join word of a route that the seat remembers.
-use Rattle.std.proofs.Common.{◌≡◌, ◌≢◌, ℕ, ◌+◌, ◌*◌, ◌/◌, ◌%◌, ◌<◌, ◌≤◌, cond, eqb, ◌⊎◌, List, [], ◌∷◌, get_or, sym, refl, ap, ◌∙◌, subst, inl, inr, ⊎_elim, arith, eq-eqb, ne_eqb}
+use Rattle.std.proofs.Common.{◌≡◌, ◌≢◌, ℕ, suc, ◌+◌, ◌*◌, ◌/◌, ◌%◌, ◌<◌, ◌≤◌, cond, eqb, ◌⊎◌, List, [], ◌∷◌, get_or, sym, refl, ap, ◌∙◌, subst, inl, inr, ⊎_elim, arith, eq-eqb, ne_eqb}
 use Rattle.std.proofs.lemmas.Bool.{cases_lt}
 use mathlib.Core.Logic.{dite}
-use mathlib.Core.Option.{none}
+use mathlib.Core.Option.{some, none}
 use native.Mathlib.Decide.{ℕ_discrete}
 use Rattle.atomic_table.specs.Table.{step, keeps, Allows}
 use Rattle.atomic_table.proofs.Lists.{at_map}
 use Rattle.ca_rows.specs.Calls.{Raises}
 use Rattle.ca_rows.specs.Rule.{upper_of}
 use Rattle.ca_rows.specs.declared.sizes.Sizes.{Sizes}
-use Rattle.ca_node.specs.Attempts.{join_of, HasAttempt, IsSecured}
-use Rattle.ca_node.specs.Joining.{IsRemembered, AreFinished, IsJoining}
+use Rattle.ca_model.specs.History.{History}
+use Rattle.ca_node.specs.Lone.{IsOfTree, IsLone}
+use Rattle.ca_node.specs.Attempts.{join_of, IsJoinWord, HasAttempt, IsSecured}
+use Rattle.ca_node.specs.Joining.{AreJoining, IsRemembered, AreFinished, IsJoining}
 use Rattle.ca_node.specs.JoinSteps.{join_place, attempt_of, finished_by, secured_by, with_joins, joins_loaded, HasLoadedJoin, LoadsJoin}
-use Rattle.ca_node.specs.Laws.{alive, in_nothing, in_one, noted_alike}
+use Rattle.ca_node.specs.Laws.{in_nothing, in_one, noted_alike}
 use Rattle.ca_node.specs.Links.{IsIn}
 use Rattle.ca_node.specs.May.{MayLoad}
 use Rattle.ca_node.specs.Row.{route_key}
-use Rattle.ca_node.specs.Shape.{Route}
+use Rattle.ca_node.specs.Shape.{Role, Route}
 use Rattle.ca_node.specs.Told.{MyTree, with_upper}
-use Rattle.ca_node.specs.TreeView.{Note, Way, Attempt, Finished, KnownJoins, TreeView}
+use Rattle.ca_node.specs.Tree.{IsAlive, IsDead, IsTrueWay}
+use Rattle.ca_node.specs.TreeView.{Note, Way, Attempt, Finished, KnownJoins, Joining, Secured, TreeView}
 use Rattle.ca_node.proofs.Listing.{in_either}
 use Rattle.ca_node.proofs.Looking.{R, knows_upper, knows_ranges, in_more}
 
@@ -58,6 +61,13 @@ joins_now words notes ways joins route n same known k = record {
   decided = k.decided;
 }
 
+-- The join word of a route that a seat remembers has one of its states: one that was unlinked stays secured.
+state_now : (z : Sizes) (words : List ℕ) (role : ℕ → Role) (since history : History) (way : Way) → IsTrueWay z words role since history way
+    → AreJoining z words role → IsJoinWord words way.row
+state_now z words role since history way t joined = ⊎_elim
+    (λ (e : IsAlive role way). joined.states way.row way.place (route_key way.its) e)
+    (λ (d : (at : ℕ) × IsDead z words role since history way at). let now = d.1.secured in omega (arith, now)) t.stands
+
 module _ (z : Sizes) where
   pub loads_join : (slots id : ℕ) (me : MyTree) (route word_at : ℕ) → me.0.sizes ≡ z → IsRemembered me.0.upper.ways route → word_at ≡ join_place route
       → Allows (R z) slots id me word_at (λ x. x) (Raises MayLoad LoadsJoin (step slots word_at 0 0 none) me)
@@ -66,25 +76,25 @@ module _ (z : Sizes) where
       let n : ℕ = get_or s.words word_at 0 in
       let same : join_of s.words route ≡ n = ap (λ (i : ℕ). get_or s.words i 0) (sym here) in
       let k = knows_upper z s r id d at in
-      let way = known.0 in
-      let is : f.role route ≡ Route way.place (route_key way.its) = subst (λ t. f.role t ≡ Route way.place (route_key way.its)) known.2
-      (alive z s.words f.role d.upper.since f.history way (k.ways way known.1) (k.ways way known.1).unsecured) in
-      let state = f.joined.states route way.place (route_key way.its) is in
+      let way = known.0 in let true_way = k.ways way known.1 in
+      let here_word : join_of s.words way.row ≡ n = ap (join_of s.words) known.2 ∙ same in
+      let state = state_now z s.words f.role d.upper.since f.history way true_way f.joined in
       let ranging = f.ranged.each id d.upper first in
+      let lone : d.sizes.passes ≤ 1 → 0 < d.upper.number → IsLone s.words f.role d.upper.ranges.own d.upper.ways d.upper.ranges.joins.begun = λ few pass.
+      let one : z.passes ≤ 1 = subst (λ (y : Sizes). y.passes ≤ 1) sized few in let within = r.within in f.lone id d.upper first (omega (arith, one, within)) pass in
       let u' : TreeView = with_joins d.upper (joins_loaded route n d.upper.ranges.joins) in
       let told : LoadsJoin (step slots word_at 0 0 none) me n (with_upper me u') = (
         route,
         here,
         record {
           now = refl;
-          unsecured = let low : n % 4 < 3 = subst (λ w. w % 4 < 3) same state in dite (ℕ_discrete (n % 4) 2)
-              (λ (two : n % 4 ≡ 2). let now : join_of s.words route ≡ 4 * (n / 4) + 2 = omega (arith, same, two) in
-              absurd (f.unsecured.none route way.place (route_key way.its) (n / 4) is now))
-              (λ (ne : n % 4 ≢ 2). omega (arith, low, ne));
-          idle = λ few. let low : n % 4 < 3 = subst (λ w. w % 4 < 3) same state in dite (ℕ_discrete (n % 4) 0) (λ zero. zero)
-              (λ (busy : n % 4 ≢ 0). absurd (f.unsecured.idle (subst (λ (y : Sizes). y.passes ≤ 1) sized few) route way.place (route_key way.its) (n / 4) is
-              (dite (ℕ_discrete (n % 4) 1) (λ (one : n % 4 ≡ 1). inl (omega (arith, same, one)))
-              (λ (ne : n % 4 ≢ 1). let two : n % 4 ≡ 2 = omega (arith, low, busy, ne) in inr (omega (arith, same, two))))));
+          state = subst (λ w. w % 4 < 3) here_word state;
+          own_prepared = λ few pass number e. let l = lone few pass in
+              subst (λ t. d.upper.ranges.own ≡ Joining (attempt_of t number)) known.2
+              (l.prepared way.row way.place (route_key way.its) number (l.alive way known.1) (here_word ∙ e));
+          own_secured = λ few pass number e. let l = lone few pass in
+              subst (λ t. d.upper.ranges.own ≡ Secured (attempt_of t number)) known.2
+              (l.secured way.row way.place (route_key way.its) number (l.alive way known.1) (here_word ∙ e));
           marked = λ note i attempt m. let b = (k.joining.hung note i route attempt m).begun in omega (arith, same, b);
           begun = λ x i e. let b : HasAttempt s.words route x.number = subst (λ t. HasAttempt s.words t x.number) e (k.joining.begun x i).1 in
               omega (arith, same, b);
@@ -101,7 +111,21 @@ module _ (z : Sizes) where
         tt,
         knows_ranges z s r word_at id d at u'.ranges d.upper.turns
             (joins_now s.words d.upper.notes d.upper.ways d.upper.ranges.joins route n same known k.joining)
-            (λ row m. inl (noted_alike s.words d.upper u' (λ x i. i) (λ x i. i) (λ x i. i) (λ x i. i) (λ x i. i) row m)) record {
+            (λ row m. inl (noted_alike s.words d.upper u' (λ x i. i) (λ x i. i) (λ x i. i) (λ x i. i) (λ x i. i) row m))
+            (λ few pass l. record {
+              prepared = l.prepared;
+              secured = l.secured;
+              still = l.still;
+              alive = l.alive;
+              latest = λ x i. ⊎_elim
+                  (λ (e : attempt_of route (n / 4) ≡ x). subst (λ (y : Attempt). IsOfTree f.role y.route
+                  × IsIn (attempt_of y.route (join_of s.words y.route / 4)) u'.ranges.joins.begun) e (
+                    (way.place, route_key way.its, subst (λ t. f.role t ≡ Route way.place (route_key way.its)) known.2 (l.alive way known.1)),
+                    (0, ap (λ w. some (attempt_of route (w / 4))) (sym same)),
+                  ))
+                  (λ (o : IsIn x d.upper.ranges.joins.begun). let t = l.latest x o in (t.0, (suc t.1.0, t.1.1)))
+                  (in_more (attempt_of route (n / 4)) x d.upper.ranges.joins.begun i);
+            }) record {
               over = ranging.over;
               borders = ranging.borders;
               own = ranging.own;

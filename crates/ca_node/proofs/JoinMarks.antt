@@ -16,6 +16,7 @@ use Rattle.ca_rows.specs.declared.view.Claim.TheVariants.{Holds}
 use Rattle.ca_rows.specs.declared.view.View.{View}
 use Rattle.ca_runs.specs.Runs.{AreRuns}
 use Rattle.ca_runs.proofs.Keeping.{runs_still, replaced_stays}
+use Rattle.ca_node.specs.LoneStays.{same_kept}
 use Rattle.ca_node.specs.Attempts.{HasAttempt, IsUnderWay}
 use Rattle.ca_node.specs.Copies.{Copy, update_of, copy_note, copied, IsCopied, Copies}
 use Rattle.ca_node.specs.Inventory.{AreOnce, row_itself}
@@ -178,6 +179,7 @@ module _ (z : Sizes) (s : State (Unit {0}) (View TreeView)) (r : R z s) (id : �
             (λ (o : IsIn note me.0.upper.notes). knows.links note o)
             (in_more (copy_note new x) note me.0.upper.notes i);
         ways = way_keeps z s r id me at new (update_of x) ex hit over free r.above.history mark bounded has_now others_have [] serve once new_end id me.0 at longer;
+        way_links = k.way_links;
         one_place = k.one_place;
         joining = joining_more z s r id me at new (update_of x) ex hit over free r.above.history mark bounded has_now others_have [] serve once new_end;
         ended = k.ended;
@@ -202,6 +204,7 @@ module _ (z : Sizes) (s : State (Unit {0}) (View TreeView)) (r : R z s) (id : �
           ways = subst (λ (w : TreeView). (way : Way) → IsIn way w.ways → IsTrueWay z words' role' w.since r.above.history way) y.2
               (way_keeps z s r id me at new (update_of x) ex hit over free r.above.history mark bounded has_now others_have [] serve once new_end
               j y.0 y.1 longer);
+          way_links = k.way_links;
           one_place = k.one_place;
           joining = subst (λ (w : TreeView). IsJoining words' w.notes w.ways w.ranges.joins) y.2
               (joining_keep z s r id me at new (update_of x) ex hit over free r.above.history mark bounded has_now others_have [] serve once new_end j y.0 y.1);
@@ -227,7 +230,7 @@ module _ (z : Sizes) (s : State (Unit {0}) (View TreeView)) (r : R z s) (id : �
     exchange_step z s r id me at new (update_of x) ex hit over free r.above.history mark bounded has_now others_have [] serve once new_end u'
         (own_notes z s r id me at new (update_of x) ex hit over free r.above.history mark bounded has_now others_have [] serve once new_end u'
         refl refl (λ border i. inl i) (λ row o. o) refl)
-        refl f.edits f.by_passes runs_now own_knows own_ranging others_know,
+        refl (same_kept me.0.upper.ranges.own) refl refl f.edits f.by_passes runs_now own_knows own_ranging others_know,
     record {
       now = refl;
       unclaimed = unclaimed_row z s r id me.0 at x.old.row

@@ -19,9 +19,11 @@ use Rattle.ca_rows.proofs.Relinking.{Stays, relinks}
 use Rattle.ca_rows.proofs.Rules.{all_seats}
 use Rattle.ca_runs.specs.Runs.{AreRuns}
 use Rattle.ca_runs.proofs.Keeping.{runs_still}
-use Rattle.ca_node.specs.Attempts.{join_of, IsSecured, JoinGoesOn}
+use Rattle.ca_node.specs.Lone.{IsLone}
+use Rattle.ca_node.proofs.OwnTurns.{TurnsOwn, so_turned, marking_back}
+use Rattle.ca_node.specs.Attempts.{join_of, JoinGoesOn}
 use Rattle.ca_node.specs.Inventory.{IsInventory}
-use Rattle.ca_node.specs.Joining.{AreJoining, AreUnsecured, IsJoining}
+use Rattle.ca_node.specs.Joining.{AreJoining, IsJoining}
 use Rattle.ca_node.specs.JoinsStay.{remembered_route, join_same, joining_goes_on}
 use Rattle.ca_node.specs.DeadStays.{dead_stays}
 use Rattle.ca_node.specs.Hindsight.{IsDead}
@@ -39,7 +41,7 @@ use Rattle.ca_node.specs.Shape.{Role, Out, Base, Route, place_of, IsLink, LeadsT
 use Rattle.ca_node.specs.Standing.{IsSameButLinks, form_same, mark_stays, base_stands, route_stands}
 use Rattle.ca_node.specs.Stays.{row_same, map_same}
 use Rattle.ca_node.specs.Tree.{IsTrue, Knows, IsTree}
-use Rattle.ca_node.specs.TreeView.{Note, Way, Turns, KnownJoins, TreeView}
+use Rattle.ca_node.specs.TreeView.{Note, Way, Turns, KnownJoins, TreeView, Ranging}
 use Rattle.ca_node.proofs.Looking.{R}
 
 module _ (z : Sizes) (s : State (Unit {0}) (View TreeView)) (r : R z s) (route : ℕ) (place : Place) (key : List ℕ)
@@ -268,48 +270,43 @@ module _ (z : Sizes) (s : State (Unit {0}) (View TreeView)) (r : R z s) (route :
           → get_or words' (row_words * way.row + index) 0 ≡ get_or s.words (row_words * way.row + index) 0
       way_stays way index l n = join_else (row_words * way.row + index) (λ e. n (omega arith))
 
-      -- What a seat knows else, where no attempt of the route is secured then.
-      module _ (unsecured : (attempt : ℕ) → ¬ IsSecured words' route attempt) where
-        dead_apart : (way : Way) (at : ℕ) → IsDead z s.words role v.since f.history way at → way.row ≢ route
-        dead_apart way at d e = let y : Out ≡ Route place key = sym d.is_out ∙ (ap role e ∙ is) in cc
+      -- What a seat knows else.
+      dead_apart : (way : Way) (at : ℕ) → IsDead z s.words role v.since f.history way at → way.row ≢ route
+      dead_apart way at d e = let y : Out ≡ Route place key = sym d.is_out ∙ (ap role e ∙ is) in cc
 
-        dead_then : (way : Way) (at : ℕ) → IsDead z s.words role v.since f.history way at → IsDead z words' role v.since f.history way at
-        dead_then way at d = dead_stays z s.words words' role role v.since f.history f.history way at d.is_out
-            (λ k l. join_else (row_words * way.row + k) (λ e. dead_apart way at d (omega arith)))
-            (λ c under m attempt p left. record {
-              is_out = left.is_out;
-              same = row_stays c left.in_range (other_form c (λ three. let two = left.is_base in omega arith));
-              objects = λ r i. let o = left.are_objects r i in row_stays r o.1 (other_form r (λ three. let one = o.2.0 in omega arith));
-            })
-            (λ l. (l, refl)) d
+      dead_then : (way : Way) (at : ℕ) → IsDead z s.words role v.since f.history way at → IsDead z words' role v.since f.history way at
+      dead_then way at d = dead_stays z s.words words' role role v.since f.history f.history way at d.is_out
+          (λ k l. join_else (row_words * way.row + k) (λ e. dead_apart way at d (omega arith)))
+          (λ c under m attempt p left. record {
+            is_out = left.is_out;
+            same = row_stays c left.in_range (other_form c (λ three. let two = left.is_base in omega arith));
+            objects = λ r i. let o = left.are_objects r i in row_stays r o.1 (other_form r (λ three. let one = o.2.0 in omega arith));
+          })
+          (λ l. (l, refl)) d
 
-        unsecured_then : (way : Way) → ((attempt : ℕ) → ¬ IsSecured s.words way.row attempt) → (attempt : ℕ) → ¬ IsSecured words' way.row attempt
-        unsecured_then way before attempt now = dite (ℕ_discrete way.row route)
-            (λ (e : way.row ≡ route). unsecured attempt (subst (λ t. IsSecured words' t attempt) e now))
-            (λ (ne : way.row ≢ route). before attempt (sym (join_else (row_words * way.row + 3) (λ e. ne (omega arith))) ∙ now))
-
-        pub knows_then : (uppers' : List TreeView) → Knows z r.made s.words role uppers' f.history j v
-            → Knows z r.made words' role uppers' f.history j v
-        knows_then uppers' k = record {
-          made_before = k.made_before;
-          alone = k.alone;
-          seen_first = k.seen_first;
-          since_first = k.since_first;
-          lawful = k.lawful;
-          past = k.past;
-          notes = λ note i. true_then note (k.notes note i);
-          links = k.links;
-          ways = λ way i. let t = k.ways way i in record {
-            some_row = t.some_row;
-            in_range = t.in_range;
-            stands = ⊎_elim (λ e. inl e) (λ d. inr (d.0, dead_then way d.0 d.1)) t.stands;
-            spells = λ index fixed. way_stays way index fixed.0 fixed.3 ∙ t.spells index fixed;
-            unsecured = unsecured_then way t.unsecured;
-          };
-          one_place = k.one_place;
-          joining = joining_then;
-          ended = k.ended;
-        }
+      pub knows_then : (uppers' : List TreeView) → Knows z r.made s.words role uppers' f.history j v
+          → Knows z r.made words' role uppers' f.history j v
+      knows_then uppers' k = record {
+        made_before = k.made_before;
+        alone = k.alone;
+        seen_first = k.seen_first;
+        since_first = k.since_first;
+        lawful = k.lawful;
+        past = k.past;
+        notes = λ note i. true_then note (k.notes note i);
+        links = k.links;
+        ways = λ way i. let t = k.ways way i in record {
+          some_row = t.some_row;
+          is_route = t.is_route;
+          in_range = t.in_range;
+          stands = ⊎_elim (λ e. inl e) (λ d. inr (d.0, dead_then way d.0 d.1)) t.stands;
+          spells = λ index fixed. way_stays way index fixed.0 fixed.3 ∙ t.spells index fixed;
+        };
+        way_links = k.way_links;
+        one_place = k.one_place;
+        joining = joining_then;
+        ended = k.ended;
+      }
 
       under_back : (way : Way) (row : ℕ) → IsUnder words' way.row row → IsUnder s.words way.row row
       under_back way row under = ⊎_elim (λ e. inl (sym (way_stays way 1 (omega arith) (λ x. omega arith)) ∙ e))
@@ -346,20 +343,23 @@ module _ (z : Sizes) (s : State (Unit {0}) (View TreeView)) (r : R z s) (route :
     -- A seat knows this of joins then, and counted these turns, and the rule holds again.
     module _ (id : ℕ) (d : View TreeView) (at : get_elem? s.views id ≡ some d) (joining : KnownJoins) (turns : Turns) (most : ℕ)
         (joined' : AreJoining z (set s.words (row_words * route + 3) word') r.above.role)
-        (unsecured' : AreUnsecured z (set s.words (row_words * route + 3) word') r.above.role)
-        (own : IsJoining (set s.words (row_words * route + 3) word') d.upper.notes d.upper.ways joining) where
+        (own : IsJoining (set s.words (row_words * route + 3) word') d.upper.notes d.upper.ways joining)
+        (own' : Ranging) (turn : TurnsOwn d.upper.ranges.own own')
+        (lone' : r.made ≤ 1 → 0 < d.upper.number → IsLone (set s.words (row_words * route + 3) word') r.above.role own' d.upper.ways joining.begun)
+        (lone_else : (j : ℕ) (v : TreeView) → j ≢ id → get_elem? (map upper_of s.views) j ≡ some v → r.made ≤ 1 → 0 < v.number
+        → IsLone (set s.words (row_words * route + 3) word') r.above.role v.ranges.own v.ways v.ranges.joins.begun) where
       abbrev u' : TreeView
-      u' = record d.upper { ranges = record d.upper.ranges { joins = joining }; turns = turns }
+      u' = record d.upper { ranges = record d.upper.ranges { own = own'; joins = joining }; turns = turns }
 
       abbrev d' : View TreeView
-      d' = record d { upper = record d.upper { ranges = record d.upper.ranges { joins = joining }; turns = turns }; most = most }
+      d' = record d { upper = record d.upper { ranges = record d.upper.ranges { own = own'; joins = joining }; turns = turns }; most = most }
 
       first : get_elem? (map upper_of s.views) id ≡ some d.upper
       first = at_map upper_of s.views id d at
 
       still : (j : ℕ) (v : TreeView) (here : get_elem? (map upper_of s.views) j ≡ some v)
           → Knows z r.made words' role (set (map upper_of s.views) id u') f.history j v
-      still j v here = knows_then j v here (λ attempt. unsecured'.none route place key attempt is) (set (map upper_of s.views) id u')
+      still j v here = knows_then j v here (set (map upper_of s.views) id u')
           (relisted z r.made s.words role (map upper_of s.views) (set (map upper_of s.views) id u') f.history j v
           (numbered (map upper_of s.views) id d.upper u' first (λ _. refl)) (f.each_seat j v here))
 
@@ -374,6 +374,7 @@ module _ (z : Sizes) (s : State (Unit {0}) (View TreeView)) (r : R z s) (route :
         notes = k.notes;
         links = k.links;
         ways = k.ways;
+        way_links = k.way_links;
         one_place = k.one_place;
         joining = own;
         ended = k.ended;
@@ -383,10 +384,14 @@ module _ (z : Sizes) (s : State (Unit {0}) (View TreeView)) (r : R z s) (route :
       own_ranging = let k = ranging_then id d.upper first in record {
         over = k.over;
         borders = k.borders;
-        own = k.own;
+        own = λ pass. so_turned z words' role (f.ranged.ends d.upper.number) d.upper.since f.history d.upper.number d.upper.ranges.borders
+            d.upper.ranges.own own' turn (k.own pass);
         sequence = k.sequence;
         run = k.run;
       }
+
+      run_was : (row : ℕ) → IsOfOwnRun words' u' row → IsOfOwnRun words' d.upper row
+      run_was row o = (o.0, o.1, (o.2.0, o.2.1, marking_back d.upper.ranges.own own' turn o.2.0 o.2.1 o.2.2, o.2.3), o.3, o.4)
 
       control : (i : ℕ) → i < row_words → get_or words' i 0 ≡ get_or s.words i 0
       control i l = let lo = at_route.some_row in join_else i (λ e. omega arith)
@@ -410,7 +415,7 @@ module _ (z : Sizes) (s : State (Unit {0}) (View TreeView)) (r : R z s) (route :
               (map upper_of s.views) id u' own_ranging (λ j v n here. ranging_then j v here);
         };
         joined = joined';
-        unsecured = unsecured';
+        lone = all_seats (λ j v. r.made ≤ 1 → 0 < v.number → IsLone words' role v.ranges.own v.ways v.ranges.joins.begun) (map upper_of s.views) id u' lone' lone_else;
         each_seat = all_seats (Knows z r.made words' role (set (map upper_of s.views) id u') f.history)
             (map upper_of s.views) id u' own_knows (λ j v n here. still j v here);
         inventory = f.inventory;
@@ -423,7 +428,7 @@ module _ (z : Sizes) (s : State (Unit {0}) (View TreeView)) (r : R z s) (route :
       pub join_step : R z record {
         words = set s.words (row_words * route + 3) word';
         homes = s.homes;
-        views = set s.views id (record d { upper = record d.upper { ranges = record d.upper.ranges { joins = joining }; turns = turns }; most = most });
+        views = set s.views id (record d { upper = record d.upper { ranges = record d.upper.ranges { own = own'; joins = joining }; turns = turns }; most = most });
       }
       join_step = relinks IsLinked IsLent IsNoted IsTree tree_lends z s r id d d' words' (λ _. Stays) record {
         at = at;
@@ -441,7 +446,7 @@ module _ (z : Sizes) (s : State (Unit {0}) (View TreeView)) (r : R z s) (route :
             (λ (t : (j ≡ id) × (d' ≡ y)). inl (
               d,
               ap (get_elem? s.views) t.0 ∙ at,
-              noted_before id d.upper first c (noted_alike words' d.upper u' (λ x i. i) (λ x i. i) (λ x i. i) (λ x i. i) (λ x i. i) c
+              noted_before id d.upper first c (noted_alike words' d.upper u' (λ x i. i) (λ x i. i) (λ x i. i) run_was (λ x i. i) c
                   (subst (λ (w : View TreeView). IsNoted words' w.upper c) (sym t.1) n)),
             ))
             (λ (t : (j ≢ id) × (get_elem? s.views j ≡ some y)). inl (y, t.1, noted_before j y.upper (at_map upper_of s.views j y t.1) c n))

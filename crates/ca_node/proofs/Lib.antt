@@ -14,6 +14,7 @@ pub mod JoinBegins
 pub mod JoinEnds
 pub mod JoinLoads
 pub mod JoinMarks
+pub mod JoinOwn
 pub mod JoinTurns
 pub mod JoinWord
 pub mod Joined
@@ -23,6 +24,8 @@ pub mod LinkLoads
 pub mod Listing
 pub mod LentOver
 pub mod Logs
+pub mod Lone
+pub mod LoneLoads
 pub mod Looking
 pub mod Marks
 pub mod Members
@@ -31,6 +34,7 @@ mod Neighbours
 pub mod OwnDeciding
 pub mod OwnEnding
 pub mod OwnOpening
+pub mod OwnTurns
 pub mod OwnWatching
 pub mod OwnWord
 pub mod Parts
@@ -44,6 +48,8 @@ mod SameNotes
 pub mod Tallies
 pub mod Turned
 pub mod Unlinked
+pub mod UnlinkStep
+pub mod UnlinkedRows
 pub mod Updating
 pub mod Walks
 pub mod Watching

@@ -1,6 +1,6 @@
 -- Loads of links: what a link names that a seat knows is a base or a route of the tree, or a base that was left over under a route that was unlinked.
-use Rattle.std.proofs.Common.{◌≡◌, ◌⊎◌, ℕ, suc, ◌≤◌, le_refl, Bool, true, List, [], ◌∷◌, length, map, get_or, set, sym, refl, ap, ◌∙◌, subst, inl, inr, ⊎_elim, arith}
-use mathlib.Core.Option.{some, none}
+use Rattle.std.proofs.Common.{◌≡◌, ◌≢◌, ◌⊎◌, ℕ, suc, ◌+◌, ◌*◌, ◌≤◌, le_refl, Bool, true, List, [], ◌∷◌, length, map, get_or, set, sym, refl, ap, ◌∙◌, subst, inl, inr, ⊎_elim, arith}
+use mathlib.Core.Option.{some, none, some-injective}
 use lib.ListN.{get_elem?}
 use Rattle.atomic_table.specs.Table.{State, step, keeps, Allows}
 use Rattle.atomic_table.proofs.Lists.{at_map}
@@ -9,24 +9,40 @@ use Rattle.ca_rows.specs.declared.sizes.Sizes.{Sizes}
 use Rattle.ca_rows.specs.declared.view.View.{View}
 use Rattle.ca_rows.specs.Calls.{Raises}
 use Rattle.ca_rows.specs.Rule.{upper_of}
-use Rattle.ca_node.specs.Attempts.{HasAttempt}
+use Rattle.ca_node.specs.LoneStays.{same_kept, lone_same}
+use Rattle.ca_node.specs.Attempts.{HasAttempt, IsSecured}
 use Rattle.ca_node.specs.Inventory.{IsListed}
-use Rattle.ca_node.specs.Joining.{IsHung}
+use Rattle.ca_node.specs.Joining.{AreJoining, IsHung}
 use Rattle.ca_node.specs.JoinsStay.{mark_hangs, joining_noted, joining_further}
 use Rattle.ca_node.specs.Laws.{numbered, relisted, seat_changed, starts_whole}
 use Rattle.ca_node.specs.Links.{IsIn, IsUnder, IsLinked, IsNoted, by_link, by_link_item}
+use Rattle.ca_node.specs.Marks.{IsMarkedUnder, AreJoined}
 use Rattle.ca_node.specs.May.{MayLoad}
 use Rattle.ca_node.specs.Notes.{IsBaseNote}
 use Rattle.ca_node.specs.Place.{part, Place, IsLinkOf}
-use Rattle.ca_node.specs.Reached.{by_place, base_at, placed_linked, item_linked}
-use Rattle.ca_node.specs.Row.{row_at, items, IsMarkedFor, route_key, pair}
-use Rattle.ca_node.specs.Shape.{Base, Route, place_of, LeadsTo}
+use Rattle.ca_node.specs.Reached.{by_place, base_at, route_at, placed_linked, item_linked}
+use Rattle.ca_node.specs.Row.{row_at, count, items, IsMarkedFor, route_key, pair}
+use Rattle.ca_node.specs.Shape.{Role, Base, Route, place_of, LeadsTo, Out}
 use Rattle.ca_node.specs.States.{IsAlone}
-use Rattle.ca_node.specs.Told.{MyTree, with_upper, IsRouteNote, IsKnown, IsAnyLink, come_to, come_at, led_to_base, led_to_route, IsLedToBase, IsLedToRoute, IsLed, Leads}
-use Rattle.ca_node.specs.Tree.{StartsWith, ArePast, IsLinkOfView, IsTrue, IsTrueWay, Knows, IsTree}
-use Rattle.ca_node.specs.TreeView.{Note, Way, Inventory, TreeView}
+use Rattle.ca_node.specs.Told.{MyTree, with_upper, IsRouteNote, IsKnown, IsAnyLink, come_to, come_at, led_to_base, led_to_route, IsLedToBase, IsLedToRoute, IsLed, IsShownSecured, IsLedSecured, Leads}
+use Rattle.ca_node.specs.Tree.{StartsWith, ArePast, IsAlive, IsDead, IsLinkOfView, IsTrue, IsTrueWay, Knows, IsTree}
+use Rattle.ca_node.specs.TreeView.{Note, Way, Attempt, Inventory, TreeView}
+use Rattle.ca_rows.specs.Layout.{row_words}
 use Rattle.ca_node.proofs.Logs.{last_state}
 use Rattle.ca_node.proofs.Looking.{R, looked, knows_upper, in_more, new_note, new_way, row_note, in_turn, starts_shorter, base_true, base_is, base_has, left_true, left_is, route_way, there, way_true, way_alike, route_is, IsLeftLink, known_leads, link_of_view, place_known, whole, since_whole, past_whole, known_now}
+
+-- A secured attempt of a route that a seat remembers has both bases under the route, whether that is in the tree or was unlinked.
+pub secured_joined : (z : Sizes) (words : List ℕ) (role : ℕ → Role) (since history : History) (way : Way) → IsTrueWay z words role since history way
+    → AreJoining z words role → (attempt : ℕ) → IsSecured words way.row attempt → AreJoined z words way.row attempt
+secured_joined z words role since history way t joined attempt secured = ⊎_elim
+    (λ (e : IsAlive role way). joined.secured way.row way.place (route_key way.its) attempt e secured)
+    (λ (d : (at : ℕ) × IsDead z words role since history way at). let was = d.1.secured in let same : d.1.attempt ≡ attempt = omega (arith, was, secured) in
+    subst (AreJoined z words way.row) same record {
+      left = (d.1.left.base.is_base, d.1.left.base.marked);
+      right = (d.1.right.base.is_base, d.1.right.base.marked);
+      few = d.1.few;
+    })
+    t.stands
 
 module _ (z : Sizes) (s : State (Unit {0}) (View TreeView)) (r : R z s) (id : ℕ) (me : MyTree) (at : get_elem? s.views id ≡ some me.0)
     (is_pinned : me.0.pin.pinned ≡ true) (sizes : me.0.sizes ≡ z) (walks : Bool) (link : ℕ) (any : IsAnyLink me.0.upper link) where
@@ -68,6 +84,33 @@ module _ (z : Sizes) (s : State (Unit {0}) (View TreeView)) (r : R z s) (id : �
   abbrev note : ℕ → Note
   note level = row_note s.words c (spot level)
 
+  -- It is the link of a route whose attempt is secured, as the seat knows: that marked what it names.
+  module _ (x : Attempt) (i : IsIn x me.0.upper.ranges.joins.secured) (of : IsLinkOf x.route link) where
+    both_joined : AreJoined z s.words x.route x.number
+    both_joined = let known = k.joining.secured x i in subst (λ t. AreJoined z s.words t x.number) known.0.2
+        (secured_joined z s.words f.role u.since f.history known.0.0 (k.ways known.0.0 known.0.1) f.joined x.number
+        (subst (λ t. IsSecured s.words t x.number) (sym known.0.2) known.1))
+
+    marked_here : IsMarkedUnder s.words x.route x.number link
+    marked_here = ⊎_elim (λ (e : link ≡ row_words * x.route + 1). subst (IsMarkedUnder s.words x.route x.number) (sym e) both_joined.left)
+        (λ (e : link ≡ row_words * x.route + 2). subst (IsMarkedUnder s.words x.route x.number) (sym e) both_joined.right) of
+
+    few_together : (other : Note) → IsIn other me.0.upper.notes → IsLinkOf x.route other.place.link → other.place.link ≢ link
+        → IsMarkedFor other.its x.route x.number → count other.its + count (row_at s.words (get_or s.words link 0)) ≤ z.leaf
+    few_together other j on ne m = let few = both_joined.few in
+        let was : row_at s.words (get_or s.words other.place.link 0) ≡ other.its = ap (row_at s.words)
+        ((k.joining.hung other j x.route x.number m).hangs (inr (k.joining.secured x i).1)) ∙ (k.notes other j).spells in ⊎_elim
+        (λ (l : link ≡ row_words * x.route + 1). ⊎_elim (λ (o : other.place.link ≡ row_words * x.route + 1). absurd (ne (o ∙ sym l)))
+        (λ (o : other.place.link ≡ row_words * x.route + 2). let there = at_link (row_words * x.route + 2) other.place.link o ∙ was in
+        omega (arith, few, ap count there, ap count (at_link (row_words * x.route + 1) link l))) on)
+        (λ (l : link ≡ row_words * x.route + 2). ⊎_elim
+        (λ (o : other.place.link ≡ row_words * x.route + 1). let there = at_link (row_words * x.route + 1) other.place.link o ∙ was in
+        omega (arith, few, ap count there, ap count (at_link (row_words * x.route + 2) link l)))
+        (λ (o : other.place.link ≡ row_words * x.route + 2). absurd (ne (o ∙ sym l))) on) of
+      where
+        at_link : (a b : ℕ) → b ≡ a → row_at s.words (get_or s.words a 0) ≡ row_at s.words (get_or s.words b 0)
+        at_link a b e = ap (λ w. row_at s.words (get_or s.words w 0)) (sym e)
+
   -- It names a base at this level, in the tree or left over: each row that the base shows is linked, or one that the seat has a note on, and the base has what
   -- a state since the pin has.
   record IsShownBase (level : ℕ) : Type 0 where
@@ -93,7 +136,7 @@ module _ (z : Sizes) (s : State (Unit {0}) (View TreeView)) (r : R z s) (id : �
         (λ row m. ⊎_elim (λ o. inl o) (λ p. ⊎_elim (λ o. inl o) (λ l. inr (l, is_pinned)) (b.noted row p))
         (new_note s.words u more (note level) (come_to walks u (note level)) (come_at walks u) (λ row. (c ≡ row) ⊎ IsIn row (items its))
         (inl refl) (λ x i. inr i) row m))
-        (seat_changed z r.made s.words us id u with_base f first (λ _. refl) (λ _. refl) record {
+        (seat_changed z r.made s.words us id u with_base f first (λ _. refl) (λ _. refl) (λ _ _ l. l) record {
           made_before = k'.made_before;
           alone = k'.alone;
           seen_first = subst (StartsWith f.history) (whole z s r id me at) (starts_whole f.history);
@@ -106,6 +149,7 @@ module _ (z : Sizes) (s : State (Unit {0}) (View TreeView)) (r : R z s) (id : �
               (link_of_view z r.made s.words us f id u k link any.0 any.1 any.2))
               (λ (o : IsIn m u.notes). k.links m o) (in_more (note level) m u.notes i);
           ways = k.ways;
+          way_links = k.way_links;
           one_place = k.one_place;
           joining = joining_noted s.words (note level) u.notes u.ways u.ranges.joins b.hangs k.joining;
           ended = k'.ended;
@@ -130,6 +174,16 @@ module _ (z : Sizes) (s : State (Unit {0}) (View TreeView)) (r : R z s) (id : �
       alike = λ old i same. sym (k.notes old i).spells ∙ ap (row_at s.words) same;
     }
 
+    secured_told : IsLedSecured link me (with_upper me with_base)
+    secured_told x i of = let here = marked_here x i of in record {
+      note = note level;
+      shown = refl;
+      hangs = refl;
+      is_base = here.0;
+      marked = here.1;
+      few = λ other j on ne m. sized (λ y. count other.its + count its ≤ y.leaf) (few_together x i of other j on ne m);
+    }
+
   -- It names a base of the tree.
   base_in_tree : (level : ℕ) → any.0 ≤ level → f.role (get_or s.words link 0) ≡ Base (spot level) → IsShownBase level
   base_in_tree level greater is = let linked = placed_linked z s.words f.role (after f.history []) f.shape c (spot level) (ap place_of is) in record {
@@ -148,6 +202,7 @@ module _ (z : Sizes) (s : State (Unit {0}) (View TreeView)) (r : R z s) (id : �
         subst (λ (i : Inventory). IsListed i (note level)) (sym (f.only_one id u first (omega arith) alone.1)) record {
           row = f.listed.linked c linked;
           base = f.listed.based c (spot level) is;
+          one = λ place i. some-injective place (spot level) (ap place_of (sym (f.listed.bases c place i) ∙ is));
           only = λ row place key i has here. f.shape.apart row c place (spot level) key (f.listed.bases row place i) is has here;
         };
   }
@@ -156,6 +211,8 @@ module _ (z : Sizes) (s : State (Unit {0}) (View TreeView)) (r : R z s) (id : �
   base_left_over : (t : IsLeftLink z r.made s.words us f id u k link any.0 any.1) → IsShownBase t.4.level
   base_left_over t = let d = t.3 in let left = t.4.base in
       let under : IsUnder s.words t.0.row c = ⊎_elim (λ e. inl (ap (λ i. get_or s.words i 0) (sym e))) (λ e. inr (ap (λ i. get_or s.words i 0) (sym e))) t.5 in
+      let not_alone : ¬ IsAlone z u = λ alone. let one = alone.0 in let within = r.within in
+      let w : Route t.0.place (route_key t.0.its) ≡ Out = sym ((f.lone id u first (omega arith) alone.1).alive t.0 t.1) ∙ d.is_out in absurd cc in
       record {
         greater = t.4.greater;
         noted = λ row p. inl (⊎_elim (λ e. by_link t.0 row t.1 (subst (IsUnder s.words t.0.row) e under))
@@ -172,8 +229,8 @@ module _ (z : Sizes) (s : State (Unit {0}) (View TreeView)) (r : R z s) (id : �
         since = d.since_pin;
         in_history = d.in_history;
         has = in_turn s.words (items its) ∙ left.has;
-        last = λ alone. let one = alone.0 in let several = d.several in absurd (omega arith);
-        listed = λ alone. let one = alone.0 in let several = d.several in absurd (omega arith);
+        last = λ alone. absurd (not_alone alone);
+        listed = λ alone. absurd (not_alone alone);
       }
 
   -- It names a route.
@@ -207,6 +264,10 @@ module _ (z : Sizes) (s : State (Unit {0}) (View TreeView)) (r : R z s) (id : �
         alike : (old : Way) → IsIn old u.ways → way.row ≡ old.row → (way.place ≡ old.place) × (route_key way.its ≡ route_key old.its)
         alike old o e = way_alike z r.made s.words us f c (spot level) key is u.since old (k.ways old o) e
 
+    alive_now : IsAlive f.role way
+    alive_now = ⊎_elim (λ e. e) (λ d. let w : Route (spot level) key ≡ Out = sym is ∙ d.1.is_out in absurd cc)
+        (way_true z r.made s.words us f c (spot level) key is u.since).stands
+
     to_route : Next with_route
     to_route =
         let k' = relisted z r.made s.words f.role us (set us id with_route) f.history id u (numbered us id u with_route first (λ _. refl)) k in
@@ -214,7 +275,10 @@ module _ (z : Sizes) (s : State (Unit {0}) (View TreeView)) (r : R z s) (id : �
         (λ row m. ⊎_elim (λ o. inl o) (λ l. inr (l, is_pinned))
         (new_way s.words u more way (placed_linked z s.words f.role (after f.history []) f.shape c (spot level) (ap place_of is))
         (there z r.made s.words us f c (spot level) key is).is_route row m))
-        (seat_changed z r.made s.words us id u with_route f first (λ _. refl) (λ _. refl) record {
+        (seat_changed z r.made s.words us id u with_route f first (λ _. refl) (λ _. refl)
+        (λ _ _ l. lone_same s.words f.role u.ranges.own u.ranges.own u.ways (way ∷ u.ways) u.ranges.joins.begun u.ranges.joins.begun
+        (λ w i. ⊎_elim (λ (e : way ≡ w). inr (subst (IsAlive f.role) e alive_now)) (λ (o : IsIn w u.ways). inl o) (in_more way w u.ways i))
+        (same_kept u.ranges.own) (inl refl) l) record {
           made_before = k'.made_before;
           alone = k'.alone;
           seen_first = subst (StartsWith f.history) (whole z s r id me at) (starts_whole f.history);
@@ -226,6 +290,9 @@ module _ (z : Sizes) (s : State (Unit {0}) (View TreeView)) (r : R z s) (id : �
           ways = λ w i. ⊎_elim
               (λ (e : way ≡ w). subst (IsTrueWay z s.words f.role u.since f.history) e (way_true z r.made s.words us f c (spot level) key is u.since))
               (λ (o : IsIn w u.ways). k.ways w o) (in_more way w u.ways i);
+          way_links = λ w i. more_links w.place.link (⊎_elim (λ (e : way ≡ w). subst (λ (y : Way). IsLinkOfView u y.place.link) e
+              (link_of_view z r.made s.words us f id u k link any.0 any.1 any.2))
+              (λ (o : IsIn w u.ways). k.way_links w o) (in_more way w u.ways i));
           one_place = one_place_now;
           joining = joining_further s.words u.notes way u.ways u.ranges.joins k.joining;
           ended = k'.ended;
@@ -243,8 +310,12 @@ module _ (z : Sizes) (s : State (Unit {0}) (View TreeView)) (r : R z s) (id : �
           (route_is z r.made s.words us f c (spot level) key is, known_now z s r id me at with_route refl refl refl);
     }
 
+    no_secured : IsLedSecured link me (with_upper me with_route)
+    no_secured x i of = let two = (marked_here x i of).0 in
+        let three = (route_at z s.words f.role (after f.history []) f.shape c (spot level) key is).is_route in absurd (omega (arith, two, three))
+
   pub link_loaded : (d' : View TreeView) × Next d'.upper × (d' ≡ record me.0 { upper = d'.upper })
-      × IsLed walks link me (get_or s.words link 0) (d', me.1)
+      × IsLed walks link me (get_or s.words link 0) (d', me.1) × IsLedSecured link me (d', me.1)
   link_loaded = ⊎_elim
       (λ (l : LeadsTo s.words f.role link any.0 any.1). ⊎_elim
       (λ (b : f.role c ≡ Base (spot l.level)). by_base l.level (base_in_tree l.level l.greater b))
@@ -253,21 +324,34 @@ module _ (z : Sizes) (s : State (Unit {0}) (View TreeView)) (r : R z s) (id : �
         to_route l.level l.greater t.0 t.1,
         refl,
         inr (route_told l.level l.greater t.0 t.1),
+        no_secured l.level l.greater t.0 t.1,
       ))
       (by_place (f.role c) (spot l.level) l.hangs))
       (λ (t : IsLeftLink z r.made s.words us f id u k link any.0 any.1). by_base t.4.level (base_left_over t))
       (known_leads z r.made s.words us f id u k link any.0 any.1 any.2)
     where
       by_base : (level : ℕ) → IsShownBase level → (d' : View TreeView) × Next d'.upper × (d' ≡ record me.0 { upper = d'.upper })
-          × IsLed walks link me (get_or s.words link 0) (d', me.1)
-      by_base level b = (record me.0 { upper = with_base level b }, to_base level b, refl, inl (base_told level b))
+          × IsLed walks link me (get_or s.words link 0) (d', me.1) × IsLedSecured link me (d', me.1)
+      by_base level b = (record me.0 { upper = with_base level b }, to_base level b, refl, inl (base_told level b), secured_told level b)
+
+-- Where a load showed what a secured attempt marked it led to that base.
+pub led_to_marked : (walks : Bool) (link : ℕ) (m : MyTree) (n : ℕ) (m' : MyTree) (x : Attempt) → IsLed walks link m n m' → (s : IsShownSecured link x m m')
+    → (b : IsLedToBase walks link m n m') × (b.note ≡ s.note)
+led_to_marked walks link m n m' x led s = ⊎_elim
+    (λ (b : IsLedToBase walks link m n m').
+    let here : b.note ∷ m.0.upper.notes ≡ s.note ∷ m.0.upper.notes = sym (ap (λ (y : MyTree). y.0.upper.notes) b.now) ∙ s.shown in
+    (b, some-injective b.note s.note (ap (λ (notes : List Note). get_elem? notes 0) here)))
+    (λ (t : IsLedToRoute link m n m').
+    let here : m.0.upper.notes ≡ s.note ∷ m.0.upper.notes = sym (ap (λ (y : MyTree). y.0.upper.notes) t.now) ∙ s.shown in
+    absurd (let longer : length m.0.upper.notes ≡ suc (length m.0.upper.notes) = ap length here in omega (arith, longer)))
+    led
 
 module _ (z : Sizes) where
   -- The load of a link.
   pub leads : (walks : Bool) (slots id : ℕ) (me : MyTree) (link : ℕ) → me.0.pin.pinned ≡ true → me.0.sizes ≡ z → IsAnyLink me.0.upper link
       → Allows (R z) slots id me link (λ x. x) (Raises MayLoad (Leads walks) (step slots link 0 0 none) me)
   leads walks slots id me link is_pinned sizes any s r _ at _ = let x = link_loaded z s r id me at is_pinned sizes walks link any in
-      let led = subst (λ (d' : View TreeView). IsLed walks link me (get_or s.words link 0) (d', me.1)) x.2 x.3 in (
+      let led = subst (λ (d' : View TreeView). IsLed walks link me (get_or s.words link 0) (d', me.1) × IsLedSecured link me (d', me.1)) x.2 (x.3, x.4) in (
         record me.0 { upper = x.0.upper },
         keeps,
         tt,

@@ -9,7 +9,7 @@ use Rattle.atomic_table.proofs.Lists.{at_set}
 use Rattle.ca_model.specs.History.{History}
 use Rattle.ca_rows.specs.declared.sizes.Sizes.{Sizes}
 use Rattle.ca_node.specs.Inventory.{AreOnce, but, but_all, row_itself, row_of_base, IsInventory}
-use Rattle.ca_node.specs.Laws.{in_nothing}
+use Rattle.ca_node.specs.Laws.{in_nothing, in_one}
 use Rattle.ca_node.specs.Links.{IsIn, IsLinked}
 use Rattle.ca_node.specs.Place.{Place}
 use Rattle.ca_node.specs.Shape.{Role, Out, Base}
@@ -164,44 +164,48 @@ module _ {A : Type 0} (row_of : A → ℕ) where
       omega arith)
       (has rows (row_of y))
 
--- A step links rows and unlinks others. Some bases come so, and one goes.
+-- A list of one has no other member.
+pub not_one : (row old : ℕ) → row ≢ old → ¬ IsIn row (old ∷ [])
+not_one row old ne i = ne (sym (in_one old row i))
+
+-- A step links rows and unlinks others. Some bases come so, and some go.
 pub record Relists (words words' : List ℕ) (role role' : ℕ → Role) (ins outs : List ℕ)
-    (bases : List (ℕ × Place)) (old : ℕ) : Type 0 where
+    (bases : List (ℕ × Place)) (olds : List ℕ) : Type 0 where
   pub comes : (row : ℕ) → IsIn row ins → IsLinked words' row
   pub came_out : (row : ℕ) → IsIn row ins → ¬ IsLinked words row
   pub goes : (row : ℕ) → IsIn row outs → ¬ IsIn row ins → ¬ IsLinked words' row
   pub back : (row : ℕ) → ¬ IsIn row ins → IsLinked words' row → IsLinked words row
   pub on : (row : ℕ) → ¬ IsIn row outs → IsLinked words row → IsLinked words' row
   pub ins_once : AreOnce row_itself ins
-  -- What is a base then comes, or was one, and isn't the one that goes.
+  -- What is a base then comes, or was one, and isn't one that goes.
   pub base_comes : (row : ℕ) (place : Place) → IsIn (row, place) bases → role' row ≡ Base place
   pub base_out : (row : ℕ) (place : Place) → IsIn (row, place) bases → role row ≡ Out
   pub base_back : (row : ℕ) (place : Place) → role' row ≡ Base place → IsIn (row, place) bases
-      ⊎ ((role row ≡ Base place) × (row ≢ old))
-  pub base_on : (row : ℕ) (place : Place) → role row ≡ Base place → row ≢ old
+      ⊎ ((role row ≡ Base place) × ¬ IsIn row olds)
+  pub base_on : (row : ℕ) (place : Place) → role row ≡ Base place → ¬ IsIn row olds
       → role' row ≡ Base place
   pub bases_once : AreOnce row_of_base bases
 
 -- what is listed then
-abbrev pub relisting : List ℕ → List ℕ → List (ℕ × Place) → ℕ → Inventory → Inventory
-relisting ins outs bases old i = record {
+abbrev pub relisting : List ℕ → List ℕ → List (ℕ × Place) → List ℕ → Inventory → Inventory
+relisting ins outs bases olds i = record {
   rows = ins ++ but_all row_itself outs i.rows;
-  bases = bases ++ but row_of_base old i.bases;
+  bases = bases ++ but_all row_of_base olds i.bases;
   most = max i.most (length (ins ++ but_all row_itself outs i.rows));
 }
 
 module _ (words words' : List ℕ) (role role' : ℕ → Role) (ins outs : List ℕ)
-    (bases : List (ℕ × Place)) (old : ℕ) (i : Inventory)
-    (r : Relists words words' role role' ins outs bases old) (is : IsInventory words role i) where
+    (bases : List (ℕ × Place)) (olds : List ℕ) (i : Inventory)
+    (r : Relists words words' role role' ins outs bases olds) (is : IsInventory words role i) where
   -- the rows and the bases that stay
   abbrev rest : List ℕ
   rest = but_all row_itself outs i.rows
 
   abbrev others : List (ℕ × Place)
-  others = but row_of_base old i.bases
+  others = but_all row_of_base olds i.bases
 
   -- What the tree has is listed again.
-  pub listed_again : IsInventory words' role' (relisting ins outs bases old i)
+  pub listed_again : IsInventory words' role' (relisting ins outs bases olds i)
   listed_again = record {
     linked = λ row l. ⊎_elim
         (λ (c : IsIn row ins). in_front ins rest row c)
@@ -220,18 +224,18 @@ module _ (words words' : List ℕ) (role role' : ℕ → Role) (ins outs : List 
         r.came_out a c (subst (IsLinked words) (sym e) (is.rows b k.0)));
     based = λ row place e. ⊎_elim
         (λ (c : IsIn (row, place) bases). in_front bases others (row, place) c)
-        (λ (o : (role row ≡ Base place) × (row ≢ old)). in_back bases others (row, place)
-        (in_but row_of_base old i.bases (row, place) (is.based row place o.0) o.1))
+        (λ (o : (role row ≡ Base place) × ¬ IsIn row olds). in_back bases others (row, place)
+        (in_but_all row_of_base olds i.bases (row, place) (is.based row place o.0) o.1))
         (r.base_back row place e);
     bases = λ row place l. ⊎_elim
         (λ (c : IsIn (row, place) bases). r.base_comes row place c)
-        (λ (o : IsIn (row, place) others). let k = of_but row_of_base old i.bases (row, place) o in
+        (λ (o : IsIn (row, place) others). let k = of_but_all row_of_base olds i.bases (row, place) o in
         r.base_on row place (is.bases row place k.0) k.1)
         (in_either bases others (row, place) l);
     bases_once =
         both_once row_of_base bases others r.bases_once
-        (but_once row_of_base old i.bases is.bases_once)
-        (λ a b c o e. let k = of_but row_of_base old i.bases b o in
+        (but_all_once row_of_base olds i.bases is.bases_once)
+        (λ a b c o e. let k = of_but_all row_of_base olds i.bases b o in
         let y : Base b.1 ≡ Out = sym (is.bases b.0 b.1 k.0)
         ∙ (ap role (sym e) ∙ r.base_out a.0 a.1 c) in cc);
   }

@@ -17,6 +17,7 @@ use Rattle.ca_rows.specs.Words.{result_of}
 use Rattle.ca_rows.specs.Rule.{upper_of, Ruled}
 use Rattle.ca_rows.proofs.Relinking.{Stays, relinks}
 use Rattle.ca_runs.specs.Runs.{Ends}
+use Rattle.ca_node.specs.Lone.{IsLone}
 use Rattle.ca_node.specs.Attempts.{HasAttempt}
 use Rattle.ca_node.specs.Hindsight.{IsLeftOver, LedTo, IsDead}
 use Rattle.ca_node.specs.Joining.{IsRemembered, IsJoining}
@@ -103,6 +104,8 @@ module _ (z : Sizes) (s : State (Unit {0}) (View TreeView)) (r : R z s) (i id : 
   pub knows_ranges : IsJoining s.words d.upper.notes d.upper.ways ranges.joins
       → ((row : ℕ) → IsNoted s.words (record d.upper { ranges = ranges; turns = turns }) row
       → IsNoted s.words d.upper row ⊎ (IsLinked s.words row × (d.pin.pinned ≡ true)))
+      → (r.made ≤ 1 → 0 < d.upper.number → IsLone s.words r.above.role d.upper.ranges.own d.upper.ways d.upper.ranges.joins.begun
+      → IsLone s.words r.above.role ranges.own d.upper.ways ranges.joins.begun)
       → IsRanging z s.words r.above.role (r.above.ranged.ends d.upper.number) d.upper.since
       r.above.history d.upper.number ranges
       → R z record {
@@ -110,12 +113,12 @@ module _ (z : Sizes) (s : State (Unit {0}) (View TreeView)) (r : R z s) (i id : 
         homes = s.homes;
         views = set s.views id (record d { upper = record d.upper { ranges = ranges; turns = turns } });
       }
-  knows_ranges joining notes ranging = let us : List TreeView = map upper_of s.views in
+  knows_ranges joining notes lone ranging = let us : List TreeView = map upper_of s.views in
       let first = at_map upper_of s.views id d at in
       let k = relisted z r.made s.words r.above.role us (set us id with_ranges) r.above.history
       id d.upper (numbered us id d.upper with_ranges first (λ _. refl)) (knows_upper z s r id d at) in
       looked z s r i id d with_ranges at notes
-      (seat_changed z r.made s.words us id d.upper with_ranges r.above first (λ _. refl) (λ _. refl)
+      (seat_changed z r.made s.words us id d.upper with_ranges r.above first (λ _. refl) (λ _. refl) lone
       record {
         made_before = k.made_before;
         alone = k.alone;
@@ -126,6 +129,7 @@ module _ (z : Sizes) (s : State (Unit {0}) (View TreeView)) (r : R z s) (i id : 
         notes = k.notes;
         links = k.links;
         ways = k.ways;
+        way_links = k.way_links;
         one_place = k.one_place;
         joining = joining;
         ended = k.ended;
@@ -365,10 +369,10 @@ module _ (z : Sizes) (made : ℕ) (words : List ℕ) (uppers : List TreeView)
     pub way_true : (since : History) → IsTrueWay z words f.role since f.history route_way
     way_true since = record {
       some_row = there.some_row;
+      is_route = there.is_route;
       in_range = there.in_range;
       stands = inl (is ∙ ap (Route place) (sym there.key_is));
       spells = λ index fixed. sym (word_at words row index fixed.0);
-      unsecured = λ attempt. f.unsecured.none row place key attempt is;
     }
 
     -- A route with this row that a seat remembers was shown at this place.
@@ -591,7 +595,7 @@ module _ (z : Sizes) where
             (f.ranged.ends d.upper.number) (f.ranged.each id d.upper first) i,
         λ note m route attempt marked. let h = k.joining.hung note m route attempt marked in
             let known = remembered_route d.upper note.place.link route (k.links note m) h.is_link in
-            (known, subst (λ (y : Sizes). route ≤ y.rows) (sym sized) (remembered_range s r id me at route known)),
+            (known, subst (λ (y : Sizes). route ≤ y.rows) (sym sized) (remembered_range s r id me at route known), h.is_link),
       ) in (
         d,
         keeps,
@@ -629,7 +633,7 @@ module _ (z : Sizes) where
         tt,
         looked z s r i id d u' at (λ row n. inl (noted_alike s.words d.upper u'
             (λ x m. m) (λ x m. m) (λ x m. m) (λ x m. m) (λ x m. m) row n))
-            (seat_changed z r.made s.words us id d.upper u' f first (λ _. refl) (λ _. refl) record {
+            (seat_changed z r.made s.words us id d.upper u' f first (λ _. refl) (λ _. refl) (λ _ _ l. l) record {
               made_before = k'.made_before;
               alone = k'.alone;
               seen_first = k'.seen_first;
@@ -641,6 +645,7 @@ module _ (z : Sizes) where
               notes = k'.notes;
               links = k'.links;
               ways = k'.ways;
+              way_links = k'.way_links;
               one_place = k'.one_place;
               joining = k'.joining;
               ended = k'.ended;
@@ -668,7 +673,7 @@ module _ (z : Sizes) where
       (knows_upper z s r id d at) in
       looked z s r i id d u' at (λ row n. inl (noted_alike s.words d.upper u'
       (λ x m. m) (λ x m. m) (λ x m. m) (λ x m. m) (λ x m. m) row n))
-      (seat_changed z r.made s.words us id d.upper u' f first (λ _. refl) (λ _. refl) record {
+      (seat_changed z r.made s.words us id d.upper u' f first (λ _. refl) (λ _. refl) (λ _ _ l. l) record {
         made_before = k.made_before;
         alone = k.alone;
         seen_first = k.seen_first;
@@ -678,6 +683,7 @@ module _ (z : Sizes) where
         notes = k.notes;
         links = k.links;
         ways = k.ways;
+        way_links = k.way_links;
         one_place = k.one_place;
         joining = k.joining;
         ended = k.ended;
@@ -699,7 +705,7 @@ module _ (z : Sizes) where
       (knows_upper z s r id d at) in
       looked z s r i id d u' at (λ row n. inl (noted_alike s.words d.upper u'
       (λ x m. absurd (some-ne-none x (sym m.1))) (λ x m. m) (λ x m. m) (λ x m. m) (λ x m. m) row n))
-      (seat_changed z r.made s.words us id d.upper u' f first (λ _. refl) (λ _. refl) record {
+      (seat_changed z r.made s.words us id d.upper u' f first (λ _. refl) (λ _. refl) (λ _ _ l. l) record {
         made_before = k.made_before;
         alone = k.alone;
         seen_first = k.seen_first;
@@ -709,6 +715,7 @@ module _ (z : Sizes) where
         notes = λ m i. absurd (some-ne-none m (sym i.1));
         links = λ m i. absurd (some-ne-none m (sym i.1));
         ways = k.ways;
+        way_links = k.way_links;
         one_place = k.one_place;
         joining = joining_unnoted s.words d.upper.notes d.upper.ways d.upper.ranges.joins k.joining;
         ended = k.ended;

@@ -19,6 +19,7 @@ use Rattle.ca_rows.specs.declared.view.Claim.TheVariants.{Holds}
 use Rattle.ca_rows.specs.declared.view.View.{View}
 use Rattle.ca_runs.specs.Runs.{AreNeighbours, BeginsBefore, Span}
 use Rattle.ca_runs.specs.Scenes.{IsFirst, IsNext}
+use Rattle.ca_node.specs.LoneStays.{KeepsOwn, same_kept, none_kept, none_by_unmarked, none_by_marking}
 use Rattle.ca_node.specs.Copies.{Copy, update_of, IsCopy, IsFirstCopy, IsNextCopy, copied, IsCopied, Copies, HasCopied, marking_now}
 use Rattle.ca_node.specs.Inventory.{AreOnce, row_itself}
 use Rattle.ca_node.specs.Layout.{sequence_unit}
@@ -227,6 +228,10 @@ module _ (z : Sizes) (s : State (Unit {0}) (View TreeView)) (r : R z s) (id : �
     run row o = absurd (active_undecided words' me.0.upper.number begun.number o.0 o.1
         (active_on z s.words words' role role' same_ranges me.0.upper.number begun.number so.0.0) o.3)
 
+    keeps_own : KeepsOwn me.0.upper.ranges.own (marking_now me.0.upper.ranges begun its).own
+    keeps_own = none_kept me.0.upper.ranges.own (marking_now me.0.upper.ranges begun its).own (none_by_unmarked me.0.upper.ranges.own begun k.own)
+        (none_by_marking (marking_now me.0.upper.ranges begun its).own begun (record { row = begun.top; its = its }) refl)
+
     abbrev first_view : View TreeView
     first_view = (relinked me (lent_out served (taken_out (x.old.row ∷ []) (given (new ∷ []) me.0.claims)))
         (copied served (marking_now me.0.upper.ranges begun its) new x me.0.upper)).0
@@ -236,9 +241,9 @@ module _ (z : Sizes) (s : State (Unit {0}) (View TreeView)) (r : R z s) (id : �
         × IsCopied served (marking_now me.0.upper.ranges begun its) new x me (first_view, me.1)
     first_copied = (
       copy_step z s r id me at new x c hit has_begun bounded served serve served_once new_end
-          (marking_now me.0.upper.ranges begun its) fits own_now unmarked borders run refl refl,
+          (marking_now me.0.upper.ranges begun its) fits own_now unmarked borders run refl refl keeps_own,
       copied_now z s r id me at new x c hit has_begun bounded served serve served_once new_end
-          (marking_now me.0.upper.ranges begun its) fits own_now unmarked borders run refl refl,
+          (marking_now me.0.upper.ranges begun its) fits own_now unmarked borders run refl refl keeps_own,
     )
 
   -- The next base behind one that the range marked.
@@ -326,9 +331,9 @@ module _ (z : Sizes) (s : State (Unit {0}) (View TreeView)) (r : R z s) (id : �
         × IsCopied [] me.0.upper.ranges new x me (next_view, me.1)
     next_copied = (
       copy_step z s r id me at new x c hit was_begun bounded_too [] serves_none once new_end_too
-          me.0.upper.ranges fits_next own_still (λ j y _ here. none_before j y here) (λ b i. inl i) (λ row o. o) refl refl,
+          me.0.upper.ranges fits_next own_still (λ j y _ here. none_before j y here) (λ b i. inl i) (λ row o. o) refl refl (same_kept me.0.upper.ranges.own),
       copied_now z s r id me at new x c hit was_begun bounded_too [] serves_none once new_end_too
-          me.0.upper.ranges fits_next own_still (λ j y _ here. none_before j y here) (λ b i. inl i) (λ row o. o) refl refl,
+          me.0.upper.ranges fits_next own_still (λ j y _ here. none_before j y here) (λ b i. inl i) (λ row o. o) refl refl (same_kept me.0.upper.ranges.own),
     )
 
 module _ (z : Sizes) where

@@ -18,6 +18,7 @@ use Rattle.ca_rows.specs.declared.sizes.Sizes.{Sizes}
 use Rattle.ca_rows.specs.declared.view.View.{View}
 use Rattle.ca_rows.proofs.OwnWords.{own_is}
 use Rattle.ca_runs.specs.Runs.{BeginsBefore}
+use Rattle.ca_node.specs.LoneStays.{none_kept, none_by_marking, none_by_quiet, lone_same}
 use Rattle.ca_node.specs.Endings.{active_word, decided_word, over_up_to, without}
 use Rattle.ca_node.specs.Laws.{noted_alike, starts_whole}
 use Rattle.ca_node.specs.Layout.{sequence_unit}
@@ -202,7 +203,7 @@ module _ (z : Sizes) (s : State (Unit {0}) (View TreeView)) (r : R z s) (id : �
   lost_step k miss i = let known = f.ranged.each id me.0.upper first in let u' : TreeView = own_over begun.number me.0.upper in
       knows_ranges z s r i id me.0 at u'.ranges me.0.upper.turns
       (knows_upper z s r id me.0 at).joining
-      (λ row n. inl (noted_alike s.words me.0.upper u' (λ x m. m) (λ x m. m) (λ x m. m) (λ x m. m) (λ x m. m) row n)) record {
+      (λ row n. inl (noted_alike s.words me.0.upper u' (λ x m. m) (λ x m. m) (λ x m. m) (λ x m. m) (λ x m. m) row n)) (λ _ _ l. l) record {
         over = λ x m. ⊎_elim (λ (e : over_up_to pass begun.number ≡ x). subst (IsOver s.words) e
             (over_else z s r id me at k.1.is_pinned k.1.is_pass begun border k.1.own miss))
             (λ o. known.over x o) (in_more (over_up_to pass begun.number) x me.0.upper.ranges.over m);
@@ -258,7 +259,10 @@ module _ (z : Sizes) (s : State (Unit {0}) (View TreeView)) (r : R z s) (id : �
         knows_ranges z s r i id me.0 at u'.ranges me.0.upper.turns
         (knows_upper z s r id me.0 at).joining
         (λ row n. inl (noted_alike s.words me.0.upper u' (λ x m. m) (λ x m. m) (λ x m. m)
-        (λ c o. (let e : Quiet ≡ Marking o.2.0 o.2.1 = o.2.2 in absurd cc)) (λ x m. m) row n)) record {
+        (λ c o. (let e : Quiet ≡ Marking o.2.0 o.2.1 = o.2.2 in absurd cc)) (λ x m. m) row n))
+        (λ _ _ l. lone_same s.words f.role me.0.upper.ranges.own Quiet me.0.upper.ways me.0.upper.ways me.0.upper.ranges.joins.begun
+        me.0.upper.ranges.joins.begun (λ w i. inl i)
+        (none_kept me.0.upper.ranges.own Quiet (none_by_marking me.0.upper.ranges.own begun border k.own) (none_by_quiet Quiet refl)) (inl refl) l) record {
           over = λ x m. ⊎_elim (λ (e : over_up_to pass begun.number ≡ x). subst (IsOver s.words) e
               (over_else z s r id me at k.is_pinned k.is_pass begun border k.own miss))
               (λ o. known.over x o) (in_more (over_up_to pass begun.number) x me.0.upper.ranges.over m);

@@ -11,6 +11,7 @@ use Rattle.ca_rows.specs.Rule.{upper_of}
 use Rattle.ca_rows.specs.Words.{result_of}
 use Rattle.ca_rows.specs.declared.sizes.Sizes.{Sizes}
 use Rattle.ca_rows.specs.declared.view.View.{View}
+use Rattle.ca_node.specs.LoneStays.{none_kept, none_by_marking, none_by_quiet, lone_same}
 use Rattle.ca_node.specs.Endings.{over_up_to}
 use Rattle.ca_node.specs.Laws.{noted_more, noted_alike, numbered, relisted, seat_changed, starts_whole}
 use Rattle.ca_node.specs.Layout.{sequence_unit}
@@ -24,7 +25,7 @@ use Rattle.ca_node.specs.Row.{items}
 use Rattle.ca_node.specs.Shape.{Role}
 use Rattle.ca_node.specs.Told.{MyTree, with_upper, IsKnown, status_word}
 use Rattle.ca_node.specs.Tree.{StartsWith, ArePast, IsTree}
-use Rattle.ca_node.specs.TreeView.{Note, Border, Begun, Ranging, Quiet, Unmarked, Marking, Left, TreeView}
+use Rattle.ca_node.specs.TreeView.{Note, Border, Begun, Ranging, Quiet, Unmarked, Marking, Left, Joining, Secured, TreeView}
 use Rattle.ca_node.proofs.Looking.{R, looked, knows_upper, knows_ranges, in_more, whole, since_whole, past_whole, known_now, sized}
 use Rattle.ca_node.proofs.OwnDeciding.{own_there}
 use Rattle.ca_node.proofs.OwnEnding.{over_else}
@@ -62,7 +63,7 @@ module _ (z : Sizes) (s : State (Unit {0}) (View TreeView)) (r : R z s) (id : �
   number_learnt : After (numbered_by n u)
   number_learnt = let u' : TreeView = numbered_by n u in knows_ranges z s r word_at id me.0 at u'.ranges u.turns
       (knows_upper z s r id me.0 at).joining
-      (λ row m. inl (noted_alike s.words u u' (λ x i. i) (λ x i. i) (λ x i. i) (λ x i. i) (λ x i. i) row m)) record {
+      (λ row m. inl (noted_alike s.words u u' (λ x i. i) (λ x i. i) (λ x i. i) (λ x i. i) (λ x i. i) row m)) (λ _ _ l. l) record {
         over = known.over;
         borders = known.borders;
         own = known.own;
@@ -105,7 +106,9 @@ module _ (z : Sizes) (s : State (Unit {0}) (View TreeView)) (r : R z s) (id : �
     run_learnt = let us : List TreeView = map upper_of s.views in
         let k = relisted z r.made s.words role us (set us id u') f.history id u (numbered us id u u' first (λ _. refl)) (knows_upper z s r id me.0 at) in
         looked z s r word_at id me.0 u' at (λ row m. inl (noted_still row m))
-        (seat_changed z r.made s.words us id u u' f first (λ _. refl) (λ _. refl) record {
+        (seat_changed z r.made s.words us id u u' f first (λ _. refl) (λ _. refl)
+        (λ _ _ l. lone_same s.words role u.ranges.own Quiet u.ways u.ways u.ranges.joins.begun u.ranges.joins.begun (λ w i. inl i)
+        (none_kept u.ranges.own Quiet (none_by_marking u.ranges.own begun border own) (none_by_quiet Quiet refl)) (inl refl) l) record {
           made_before = k.made_before;
           alone = k.alone;
           seen_first = subst (StartsWith f.history) (whole z s r id me at) (starts_whole f.history);
@@ -115,6 +118,7 @@ module _ (z : Sizes) (s : State (Unit {0}) (View TreeView)) (r : R z s) (id : �
           notes = k.notes;
           links = k.links;
           ways = k.ways;
+          way_links = k.way_links;
           one_place = k.one_place;
           joining = k.joining;
           ended = k.ended;
@@ -188,6 +192,24 @@ module _ (z : Sizes) (s : State (Unit {0}) (View TreeView)) (r : R z s) (id : �
       (u' begun border is was, run_learnt begun border is was, inr (found_run begun border is was)))
       so.2
   found Left is = (numbered_by n u, number_learnt, refl)
+  found (Joining x) is = (
+    numbered_by n u,
+    number_learnt,
+    (
+      λ e. (subst (IsSoFar z s.words role (f.ranged.ends pass) u.since f.history pass u.ranges.borders) is (known.own is_pass)) (n / sequence_unit)
+          (is_pass, most, same ∙ omega arith),
+      refl,
+    ),
+  )
+  found (Secured x) is = (
+    numbered_by n u,
+    number_learnt,
+    (
+      λ e. (subst (IsSoFar z s.words role (f.ranged.ends pass) u.since f.history pass u.ranges.borders) is (known.own is_pass)) (n / sequence_unit)
+          (is_pass, most, same ∙ omega arith),
+      refl,
+    ),
+  )
 
 module _ (z : Sizes) where
   -- The load of the word that says how far the seat's own range is.

@@ -16,9 +16,11 @@ use Rattle.ca_rows.specs.declared.view.View.{View}
 use Rattle.ca_rows.proofs.OwnWords.{own_is, own_same, announced_else, result_else}
 use Rattle.ca_rows.proofs.Rules.{all_seats}
 use Rattle.ca_runs.specs.Runs.{Ends, AreRuns}
+use Rattle.ca_node.specs.LoneStays.{KeepsOwn, lone_still}
+use Rattle.ca_node.proofs.Lone.{lone_by_one}
 use Rattle.ca_node.specs.Inventory.{IsInventory}
 use Rattle.ca_node.specs.Attempts.{join_of}
-use Rattle.ca_node.specs.JoinsStay.{joining_same, joined_same, unsecured_still}
+use Rattle.ca_node.specs.JoinsStay.{joining_same, joined_same}
 use Rattle.ca_node.specs.DeadStays.{dead_stays}
 use Rattle.ca_node.specs.Hindsight.{IsDead}
 use Rattle.ca_node.specs.Laws.{numbered, relisted, placed_range, under_way}
@@ -33,7 +35,7 @@ use Rattle.ca_node.specs.Scenes.{IsBase, scene_of}
 use Rattle.ca_node.specs.Shape.{Role, Base, Route, place_of, IsLink, IsShape}
 use Rattle.ca_node.specs.Stays.{row_same}
 use Rattle.ca_node.specs.Tree.{IsAlive, IsTrue, Knows, IsTree}
-use Rattle.ca_node.specs.TreeView.{Note, Way, Over, Border, Ranging, Quiet, Unmarked, Marking, Left, Inventory, TreeView}
+use Rattle.ca_node.specs.TreeView.{Note, Way, Over, Border, Ranging, Quiet, Unmarked, Marking, Left, Joining, Secured, Inventory, TreeView}
 use Rattle.ca_node.proofs.Listing.{known_by_one}
 use Rattle.ca_node.proofs.Looking.{R, of_map, knows_upper}
 
@@ -133,6 +135,8 @@ module _ (z : Sizes) (s : State (Unit {0}) (View TreeView)) (r : R z s) (pass wo
           }) k.2,
     )
     so_far ends since p borders Left ne k = tt
+    so_far ends since p borders (Joining x) ne k = λ n now. k n (else_before p n ne now)
+    so_far ends since p borders (Secured x) ne k = λ n now. k n (else_before p n ne now)
 
     pub ranging_else : (ends : Ends) (v : TreeView) → v.number ≢ pass
         → IsRanging z s.words r.above.role ends v.since r.above.history v.number v.ranges
@@ -224,6 +228,7 @@ module _ (z : Sizes) (s : State (Unit {0}) (View TreeView)) (r : R z s) (pass wo
         links = k.links;
         ways = λ way i. let t = k.ways way i in let hi' = t.in_range in record {
           some_row = t.some_row;
+          is_route = t.is_route;
           in_range = t.in_range;
           stands = ⊎_elim (λ (e : IsAlive role way). inl e)
               (λ (d : (place : ℕ) × IsDead z s.words role y.upper.since f.history way place).
@@ -239,8 +244,8 @@ module _ (z : Sizes) (s : State (Unit {0}) (View TreeView)) (r : R z s) (pass wo
                     (λ l. (l, refl)) d.1,
               )) t.stands;
           spells = λ index fixed. let b = fixed.0 in else_word (row_words * way.row + index) (omega arith) ∙ t.spells index fixed;
-          unsecured = λ attempt now. t.unsecured attempt (sym (else_word (row_words * way.row + 3) (omega arith)) ∙ now);
         };
+        way_links = k.way_links;
         one_place = k.one_place;
         joining = joining_same s.words words' y.upper k.links
             (λ way i index l. let w = way_range j y here way i in let a = w.1 in else_word (row_words * way.row + index) (omega arith)) k.joining;
@@ -276,8 +281,9 @@ module _ (z : Sizes) (s : State (Unit {0}) (View TreeView)) (r : R z s) (pass wo
       → Knows z r.made words' r.above.role (set (map upper_of s.views) id u') r.above.history j y.upper
       × IsRanging z words' r.above.role (ends' y.upper.number) y.upper.since r.above.history y.upper.number y.upper.ranges)
       → (change : Inventory → Inventory) → IsInventory words' r.above.role (change r.above.inventory) → u'.inventory ≡ change d.upper.inventory
+      → KeepsOwn d.upper.ranges.own u'.ranges.own → u'.ways ≡ d.upper.ways → u'.ranges.joins.begun ≡ d.upper.ranges.joins.begun
       → IsTree z r.made words' (set (map upper_of s.views) id u')
-  tree_with id d at is_pass u' shape' ends' runs' made_before own_knows own_ranging others change listed same_inventory = record {
+  tree_with id d at is_pass u' shape' ends' runs' made_before own_knows own_ranging others change listed same_inventory keeps_own same_ways same_begun = record {
     usable = f.usable;
     history = f.history;
     edits = f.edits;
@@ -296,7 +302,12 @@ module _ (z : Sizes) (s : State (Unit {0}) (View TreeView)) (r : R z s) (pass wo
           subst (λ (w : TreeView). IsRanging z words' role (ends' w.number) w.since f.history w.number w.ranges) y.2 (others j y.0 ne y.1).1);
     };
     joined = joined_same z s.words words' role join_then child_then f.joined;
-    unsecured = unsecured_still z s.words words' role role (λ route p key is. inr (p, key, is, join_then route p key is)) f.unsecured;
+    lone = lone_by_one z r.made s.words words' role role (map upper_of s.views) f.history f.each_seat id d.upper u'
+        (at_map upper_of s.views id d at) is_pass
+        (λ few. lone_still s.words words' role role d.upper.ranges.own u'.ranges.own d.upper.ways u'.ways d.upper.ranges.joins.begun u'.ranges.joins.begun
+        (λ route p key is. inr (p, key, is, join_then route p key is)) (λ route p key is. (is, join_then route p key is))
+        (λ way i. inl (subst (IsIn way) same_ways i)) keeps_own same_begun
+        (f.lone id d.upper (at_map upper_of s.views id d at) few is_pass));
     each_seat = all_seats (Knows z r.made words' role (set (map upper_of s.views) id u') f.history)
         (map upper_of s.views) id u' own_knows (λ j v ne here. let y = of_map upper_of s.views j v here in
         subst (Knows z r.made words' role (set (map upper_of s.views) id u') f.history j) y.2 (others j y.0 ne y.1).0);

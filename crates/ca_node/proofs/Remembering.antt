@@ -21,7 +21,7 @@ use Rattle.ca_node.specs.Shape.{Role, Out, Base, Route, place_of, IsShape}
 use Rattle.ca_node.specs.Stays.{map_same}
 use Rattle.ca_node.specs.Tree.{IsAlive, IsLinkOfView, IsTrue, IsTrueWay}
 use Rattle.ca_node.specs.TreeView.{Note, Way, TreeView}
-use Rattle.ca_node.proofs.Relinked.{IsRoute, base_no_route, out_no_route, relinked_ranges, relinked_joins, relinked_keeps, relinked_row, relinked_object, relinked_border, relinked_routes}
+use Rattle.ca_node.proofs.Relinked.{IsRoute, base_no_route, out_no_route, relinked_ranges, relinked_keeps, relinked_row, relinked_object, relinked_border, relinked_routes}
 use Rattle.ca_rows.specs.Layout.{row_words}
 use Rattle.ca_node.specs.Layout.{root_word}
 
@@ -140,6 +140,7 @@ module _ (z : Sizes) (words : List ℕ) (role : ℕ → Role) (m : StoreMap)
         → IsTrueWay z (set words place.link row) role' u.since history' way
     way_stays history history' longer dead way i t = record {
       some_row = t.some_row;
+      is_route = t.is_route;
       in_range = t.in_range;
       stands = ⊎_elim
           (λ (e : IsAlive role way). ⊎_elim (λ stays. inl stays) (λ d. inr (dead way e d)) (routes_stay way.row way.place (route_key way.its) e))
@@ -154,8 +155,6 @@ module _ (z : Sizes) (words : List ℕ) (role : ℕ → Role) (m : StoreMap)
           t.stands;
       spells = λ index fixed. relinked_routes z words role m shape old place is row way.row t.some_row
           index fixed.0 fixed.1 fixed.2 fixed.3 ∙ t.spells index fixed;
-      unsecured = λ attempt now. t.unsecured attempt
-          (sym (relinked_joins z words role m shape old place is row way.row) ∙ now);
     }
 
     -- What a link of such a route names is linked, or was named by it, and has the words that it had.

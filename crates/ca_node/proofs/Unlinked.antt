@@ -1,5 +1,5 @@
 -- A route is unlinked: by one exchange of its link a base takes its place that has the objects of the two bases under it. It is the inverse of a division.
-use Rattle.std.proofs.Common.{◌≡◌, ◌≢◌, ◌⊎◌, ℕ, ◌+◌, ◌*◌, ◌<◌, ◌≤◌, le_refl, eqb, cond, List, ◌++◌, length, map, get_or, set, sym, refl, ap, ◌∙◌, subst, inl, inr, ⊎_elim, arith}
+use Rattle.std.proofs.Common.{◌≡◌, ◌≢◌, ◌⊎◌, ℕ, ◌+◌, ◌*◌, ◌≤◌, le_refl, eqb, cond, List, ◌++◌, length, map, get_or, set, sym, refl, ap, ◌∙◌, subst, inl, inr, ⊎_elim, arith}
 use Rattle.std.proofs.lemmas.Bool.Decides.{nat_tests}
 use Rattle.std.proofs.lemmas.List.{map-append}
 use mathlib.Core.Logic.{dite}
@@ -141,7 +141,7 @@ module _ (z : Sizes) (words : List ℕ) (role : ℕ → Role) (m : StoreMap) (sh
       at_once c q e g d s f is = ap Base (some-injective q s (sym e ∙ (ap (λ y. place_of (role y)) f ∙ ap place_of is)))
 
   -- The link on which the route hangs is none of its own, since a level rises along them.
-  kept_link : (r : ℕ) → IsGoing r → ¬ IsLinkOf r place.link
+  pub kept_link : (r : ℕ) → IsGoing r → ¬ IsLinkOf r place.link
   kept_link r g of = let t = link_route role place.link r was.is_link of in
       let own : IsLinkOf route place.link = subst (λ y. IsLinkOf y place.link) (going_route r g t) of in ⊎_elim
       (λ (f : place.link ≡ row_words * route + 1). let d = deeper z words role m shape (row_words * route + 1) _ _ was.left route place hangs f in omega arith)
@@ -249,7 +249,8 @@ module _ (z : Sizes) (words : List ℕ) (role : ℕ → Role) (m : StoreMap) (sh
   -- and from then on the route is dead for each seat that remembers it, where its attempt is secured, which marked both bases: with the state that there was.
   module _ (history : History) (last : state history (length history) ≡ m) (attempt : ℕ) (secured : IsSecured words route attempt)
       (marked_left : IsMarkedFor (row_at words (get_or words (row_words * route + 1) 0)) route attempt)
-      (marked_right : IsMarkedFor (row_at words (get_or words (row_words * route + 2) 0)) route attempt) where
+      (marked_right : IsMarkedFor (row_at words (get_or words (row_words * route + 2) 0)) route attempt)
+      (few : count (row_at words (get_or words (row_words * route + 1) 0)) + count (row_at words (get_or words (row_words * route + 2) 0)) ≤ z.leaf) where
     -- A link of the route names what it named, and that is left over.
     led_then : (link : ℕ) (span : Span) (l : LeadsTo words role link (place.level + 1) span) → IsLinkOf route link → IsGoing (get_or words link 0)
         → IsBaseRow (row_at words (get_or words link 0)) → IsMarkedFor (row_at words (get_or words link 0)) route attempt
@@ -279,10 +280,19 @@ module _ (z : Sizes) (words : List ℕ) (role : ℕ → Role) (m : StoreMap) (sh
           };
         }
 
-    pub way_dies : (since : History) → length since ≤ length history → 1 < z.passes → (its : List ℕ) → route_key its ≡ k
+    -- It has the words that it had.
+    same_under : (link : ℕ) (span : Span) → LeadsTo words role link (place.level + 1) span → IsLinkOf route link
+        → IsBaseRow (row_at words (get_or words link 0)) → row_at words' (get_or words' link 0) ≡ row_at words (get_or words link 0)
+    same_under link span l of base = let c = get_or words link 0 in let e = base_under link (place.level + 1) span l base in
+        let at = base_at z words role m shape c (led_to words role link (place.level + 1) span l) e in
+        ap (row_at words') (relinked_else z words role m shape route place hangs new link
+        (λ f. kept_link route (inl refl) (subst (IsLinkOf route) f of)))
+        ∙ relinked_row z words role m shape route place hangs new c at.some_row at.in_range
+        (base_no_route role c (led_to words role link (place.level + 1) span l) e)
+
+    pub way_dies : (since : History) → length since ≤ length history → (its : List ℕ) → route_key its ≡ k
         → IsDead z words' roles since history (record { row = route; its = its; place = place }) (length history)
-    way_dies since before several its key = record {
-      several = several;
+    way_dies since before its key = record {
       since_pin = before;
       in_history = le_refl (length history);
       is_out = role_going route (inl refl);
@@ -292,4 +302,10 @@ module _ (z : Sizes) (words : List ℕ) (role : ℕ → Role) (m : StoreMap) (sh
           (sym key) (led_then (row_words * route + 1) _ was.left (inl refl) (inr (inl refl)) is_left marked_left);
       right = subst (λ y. LedTo z words' roles (state history (length history)) route attempt (row_words * route + 2) (place.level + 1) (right_of y place.span))
           (sym key) (led_then (row_words * route + 2) _ was.right (inr refl) (inr (inr refl)) is_right marked_right);
+      few = omega (
+        arith,
+        few,
+        ap count (same_under (row_words * route + 1) _ was.left (inl refl) is_left),
+        ap count (same_under (row_words * route + 2) _ was.right (inr refl) is_right),
+      );
     }

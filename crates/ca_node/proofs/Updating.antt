@@ -20,6 +20,7 @@ use Rattle.ca_rows.specs.declared.view.Claim.TheVariants.{Holds}
 use Rattle.ca_rows.specs.declared.view.View.{View}
 use Rattle.ca_rows.specs.Claims.{claim_of}
 use Rattle.ca_rows.specs.Rule.{upper_of}
+use Rattle.ca_node.specs.LoneStays.{same_kept}
 use Rattle.ca_node.specs.Attempts.{IsUnderWay}
 use Rattle.ca_node.specs.Joining.{IsJoining}
 use Rattle.ca_node.specs.Laws.{numbered, relisted, starts_whole}
@@ -255,6 +256,7 @@ module _ (z : Sizes) (s : State (Unit {0}) (View TreeView)) (r : R z s) (id : �
             (in_more new_note note d.upper.notes i);
         ways = way_keeps z s r id me at new x ex hit over free (r.above.history ++ own ∷ []) mark bounded has_now
             others_have [] serve once new_end id d at longer;
+        way_links = k'.way_links;
         one_place = k'.one_place;
         joining = joining_more z s r id me at new x ex hit over free (r.above.history ++ own ∷ []) mark bounded has_now
             others_have [] serve once new_end;
@@ -285,6 +287,7 @@ module _ (z : Sizes) (s : State (Unit {0}) (View TreeView)) (r : R z s) (id : �
         ways = subst (λ (w : TreeView). (way : Way) → IsIn way w.ways → IsTrueWay z words' role' w.since (r.above.history ++ own ∷ []) way) y.2
             (way_keeps z s r id me at new x ex hit over free (r.above.history ++ own ∷ []) mark bounded has_now
             others_have [] serve once new_end j y.0 y.1 longer);
+        way_links = k.way_links;
         one_place = k.one_place;
         joining = subst (λ (w : TreeView). IsJoining words' w.notes w.ways w.ranges.joins) y.2
             (joining_keep z s r id me at new x ex hit over free (r.above.history ++ own ∷ []) mark bounded has_now
@@ -326,7 +329,7 @@ module _ (z : Sizes) (s : State (Unit {0}) (View TreeView)) (r : R z s) (id : �
       others_have [] serve once new_end u'
       (own_notes z s r id me at new x ex hit over free (r.above.history ++ own ∷ []) mark bounded has_now
       others_have [] serve once new_end u' refl refl (λ border i. inl i) (λ c o. o) refl)
-      refl edits_now passes_now runs_now own_knows (ranging_now id d at)
+      refl (same_kept d.upper.ranges.own) refl refl edits_now passes_now runs_now own_knows (ranging_now id d at)
       (λ j v ne here. let y = of_map upper_of s.views j v here in (
         others_know j v ne here,
         subst (λ (w : TreeView). IsRanging z words' role'

@@ -17,17 +17,17 @@ use Rattle.ca_node.specs.declared.link.Link.{Link}
 use Rattle.ca_node.specs.declared.link.Link.TheVariants as link
 use Rattle.ca_node.specs.Inventory.{IsListed}
 use Rattle.ca_node.specs.Links.{IsIn}
-use Rattle.ca_node.specs.Place.{Span, all_keys, left_of, right_of, HasKey, Place}
+use Rattle.ca_node.specs.Place.{Span, all_keys, left_of, right_of, HasKey, Place, IsLinkOf}
 use Rattle.ca_node.specs.Row.{level, route_key}
 use Rattle.ca_node.specs.Notes.{IsBaseNote}
 use Rattle.ca_node.specs.Told.{MyTree, with_upper, IsRouteNote, IsKnown, IsKnownLink, IsAnyLink, IsLed, IsLedToBase, IsLedToRoute, IsShownWord, led_to_base, led_to_route, link_word}
 use Rattle.ca_node.specs.States.{IsAlone, HasState}
 use Rattle.ca_node.specs.TreeView.{Note, Way, TreeView}
-use Rattle.ca_node.specs.Walking.{IsSought, IsSide, IsAbove, IsLowRoute, IsHighRoute, IsPlaced, IsBegin, IsRouteShown, IsAtRoute, IsAtBase, IsWalking, IsWalked, walked, passed}
+use Rattle.ca_node.specs.Walking.{IsSought, IsSide, IsAbove, IsHungOn, IsLinkAmong, IsLowRoute, IsHighRoute, IsPlaced, IsBegin, IsRouteShown, IsAtRoute, IsAtBase, IsWalking, IsWalked, walked, passed}
 use Rattle.ca_node.proofs.Parts.{goes_left, goes_right, of_all}
 use Rattle.ca_node.proofs.RouteWords.{fixed_word, first_fixed}
 use Rattle.ca_rows.specs.Layout.{row_words}
-use Rattle.ca_node.specs.Layout.{form_unit}
+use Rattle.ca_node.specs.Layout.{form_unit, root_word}
 
 -- What is looked for is one of all keys.
 pub sought_first : (s : Spot) → IsSought s all_keys
@@ -85,14 +85,35 @@ sought_right spot.Last key span side is = is
 more_in : {A : Type 0} (x y : A) (xs : List A) → IsIn x xs → IsIn x (y ∷ xs)
 more_in x y xs i = (suc i.0, i.1)
 
+-- A route hung on the same link, when more were shown.
+hung_more : (z : Sizes) (way : Way) (ways : List Way) (route : ℕ) (a : Link) → IsHungOn z ways route a → IsHungOn z (way ∷ ways) route a
+hung_more z way ways route a is = record {
+  way = is.way;
+  remembered = more_in is.way way ways is.remembered;
+  row_is = is.row_is;
+  link_is = is.link_is;
+  is_route = is.is_route;
+  known = ⊎_elim (λ (e : link_word a ≡ root_word). inl e)
+      (λ (t : (w : Way) × IsIn w ways × IsLinkOf w.row (link_word a)). inr (t.0, more_in t.0 way ways t.1, t.2)) is.known;
+  inside = is.inside;
+}
+
+-- The link is the root link, or one of a route that was shown, where it is known what is above.
+link_among : (z : Sizes) (ways : List Way) (l : Link) (a : Option Link) → IsAbove z ways l a → IsLinkAmong ways (link_word l)
+link_among z ways link.Root a is = inl refl
+link_among z ways (link.Left route) None is = absurd is
+link_among z ways (link.Left route) (Some a) is = inr (is.way, is.remembered, inl (ap (λ (n : ℕ). row_words * n + 1) (sym is.row_is)))
+link_among z ways (link.Right route) None is = absurd is
+link_among z ways (link.Right route) (Some a) is = inr (is.way, is.remembered, inr (ap (λ (n : ℕ). row_words * n + 2) (sym is.row_is)))
+
 -- What some of the routes tell of the link above, more routes do.
-above_more : (way : Way) (ways : List Way) (l : Link) (a : Option Link) → IsAbove ways l a
-    → IsAbove (way ∷ ways) l a
-above_more way ways link.Root a is = is
-above_more way ways (link.Left route) None is = is
-above_more way ways (link.Left route) (Some a) is = (is.0, more_in is.0 way ways is.1, is.2, is.3)
-above_more way ways (link.Right route) None is = is
-above_more way ways (link.Right route) (Some a) is = (is.0, more_in is.0 way ways is.1, is.2, is.3)
+above_more : (z : Sizes) (way : Way) (ways : List Way) (l : Link) (a : Option Link) → IsAbove z ways l a
+    → IsAbove z (way ∷ ways) l a
+above_more z way ways link.Root a is = is
+above_more z way ways (link.Left route) None is = is
+above_more z way ways (link.Left route) (Some a) is = hung_more z way ways route a is
+above_more z way ways (link.Right route) None is = is
+above_more z way ways (link.Right route) (Some a) is = hung_more z way ways route a is
 
 -- So they do of the lower bound.
 low_more : (z : Sizes) (way : Way) (ways : List Way) (route : Option ℕ) (bound : Bound)
@@ -112,7 +133,7 @@ placed_more : (z : Sizes) (way : Way) (ways : List Way) (place : Place) (cursor 
 placed_more z way ways place cursor p = record {
   link = p.link;
   inside = p.inside;
-  above = above_more way ways cursor.link cursor.above p.above;
+  above = above_more z way ways cursor.link cursor.above p.above;
   low = low_more z way ways cursor.low place.span.low p.low;
   high = high_more z way ways cursor.high place.span.high p.high;
 }
@@ -143,6 +164,18 @@ right_cursor cursor base =
 module _ (z : Sizes) (ways : List Way) (way : Way) (cursor : Cursor) (base : ℕ) (place : Place)
     (shown : IsIn way ways) (row : way.row ≡ cursor.base)
     (is_route : IsRouteNote z way) (placed : IsPlaced z ways way.place cursor) where
+  -- The route hung on the cursor's link.
+  hung_here : IsHungOn z ways cursor.base cursor.link
+  hung_here = record {
+    way = way;
+    remembered = shown;
+    row_is = row;
+    link_is = placed.link;
+    is_route = is_route;
+    known = link_among z ways cursor.link cursor.above placed.above;
+    inside = placed.inside;
+  }
+
   -- The cursor tells where its left link leads.
   left_placed : place.link ≡ row_words * cursor.base + 1
       → place.span ≡ left_of (route_key way.its) way.place.span
@@ -150,7 +183,7 @@ module _ (z : Sizes) (ways : List Way) (way : Way) (cursor : Cursor) (base : ℕ
   left_placed link_is span_is = record {
     link = link_is;
     inside = let in_range = is_route.in_range in omega arith;
-    above = (way, shown, row, sym placed.link);
+    above = hung_here;
     low = subst (λ (s : Span). IsLowRoute z ways cursor.low s.low) (sym span_is) placed.low;
     high = (way, shown, row, ap (λ (s : Span). s.high) span_is, is_route);
   }
@@ -162,7 +195,7 @@ module _ (z : Sizes) (ways : List Way) (way : Way) (cursor : Cursor) (base : ℕ
   right_placed link_is span_is = record {
     link = link_is;
     inside = let in_range = is_route.in_range in omega arith;
-    above = (way, shown, row, sym placed.link);
+    above = hung_here;
     low = (way, shown, row, ap (λ (s : Span). s.low) span_is, is_route);
     high = subst (λ (s : Span). IsHighRoute z ways cursor.high s.high) (sym span_is) placed.high;
   }

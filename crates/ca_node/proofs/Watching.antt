@@ -25,7 +25,7 @@ use Rattle.ca_node.specs.Stays.{row_long}
 use Rattle.ca_node.specs.Tree.{IsTrue}
 use Rattle.ca_node.specs.May.{MayLoad}
 use Rattle.ca_node.specs.Told.{MyTree, with_upper, over_by, watched, HasWatched, Watches, status_word}
-use Rattle.ca_node.specs.TreeView.{Note, Border, Ranging, Quiet, Unmarked, Marking, Left, TreeView}
+use Rattle.ca_node.specs.TreeView.{Note, Border, Ranging, Quiet, Unmarked, Marking, Left, Joining, Secured, TreeView}
 use Rattle.ca_node.proofs.Listing.{in_either, in_back}
 use Rattle.ca_node.proofs.Looking.{R, knows_upper, knows_ranges, in_more}
 
@@ -128,6 +128,8 @@ module _ (z : Sizes) where
   borders_too words role ends since history pass more borders (Unmarked begun) k = k
   borders_too words role ends since history pass more borders (Marking begun border) k = (in_back more borders border k.0, k.1, k.2)
   borders_too words role ends since history pass more borders Left k = tt
+  borders_too words role ends since history pass more borders (Joining x) k = k
+  borders_too words role ends since history pass more borders (Secured x) k = k
 
   -- The load of the word that says how far the last range of a pass is.
   pub watches : (slots id : ℕ) (me : MyTree) (pass word_at : ℕ) → me.0.sizes ≡ z → me.0.pin.pinned ≡ true → 0 < pass → pass ≤ 64
@@ -173,7 +175,7 @@ module _ (z : Sizes) where
         knows_ranges z s r word_at id d at u'.ranges u'.turns mine.joining (λ row n. ⊎_elim (λ o. inl o) (λ l. inr (l, is_pinned))
             (noted_more s.words d.upper u' (IsLinked s.words) (λ x m. m) (λ x m. m)
             (λ border i. ⊎_elim (λ o. inr (ends.1 border o).1) (λ o. inl o) (in_either ends.0 d.upper.ranges.borders border i))
-            (λ x m. m) (λ x m. inl m) row n)) record {
+            (λ x m. m) (λ x m. inl m) row n)) (λ _ _ l. l) record {
               over = λ x i. ⊎_elim
                   (λ (e : over_by pass word ≡ x). subst (IsOver s.words) e
                   (subst (λ (n : ℕ). IsOver s.words (over_by pass n)) same (over_now s.words pass lo hi)))

@@ -74,7 +74,6 @@ pub dead_stays : (z : Sizes) (words others : List ℕ) (role role' : ℕ → Rol
     → (at ≤ length history → (at ≤ length history') × (state history' at ≡ state history at))
     → IsDead z words role since history way at → IsDead z others role' since history' way at
 dead_stays z words others role role' since history history' way at out same bases longer d = let more = longer d.in_history in record {
-  several = d.several;
   since_pin = d.since_pin;
   in_history = more.0;
   is_out = out;
@@ -84,4 +83,7 @@ dead_stays z words others role role' since history history' way at out same base
       (left_of (route_key way.its) way.place.span) (same 1 (omega arith)) (bases _ (inl refl) _ _ _ d.left.base) (ap (part (left_of (route_key way.its) way.place.span)) more.1) d.left;
   right = led_stays z words others role role' (state history at) (state history' at) way.row d.attempt (row_words * way.row + 2) (way.place.level + 1)
       (right_of (route_key way.its) way.place.span) (same 2 (omega arith)) (bases _ (inr refl) _ _ _ d.right.base) (ap (part (right_of (route_key way.its) way.place.span)) more.1) d.right;
+  few = let was = d.few in
+      let left = ap (row_at others) (same 1 (omega arith)) ∙ (bases _ (inl refl) _ _ _ d.left.base).same in
+      let right = ap (row_at others) (same 2 (omega arith)) ∙ (bases _ (inr refl) _ _ _ d.right.base).same in omega (arith, was, ap count left, ap count right);
 }

@@ -178,10 +178,7 @@ module _ (z : Sizes) (words : List ℕ) (bounds : AreInBounds z) (usable : AreUs
         secured = λ route place key attempt is now. absurd (no_route route place key is);
         states = λ route place key is. absurd (no_route route place key is);
       };
-      unsecured = record {
-        none = λ route place key attempt is now. no_route route place key is;
-        idle = λ few route place key attempt is now. no_route route place key is;
-      };
+      lone = λ j u here few lo. let low = (only j u here).made_before in absurd (omega arith);
       each_seat = only;
       inventory = first_inventory;
       listed = listed_first;

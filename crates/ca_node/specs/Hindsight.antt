@@ -33,9 +33,8 @@ pub record LedTo (z : Sizes) (words : List ℕ) (role : ℕ → Role) (map : Sto
   pub base : IsLeftOver z words role map route attempt (record { link = link; level = level; span = span }) (slice_index words link)
 
 -- The route was unlinked since the seat was pinned, at this place of the history: it isn't in the tree any more, its last attempt stays secured, and its links
--- name both bases that this attempt marked, with what the state at that place has.
+-- name both bases that this attempt marked, with what the state at that place has, and together no more items than a leaf may have.
 pub record IsDead (z : Sizes) (words : List ℕ) (role : ℕ → Role) (since history : History) (way : Way) (at : ℕ) : Type 0 where
-  pub several : 1 < z.passes
   pub since_pin : length since ≤ at
   pub in_history : at ≤ length history
   pub is_out : role way.row ≡ Out
@@ -45,3 +44,4 @@ pub record IsDead (z : Sizes) (words : List ℕ) (role : ℕ → Role) (since hi
       (left_of (route_key way.its) way.place.span)
   pub right : LedTo z words role (state history at) way.row attempt (row_words * way.row + 2) (way.place.level + 1)
       (right_of (route_key way.its) way.place.span)
+  pub few : count (row_at words (slice_index words (row_words * way.row + 1))) + count (row_at words (slice_index words (row_words * way.row + 2))) ≤ z.leaf

@@ -35,8 +35,9 @@ pub record IsInventory (words : List ℕ) (role : ℕ → Role) (i : Inventory) 
   pub bases : (row : ℕ) (place : Place) → IsIn (row, place) i.bases → role row ≡ Base place
   pub bases_once : AreOnce row_of_base i.bases
 
--- The base that was shown is listed, at its place, and no other one that is has a key that is led there.
+-- The base that was shown is listed, at its place and no other, and no other one that is has a key that is led there.
 pub record IsListed (i : Inventory) (note : Note) : Type 0 where
   pub row : IsIn note.row i.rows
   pub base : IsIn (note.row, note.place) i.bases
+  pub one : (place : Place) → IsIn (note.row, place) i.bases → place ≡ note.place
   pub only : (row : ℕ) (place : Place) (key : List ℕ) → IsIn (row, place) i.bases → HasKey place.span key → HasKey note.place.span key → row ≡ note.row

@@ -1,4 +1,4 @@
--- What a pass does with the join of a route: it looks how far it is, begins one, secures it, or gives it up.
+-- What a pass does with the join of a route: it looks how far it is, begins one, secures it, or leaves it; or gives up one that is in its way.
 use Rattle.std.specs.Prelude.{◌≡◌, ◌≢◌, ◌==◌, ◌⊎◌, Bool, true, false, ℕ, ◌+◌, ◌*◌, ◌/◌, ◌%◌, ◌<◌, ◌≤◌, cond, List, [], ◌∷◌, ◌++◌}
 use Rattle.atomic_table.specs.Table.{Step}
 use Rattle.ca_rows.specs.Told.{relinked}
@@ -6,9 +6,11 @@ use Rattle.ca_node.specs.declared.join_state.JoinState.{JoinState}
 use Rattle.ca_node.specs.declared.join_state.JoinState.TheVariants as state
 use Rattle.ca_node.specs.Joining.{IsRemembered}
 use Rattle.ca_node.specs.Links.{IsIn}
+pub use Rattle.ca_node.specs.Lone.{attempt_of}
 use Rattle.ca_node.specs.Row.{IsBaseRow, count, IsMarkedFor}
+use Rattle.ca_node.specs.States.{IsAlone}
 use Rattle.ca_node.specs.Told.{MyTree, with_upper}
-use Rattle.ca_node.specs.TreeView.{Note, Attempt, Finished, KnownJoins, TreeView, one_helped}
+use Rattle.ca_node.specs.TreeView.{Note, Attempt, Finished, Ranging, Quiet, Joining, Secured, KnownJoins, TreeView, one_helped}
 use Rattle.ca_rows.specs.Layout.{row_words}
 
 -- the word that says how far the join of a route is, by its last attempt
@@ -19,10 +21,7 @@ join_place route = row_words * route + 3
 abbrev pub join_state : ℕ → JoinState
 join_state word = cond (word % 4 == 1) (state.Prep (word / 4)) (cond (word % 4 == 2) (state.Secured (word / 4)) (state.Idle (word / 4)))
 
--- an attempt of a route by its number, and the attempts of the route before one
-abbrev pub attempt_of : ℕ → ℕ → Attempt
-attempt_of route number = record { route = route; number = number }
-
+-- the attempts of the route before one
 abbrev pub before : ℕ → ℕ → Finished
 before route number = record { route = route; below = number }
 
@@ -41,6 +40,10 @@ prepared_by route word = cond (word % 4 == 1) (attempt_of route (word / 4) ∷ [
 abbrev pub with_joins : TreeView → KnownJoins → TreeView
 with_joins u joins = record u { ranges = record u.ranges { joins = joins } }
 
+-- the same, where it knows this of how far its own operation is
+abbrev pub with_own : TreeView → Ranging → KnownJoins → TreeView
+with_own u own joins = record u { ranges = record u.ranges { own = own; joins = joins } }
+
 -- what a seat knows of joins that loaded that word
 abbrev pub joins_loaded : ℕ → ℕ → KnownJoins → KnownJoins
 joins_loaded route word joins = record {
@@ -52,12 +55,15 @@ joins_loaded route word joins = record {
 }
 
 -- The join word of a route was loaded. Each attempt of the route that marked a base which was shown, or is known to be begun, was begun; one that is known to
--- be finished isn't under way, one that is known to be decided isn't prepared, and one that is known to be secured is. So far none is secured, and none is
--- under way where the space is for one pass alone.
+-- be finished isn't under way, one that is known to be decided isn't prepared, and one that is known to be secured is. Where the space is for one pass alone
+-- one that is under way is the pass's own, and it knows how far that is.
 pub record HasLoadedJoin (route : ℕ) (m : MyTree) (n : ℕ) (m' : MyTree) : Type 0 where
   pub now : m' ≡ with_upper m (with_joins m.0.upper (joins_loaded route n m.0.upper.ranges.joins))
-  pub unsecured : n % 4 < 2
-  pub idle : m.0.sizes.passes ≤ 1 → n % 4 ≡ 0
+  pub state : n % 4 < 3
+  pub own_prepared : m.0.sizes.passes ≤ 1 → 0 < m.0.upper.number → (number : ℕ) → n ≡ 4 * number + 1
+      → m.0.upper.ranges.own ≡ Joining (attempt_of route number)
+  pub own_secured : m.0.sizes.passes ≤ 1 → 0 < m.0.upper.number → (number : ℕ) → n ≡ 4 * number + 2
+      → m.0.upper.ranges.own ≡ Secured (attempt_of route number)
   pub marked : (note : Note) → IsIn note m.0.upper.notes → (attempt : ℕ) → IsMarkedFor note.its route attempt → attempt ≤ n / 4
   pub begun : (x : Attempt) → IsIn x m.0.upper.ranges.joins.begun → x.route ≡ route → x.number ≤ n / 4
   pub finished : (x : Finished) → IsIn x m.0.upper.ranges.joins.finished → x.route ≡ route → n % 4 ≢ 0 → x.below ≤ n / 4
@@ -71,28 +77,42 @@ LoadsJoin st m n m' = (route : ℕ) × (st.word ≡ join_place route) × HasLoad
 abbrev pub joins_begun : Attempt → KnownJoins → KnownJoins
 joins_begun x joins = record joins { begun = x ∷ joins.begun; finished = before x.route x.number ∷ joins.finished }
 
--- The seat may begin an attempt, the next one of the route behind one that is finished: it is pinned, remembers the route, and isn't the only pass of the
--- space.
+-- The seat may begin an attempt, the next one of the route behind one that is finished: it is pinned, remembers the route, and its last operation that others
+-- may meet is over.
 pub record IsBeginning (m : MyTree) (x : Attempt) : Type 0 where
   pub is_pinned : m.0.pin.pinned ≡ true
   pub is_pass : 0 < m.0.upper.number
-  pub not_alone : 1 < m.0.sizes.passes
+  pub quiet : m.0.upper.ranges.own ≡ Quiet
   pub remembered : IsRemembered m.0.upper.ways x.route
   pub later : 0 < x.number
 
--- The join word was exchanged, from the attempt before finished to this one prepared; or the attempt before wasn't the last one, or wasn't finished.
+-- what a seat knows that began an attempt: it is its own
+abbrev pub beginning : Attempt → TreeView → TreeView
+beginning x u = with_own u (Joining x) (joins_begun x u.ranges.joins)
+
+-- The attempt is the one behind the last one that the seat knows of the route, which it knows to be finished.
+pub record IsNext (x : Attempt) (joins : KnownJoins) : Type 0 where
+  pub last : ℕ
+  pub next : x.number ≡ last + 1
+  pub begun : IsIn (attempt_of x.route last) joins.begun
+  pub finished : IsIn (before x.route (last + 1)) joins.finished
+  pub none_later : (y : Attempt) → IsIn y joins.begun → y.route ≡ x.route → y.number ≤ last
+
+-- The join word was exchanged, from the attempt before finished to this one prepared; or the attempt before wasn't the last one, or wasn't finished, which isn't
+-- so where it was as the seat knew, and the pass is the only one of the space.
 abbrev pub BeginsJoin : Attempt → Step (Unit {0}) → MyTree → ℕ → MyTree → Type 0
-BeginsJoin x st m n m' = (n ≡ st.first → m' ≡ relinked m m.0.claims (with_joins m.0.upper (joins_begun x m.0.upper.ranges.joins))) × (n ≢ st.first → m' ≡ m)
+BeginsJoin x st m n m' = (n ≡ st.first → m' ≡ relinked m m.0.claims (beginning x m.0.upper))
+    × (n ≢ st.first → (m' ≡ m) × (IsNext x m.0.upper.ranges.joins → ¬ IsAlone m.0.sizes m.0.upper))
 
 abbrev pub HasBegunJoin : Bool → Attempt → MyTree → MyTree → Type 0
-HasBegunJoin true x m m' = m' ≡ relinked m m.0.claims (with_joins m.0.upper (joins_begun x m.0.upper.ranges.joins))
+HasBegunJoin true x m m' = m' ≡ relinked m m.0.claims (beginning x m.0.upper)
 HasBegunJoin false x m m' = m' ≡ m
 
--- what one knows that secured an attempt
+-- What one knows that secured an attempt: it is decided, too, so that it is none that the pass found in its way.
 abbrev pub joins_secured : Attempt → KnownJoins → KnownJoins
-joins_secured x joins = record joins { secured = x ∷ joins.secured }
+joins_secured x joins = record joins { secured = x ∷ joins.secured; decided = x ∷ joins.decided; prepared = [] }
 
--- what one knows that gave one up, and what one knows that came too late to give it up
+-- what one knows that gave one up, and what one knows that came too late to give it up, or to secure it
 abbrev pub joins_aborted : Attempt → KnownJoins → KnownJoins
 joins_aborted x joins = record joins { finished = before x.route (x.number + 1) ∷ joins.finished; prepared = [] }
 
@@ -106,10 +126,12 @@ aborted x u = record (with_joins u (joins_aborted x u.ranges.joins)) { turns = o
 abbrev pub too_late : Attempt → TreeView → TreeView
 too_late x u = record (with_joins u (joins_too_late x u.ranges.joins)) { turns = one_helped u.turns }
 
--- The seat may secure an attempt: it is pinned, and was shown the two bases under the route, which this attempt marked. Together they have no more items than
--- a leaf may have.
+-- The seat may secure its own attempt: it is pinned, and was shown the two bases under the route, which this attempt marked. Together they have no more items
+-- than a leaf may have.
 pub record IsSecuring (leaf : ℕ) (m : MyTree) (x : Attempt) (left right : Note) : Type 0 where
   pub is_pinned : m.0.pin.pinned ≡ true
+  pub is_pass : 0 < m.0.upper.number
+  pub own : m.0.upper.ranges.own ≡ Joining x
   pub remembered : IsRemembered m.0.upper.ways x.route
   pub left_shown : IsIn left m.0.upper.notes
   pub left_base : IsBaseRow left.its
@@ -121,9 +143,12 @@ pub record IsSecuring (leaf : ℕ) (m : MyTree) (x : Attempt) (left right : Note
   pub right_link : right.place.link ≡ row_words * x.route + 2
   pub few : count left.its + count right.its ≤ leaf
 
--- The seat may give an attempt up that is in its way: it is pinned, remembers the route, knows that it was begun, and found it prepared since it gave one up.
+-- The seat may give another pass's attempt up that is in its way: it is pinned, remembers the route, knows that it was begun, and found it prepared since it gave
+-- one up.
 pub record IsAborting (m : MyTree) (x : Attempt) : Type 0 where
   pub is_pinned : m.0.pin.pinned ≡ true
+  pub is_pass : 0 < m.0.upper.number
+  pub other : m.0.upper.ranges.own ≢ Joining x
   pub remembered : IsRemembered m.0.upper.ways x.route
   pub begun : IsIn x m.0.upper.ranges.joins.begun
   pub found : IsIn x m.0.upper.ranges.joins.prepared
@@ -135,6 +160,43 @@ AbortsJoin x st m n m' = (n ≡ st.first → m' ≡ relinked m m.0.claims (abort
 abbrev pub HasAbortedJoin : Bool → Attempt → MyTree → MyTree → Type 0
 HasAbortedJoin true x m m' = m' ≡ relinked m m.0.claims (aborted x m.0.upper)
 HasAbortedJoin false x m m' = m' ≡ with_upper m (too_late x m.0.upper)
+
+-- what a seat knows that secured its own attempt, and what one that came too late to do so, or to leave it: it is none of its own any more
+abbrev pub securing : Attempt → TreeView → TreeView
+securing x u = with_own u (Secured x) (joins_secured x u.ranges.joins)
+
+abbrev pub own_too_late : Attempt → TreeView → TreeView
+own_too_late x u = with_own u Quiet (joins_too_late x u.ranges.joins)
+
+-- The join word was exchanged, and the attempt is secured; or it wasn't prepared any more: another pass had given it up. Neither counts as help.
+abbrev pub SecuresJoin : Attempt → Step (Unit {0}) → MyTree → ℕ → MyTree → Type 0
+SecuresJoin x st m n m' = (n ≡ st.first → m' ≡ relinked m m.0.claims (securing x m.0.upper))
+    × (n ≢ st.first → (m' ≡ with_upper m (own_too_late x m.0.upper)) × ¬ IsAlone m.0.sizes m.0.upper)
+
+abbrev pub HasSecuredJoin : Bool → Attempt → MyTree → MyTree → Type 0
+HasSecuredJoin true x m m' = m' ≡ relinked m m.0.claims (securing x m.0.upper)
+HasSecuredJoin false x m m' = m' ≡ with_upper m (own_too_late x m.0.upper)
+
+-- The seat may leave its own attempt, which it didn't secure: it is pinned, remembers the route, and knows that the attempt was begun.
+pub record IsLeavingJoin (m : MyTree) (x : Attempt) : Type 0 where
+  pub is_pinned : m.0.pin.pinned ≡ true
+  pub is_pass : 0 < m.0.upper.number
+  pub own : m.0.upper.ranges.own ≡ Joining x
+  pub remembered : IsRemembered m.0.upper.ways x.route
+  pub begun : IsIn x m.0.upper.ranges.joins.begun
+
+-- what a seat knows that left its own attempt: that is finished
+abbrev pub leaving : Attempt → TreeView → TreeView
+leaving x u = with_own u Quiet (joins_aborted x u.ranges.joins)
+
+-- The join word was exchanged, and the attempt is finished; or another pass had given it up. Neither counts as help.
+abbrev pub LeavesJoin : Attempt → Step (Unit {0}) → MyTree → ℕ → MyTree → Type 0
+LeavesJoin x st m n m' = (n ≡ st.first → m' ≡ relinked m m.0.claims (leaving x m.0.upper))
+    × (n ≢ st.first → (m' ≡ with_upper m (own_too_late x m.0.upper)) × ¬ IsAlone m.0.sizes m.0.upper)
+
+abbrev pub HasLeftJoin : Bool → Attempt → MyTree → MyTree → Type 0
+HasLeftJoin true x m m' = m' ≡ relinked m m.0.claims (leaving x m.0.upper)
+HasLeftJoin false x m m' = m' ≡ with_upper m (own_too_late x m.0.upper)
 
 -- The exchange is of the join word of this attempt's route, and expects the attempt prepared.
 abbrev pub IsJoinStep : Attempt → Step (Unit {0}) → Type 0
@@ -151,6 +213,12 @@ BeginsSome st m n m' = (x : Attempt) × IsJoinBegin x st × BeginsJoin x st m n 
 abbrev pub AbortsSome : Step (Unit {0}) → MyTree → ℕ → MyTree → Type 0
 AbortsSome st m n m' = (x : Attempt) × IsJoinStep x st × AbortsJoin x st m n m'
 
+abbrev pub SecuresSome : Step (Unit {0}) → MyTree → ℕ → MyTree → Type 0
+SecuresSome st m n m' = (x : Attempt) × IsJoinStep x st × SecuresJoin x st m n m'
+
+abbrev pub LeavesSome : Step (Unit {0}) → MyTree → ℕ → MyTree → Type 0
+LeavesSome st m n m' = (x : Attempt) × IsJoinStep x st × LeavesJoin x st m n m'
+
 -- All that an exchange of the join word of a route may tell.
 abbrev pub SwapsJoin : Step (Unit {0}) → MyTree → ℕ → MyTree → Type 0
-SwapsJoin st m n m' = BeginsSome st m n m' ⊎ AbortsSome st m n m'
+SwapsJoin st m n m' = BeginsSome st m n m' ⊎ (AbortsSome st m n m' ⊎ (SecuresSome st m n m' ⊎ LeavesSome st m n m'))

@@ -1,5 +1,5 @@
 -- Joins in the tree: what a secured one has under its route, and that what each seat knows of joins is so.
-use Rattle.std.specs.Prelude.{◌≡◌, ℕ, ◌<◌, ◌≤◌, List, slice_index}
+use Rattle.std.specs.Prelude.{◌≡◌, ℕ, ◌<◌, List, slice_index}
 use Rattle.ca_rows.specs.declared.sizes.Sizes.{Sizes}
 use Rattle.ca_node.specs.Attempts.{HasAttempt, IsPrepared, IsSecured, IsUnderWay, IsFinished, IsJoinWord}
 use Rattle.ca_node.specs.Links.{IsIn}
@@ -15,11 +15,6 @@ pub record AreJoining (z : Sizes) (words : List ℕ) (role : ℕ → Role) : Typ
   pub secured : (route : ℕ) (place : Place) (key : List ℕ) (attempt : ℕ) → role route ≡ Route place key → IsSecured words route attempt
       → AreJoined z words route attempt
   pub states : (route : ℕ) (place : Place) (key : List ℕ) → role route ≡ Route place key → IsJoinWord words route
-
--- So far no join of a route of the tree is secured; and none is under way where the space is for one pass alone.
-pub record AreUnsecured (z : Sizes) (words : List ℕ) (role : ℕ → Role) : Type 0 where
-  pub none : (route : ℕ) (place : Place) (key : List ℕ) (attempt : ℕ) → role route ≡ Route place key → ¬ IsSecured words route attempt
-  pub idle : z.passes ≤ 1 → (route : ℕ) (place : Place) (key : List ℕ) (attempt : ℕ) → role route ≡ Route place key → ¬ IsUnderWay words route attempt
 
 -- The route is one of those that a seat remembers.
 abbrev pub IsRemembered : List Way → ℕ → Type 0

@@ -1,10 +1,10 @@
 -- What holds of joins stays so, where steps leave the words that it speaks of, or take a join a step further.
-use Rattle.std.proofs.Common.{◌≡◌, ◌⊎◌, ℕ, zero, suc, ◌+◌, ◌*◌, ◌%◌, ◌<◌, List, [], ◌∷◌, get_or, sym, refl, ap, ◌∙◌, subst, inl, inr, ⊎_elim, arith}
+use Rattle.std.proofs.Common.{◌≡◌, ℕ, zero, suc, ◌+◌, ◌*◌, ◌%◌, ◌<◌, List, [], ◌∷◌, get_or, sym, refl, ap, ◌∙◌, subst, inl, inr, ⊎_elim, arith}
 use mathlib.Core.Option.{some, some-injective, some-ne-none}
 use lib.ListN.{get_elem?}
 use Rattle.ca_rows.specs.declared.sizes.Sizes.{Sizes}
 use Rattle.ca_node.specs.Attempts.{join_of, IsJoinWord, HasAttempt, IsSecured, IsUnderWay, JoinGoesOn}
-use Rattle.ca_node.specs.Joining.{AreJoining, AreUnsecured, IsRemembered, IsHung, IsJoining}
+use Rattle.ca_node.specs.Joining.{AreJoining, IsRemembered, IsHung, IsJoining}
 use Rattle.ca_node.specs.Links.{IsIn}
 use Rattle.ca_node.specs.Marks.{IsOfRange, IsOfJoin, IsMarkIn, AreJoined}
 use Rattle.ca_node.specs.Place.{Place, IsLinkOf}
@@ -178,19 +178,3 @@ joined_same z words others role same child = joined_still z words others role
 pub under_way_same : (words others : List ℕ) (route attempt : ℕ) → join_of others route ≡ join_of words route → IsUnderWay others route attempt
     → IsUnderWay words route attempt
 under_way_same words others route attempt same now = ⊎_elim (λ q. inl (sym same ∙ q)) (λ q. inr (sym same ∙ q)) now
-
--- No join is secured where none was: each route has an idle join word, or is one that was there, with the same word.
-pub unsecured_still : (z : Sizes) (words others : List ℕ) (role role' : ℕ → Role)
-    → ((route : ℕ) (place : Place) (key : List ℕ) → role' route ≡ Route place key → (join_of others route % 4 ≡ 0)
-    ⊎ ((p : Place) × (k : List ℕ) × (role route ≡ Route p k) × (join_of others route ≡ join_of words route)))
-    → AreUnsecured z words role → AreUnsecured z others role'
-unsecured_still z words others role role' back u = record {
-  none = λ route place key attempt e now. ⊎_elim
-      (λ (zero : join_of others route % 4 ≡ 0). let word : join_of others route ≡ 4 * attempt + 2 = now in absurd (omega (arith, zero, word)))
-      (λ (t : (p : Place) × (k : List ℕ) × (role route ≡ Route p k) × (join_of others route ≡ join_of words route)).
-      u.none route t.0 t.1 attempt t.2 (sym t.3 ∙ now)) (back route place key e);
-  idle = λ few route place key attempt e now. ⊎_elim
-      (λ (zero : join_of others route % 4 ≡ 0). ⊎_elim (λ q. absurd (omega (arith, zero, q))) (λ q. absurd (omega (arith, zero, q))) now)
-      (λ (t : (p : Place) × (k : List ℕ) × (role route ≡ Route p k) × (join_of others route ≡ join_of words route)).
-      u.idle few route t.0 t.1 attempt t.2 (under_way_same words others route attempt t.3 now)) (back route place key e);
-}

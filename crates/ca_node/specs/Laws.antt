@@ -16,8 +16,10 @@ use Rattle.ca_node.specs.Attempts.{IsSecured}
 use Rattle.ca_node.specs.DeadStays.{dead_stays, under_dead}
 use Rattle.ca_node.specs.Inventory.{IsInventory}
 use Rattle.ca_node.specs.Joining.{IsJoining}
-use Rattle.ca_node.specs.JoinsStay.{joining_same, nothing_joining, joined_same, unsecured_still}
+use Rattle.ca_node.specs.JoinsStay.{joining_same, nothing_joining, joined_same}
 use Rattle.ca_node.specs.Links.{root, IsIn, IsUnder, IsActive, IsLinked, by_route, by_range, IsLent, IsOfOwnRun, IsNoted, by_note, by_item, by_way, by_link, by_link_item, by_border, by_run, by_run_item, by_shown, by_shown_item}
+use Rattle.ca_node.specs.Lone.{IsLone}
+use Rattle.ca_node.specs.LoneStays.{same_kept, left_kept, lone_still, lone_same, no_route_first}
 use Rattle.ca_node.specs.Place.{Place, IsLinkOf}
 use Rattle.ca_node.specs.Ranging.{IsSoFar, IsRanging, AreRanged}
 use Rattle.ca_node.specs.RangesStay.{own_note, own_run_back, begun_on, decided_back, ranging_stays}
@@ -28,7 +30,7 @@ use Rattle.ca_node.specs.Shape.{Role, Out, Base, Route, place_of, IsSo, IsShape}
 use Rattle.ca_node.specs.Standing.{shape_stands}
 use Rattle.ca_node.specs.Stays.{IsSameRow, row_same, map_same, linked_on, linked_back, lent_on, lent_back}
 use Rattle.ca_node.specs.Tree.{StartsWith, IsAlive, IsDead, IsTrue, IsTrueWay, IsEnded, Knows, IsTree}
-use Rattle.ca_node.specs.TreeView.{Note, Way, Border, Begun, Ranging, Quiet, Unmarked, Marking, Left, Ended, TreeView, no_ranges, blank, ended_of, and_ended, ended_with, left_over, pinned, unpinned}
+use Rattle.ca_node.specs.TreeView.{Note, Way, Border, Begun, Ranging, Quiet, Unmarked, Marking, Left, Joining, Secured, Ended, TreeView, no_ranges, blank, ended_of, and_ended, ended_with, left_over, pinned, unpinned}
 use Rattle.ca_rows.specs.Layout.{row_words, passes_words}
 use Rattle.ca_node.specs.Layout.{root_word}
 
@@ -116,6 +118,8 @@ left_run words u v row is o = by u.ranges.own o.2.0 o.2.1 (sym is ∙ o.2.2)
     by (Unmarked b) begun border e = absurd cc
     by (Marking b c) begun border e = absurd cc
     by Left begun border e = absurd cc
+    by (Joining x) begun border e = absurd cc
+    by (Secured x) begun border e = absurd cc
 
 -- The rows are the same where a table agrees with another on what is linked or noted.
 module _ (z : Sizes) (made : ℕ) (uppers : List TreeView) (words others : List ℕ) (f : IsTree z made words uppers)
@@ -212,6 +216,7 @@ module _ (z : Sizes) (made : ℕ) (uppers : List TreeView) (words others : List 
     way_now : (way : Way) → IsIn way u.ways → IsTrueWay z others f.role u.since f.history way
     way_now way i = let t = knows.ways way i in record {
       some_row = t.some_row;
+      is_route = t.is_route;
       in_range = t.in_range;
       stands = ⊎_elim (λ e. inl e)
           (λ d. inr (
@@ -225,7 +230,6 @@ module _ (z : Sizes) (made : ℕ) (uppers : List TreeView) (words others : List 
                 (λ l. (l, refl)) d.1,
           )) t.stands;
       spells = λ index fixed. way_same way i index fixed.0 ∙ t.spells index fixed;
-      unsecured = λ attempt now. t.unsecured attempt (sym (way_same way i 3 (omega arith)) ∙ now);
     }
 
     joining_now : IsJoining others u.notes u.ways u.ranges.joins
@@ -316,8 +320,9 @@ module _ (z : Sizes) (made : ℕ) (uppers : List TreeView) (words others : List 
     shape = shape_now;
     ranged = ranged_now;
     joined = joined_same z words others f.role (λ route place key is. join_now route place key is 3 (omega arith)) child_now f.joined;
-    unsecured = unsecured_still z words others f.role f.role
-        (λ route place key is. inr (place, key, is, join_now route place key is 3 (omega arith))) f.unsecured;
+    lone = λ j u at few lo. lone_still words others f.role f.role u.ranges.own u.ranges.own u.ways u.ways u.ranges.joins.begun u.ranges.joins.begun
+        (λ route place key is. inr (place, key, is, join_now route place key is 3 (omega arith)))
+        (λ route place key is. (is, join_now route place key is 3 (omega arith))) (λ way i. inl i) (same_kept u.ranges.own) refl (f.lone j u at few lo);
     each_seat = λ j u at. let k = f.each_seat j u at in record {
       made_before = k.made_before;
       alone = k.alone;
@@ -328,6 +333,7 @@ module _ (z : Sizes) (made : ℕ) (uppers : List TreeView) (words others : List 
       notes = note_now j u at;
       links = k.links;
       ways = way_now j u at;
+      way_links = k.way_links;
       one_place = k.one_place;
       joining = joining_now j u at;
       ended = k.ended;
@@ -378,6 +384,7 @@ relisted z made words role uppers uppers' history j u n k = record {
   notes = k.notes;
   links = k.links;
   ways = k.ways;
+  way_links = k.way_links;
   one_place = k.one_place;
   joining = k.joining;
   ended = λ x i. let e = k.ended x i in let lo = e.some_number in record {
@@ -391,9 +398,10 @@ relisted z made words role uppers uppers' history j u n k = record {
 -- One seat's view is another.
 pub seat_changed : (z : Sizes) (made : ℕ) (words : List ℕ) (uppers : List TreeView) (id : ℕ) (u u' : TreeView) (f : IsTree z made words uppers)
     → get_elem? uppers id ≡ some u → (0 < u'.number → u'.number ≡ u.number) → (0 < u'.number → u'.inventory ≡ u.inventory)
+    → (made ≤ 1 → 0 < u'.number → IsLone words f.role u.ranges.own u.ways u.ranges.joins.begun → IsLone words f.role u'.ranges.own u'.ways u'.ranges.joins.begun)
     → Knows z made words f.role (set uppers id u') f.history id u'
     → IsRanging z words f.role (f.ranged.ends u'.number) u'.since f.history u'.number u'.ranges → IsTree z made words (set uppers id u')
-seat_changed z made words uppers id u u' f at same has k ranging = record {
+seat_changed z made words uppers id u u' f at same has lone k ranging = record {
   usable = f.usable;
   history = f.history;
   edits = f.edits;
@@ -411,7 +419,8 @@ seat_changed z made words uppers id u u' f at same has k ranging = record {
         (λ j v n here. f.ranged.each j v here);
   };
   joined = f.joined;
-  unsecured = f.unsecured;
+  lone = all_seats (λ j v. made ≤ 1 → 0 < v.number → IsLone words f.role v.ranges.own v.ways v.ranges.joins.begun) uppers id u'
+      (λ few lo. let n = same lo in lone few lo (f.lone id u at few (omega arith))) (λ j v n here. f.lone j v here);
   each_seat = all_seats (Knows z made words f.role (set uppers id u') f.history) uppers id u' k
       (λ j v n here. relisted z made words f.role uppers (set uppers id u') f.history j v (numbered uppers id u u' at same) (f.each_seat j v here));
   inventory = f.inventory;
@@ -449,12 +458,16 @@ left_so_far z words role ends since since' history pass borders borders' Quiet k
 left_so_far z words role ends since since' history pass borders borders' (Unmarked begun) k = tt
 left_so_far z words role ends since since' history pass borders borders' (Marking begun border) k = tt
 left_so_far z words role ends since since' history pass borders borders' Left k = tt
+left_so_far z words role ends since since' history pass borders borders' (Joining x) k = k
+left_so_far z words role ends since since' history pass borders borders' (Secured x) k = k
 
 pub tree_pinning : Pinning IsLinked IsLent IsNoted IsTree pinned unpinned
 tree_pinning = record {
   keeps_entering = λ z made uppers words i u f at. let k = relisted z made words f.role uppers (set uppers i (pinned u)) f.history i u
       (numbered uppers i u (pinned u) at (λ _. refl)) (f.each_seat i u at) in
       seat_changed z made words uppers i u (pinned u) f at (λ _. refl) (λ _. refl)
+      (λ _ _ l. lone_same words f.role u.ranges.own (left_over u.ranges.own) u.ways [] u.ranges.joins.begun []
+      (λ way i. absurd (in_nothing way [] refl i)) (left_kept u.ranges.own) (inr refl) l)
       record {
         made_before = k.made_before;
         alone = k.alone;
@@ -465,6 +478,7 @@ tree_pinning = record {
         notes = λ note i. absurd (in_nothing note [] refl i);
         links = λ note i. absurd (in_nothing note [] refl i);
         ways = λ way i. absurd (in_nothing way [] refl i);
+        way_links = λ way i. absurd (in_nothing way [] refl i);
         one_place = λ a b i. absurd (in_nothing a [] refl i);
         joining = nothing_joining words;
         ended = k.ended;
@@ -482,6 +496,8 @@ tree_pinning = record {
   keeps_leaving = λ z made uppers words i u f at. let k = relisted z made words f.role uppers (set uppers i (unpinned u)) f.history i u
       (numbered uppers i u (unpinned u) at (λ _. refl)) (f.each_seat i u at) in
       seat_changed z made words uppers i u (unpinned u) f at (λ _. refl) (λ _. refl)
+      (λ _ _ l. lone_same words f.role u.ranges.own (left_over u.ranges.own) u.ways [] u.ranges.joins.begun []
+      (λ way i. absurd (in_nothing way [] refl i)) (left_kept u.ranges.own) (inr refl) l)
       record {
         made_before = k.made_before;
         alone = k.alone;
@@ -492,6 +508,7 @@ tree_pinning = record {
         notes = λ note i. absurd (in_nothing note [] refl i);
         links = λ note i. absurd (in_nothing note [] refl i);
         ways = λ way i. absurd (in_nothing way [] refl i);
+        way_links = λ way i. absurd (in_nothing way [] refl i);
         one_place = λ a b i. absurd (in_nothing a [] refl i);
         joining = nothing_joining words;
         ended = k.ended;
@@ -532,6 +549,7 @@ knows_nothing z made words role uppers history j number before alone unmade = re
   notes = λ note i. absurd (in_nothing note [] refl i);
   links = λ note i. absurd (in_nothing note [] refl i);
   ways = λ way i. absurd (in_nothing way [] refl i);
+  way_links = λ way i. absurd (in_nothing way [] refl i);
   one_place = λ a b i. absurd (in_nothing a [] refl i);
   joining = nothing_joining words;
   ended = λ x i. absurd (in_nothing x [] refl i);
@@ -582,7 +600,18 @@ tree_making = record {
           (at_place uppers (blank (made + 1)) u j here);
     };
     joined = f.joined;
-    unsecured = f.unsecured;
+    lone = λ j u here few lo. let first : made ≡ 0 = omega arith in ⊎_elim
+        (λ (was : get_elem? uppers j ≡ some u). let low = (f.each_seat j u was).made_before in absurd (omega arith))
+        (λ (t : (j ≡ length uppers) × (blank (made + 1) ≡ u)). subst (λ (y : TreeView). IsLone words f.role y.ranges.own y.ways y.ranges.joins.begun) t.1 record {
+          prepared = λ route place key attempt e now. absurd (no_route_first z words f.role (after f.history []) f.inventory f.shape f.listed
+              (f.at_first first) route place key e);
+          secured = λ route place key attempt e now. absurd (no_route_first z words f.role (after f.history []) f.inventory f.shape f.listed
+              (f.at_first first) route place key e);
+          still = λ x is. let c : Quiet ≡ Joining x = is in absurd cc;
+          alive = λ way i. absurd (in_nothing way [] refl i);
+          latest = λ x i. absurd (in_nothing x [] refl i);
+        })
+        (at_place uppers (blank (made + 1)) u j here);
     each_seat = λ j u here. ⊎_elim
         (λ (was : get_elem? uppers j ≡ some u). let k = f.each_seat j u was in let low = k.made_before in record {
           made_before = omega arith;
@@ -596,6 +625,7 @@ tree_making = record {
           notes = k.notes;
           links = k.links;
           ways = k.ways;
+          way_links = k.way_links;
           one_place = k.one_place;
           joining = k.joining;
           ended = λ x i. let e = k.ended x i in let before = e.made_before in record {
@@ -636,7 +666,7 @@ set_apart (x ∷ xs) (suc i) (suc j) a b n = ap (λ ys. x ∷ ys) (set_apart xs 
 module _ (z : Sizes) (made : ℕ) (words : List ℕ) (uppers : List TreeView) (i j : ℕ) (v w : TreeView) (f : IsTree z made words uppers)
     (at : get_elem? uppers i ≡ some v) (ne : j ≢ i) (there : get_elem? uppers j ≡ some w) where
   fewer : IsTree z made words (set uppers j (blank 0))
-  fewer = seat_changed z made words uppers j w (blank 0) f there (λ lo. absurd (omega arith)) (λ lo. absurd (omega arith))
+  fewer = seat_changed z made words uppers j w (blank 0) f there (λ lo. absurd (omega arith)) (λ lo. absurd (omega arith)) (λ _ lo. absurd (omega arith))
       (knows_nothing z made words f.role (set uppers j (blank 0)) f.history j 0 (omega arith) (λ lo. absurd (omega arith))
       (none_made made 0 f.history f.by_passes (inl refl))) (no_ranging z words f.role (f.ranged.ends 0) f.history)
 
@@ -686,6 +716,7 @@ module _ (z : Sizes) (made : ℕ) (words : List ℕ) (uppers : List TreeView) (i
         notes = k.notes;
         links = k.links;
         ways = k.ways;
+        way_links = k.way_links;
         one_place = k.one_place;
         joining = k.joining;
         ended = one_more_ended w.number refl v.ended k.ended;
@@ -694,7 +725,7 @@ module _ (z : Sizes) (made : ℕ) (words : List ℕ) (uppers : List TreeView) (i
   closes : IsTree z made words (set (set uppers i joined) j (blank 0))
   unfolding seat_changed fewer
   closes = subst (IsTree z made words) (sym (set_apart uppers i j joined (blank 0) ne))
-      (seat_changed z made words (set uppers j (blank 0)) i v joined fewer at_too (λ _. refl) (λ _. refl) knows_joined (f.ranged.each i v at))
+      (seat_changed z made words (set uppers j (blank 0)) i v joined fewer at_too (λ _. refl) (λ _. refl) (λ _ _ l. l) knows_joined (f.ranged.each i v at))
 
 pub tree_closing : Closing IsLinked IsLent IsNoted IsTree ended_with (blank 0)
 tree_closing = record {

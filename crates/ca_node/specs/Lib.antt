@@ -14,6 +14,8 @@ pub mod LastTree
 pub mod Laws
 pub mod Layout
 pub mod Links
+pub mod Lone
+pub mod LoneStays
 pub mod Marks
 pub mod May
 pub mod Notes
@@ -35,4 +37,5 @@ pub mod Tree
 pub mod TreePasses
 pub mod TreeView
 pub mod True
+pub mod Unlinks
 pub mod Walking

@@ -8,6 +8,7 @@ use Rattle.ca_node.specs.Endings.{Helps}
 use Rattle.ca_node.specs.JoinSteps.{LoadsJoin, SwapsJoin}
 use Rattle.ca_node.specs.Told.{MyTree, Leads, Reads, ReadsLast, IsRise, Refuses, PassesOn, Watches, IsLastThere, Update, Updates, Divides}
 use Rattle.ca_node.specs.OwnRanges.{Opens, WatchesOwn, DecidesOwn, Aborts, Leaves}
+use Rattle.ca_node.specs.Unlinks.{UnlinksSome}
 use Rattle.ca_node.specs.TreeView.{Note, Border, Begun, Division, KnownRanges, TreeView}
 
 -- All that a load may tell of the tree: that of a link, that of a word that was shown, the ends of calls, which edit nothing or are refused, and how far a
@@ -26,11 +27,11 @@ abbrev pub SwapsOwn : Step (Unit {0}) → MyTree → ℕ → MyTree → Type 0
 SwapsOwn st m n m' = ((begun : Begun) × (border : Border) × (last : Note) × DecidesOwn begun border last st m n m')
     ⊎ (((begun : Begun) × (border : Border) × Aborts begun border st m n m') ⊎ ((begun : Begun) × Leaves begun st m n m'))
 
--- All that an exchange may tell: an update, a split, or a base that is marked for a range, or one exchange more that was lost; or that another pass's range
--- is over, or the seat's own one, or how far a join is.
+-- All that an exchange may tell: an update, a split, a route that was unlinked, or a base that is marked for a range, or one exchange more that was lost; or
+-- that another pass's range is over, or the seat's own one, or how far a join is.
 abbrev pub MaySwap : Step (Unit {0}) → MyTree → ℕ → MyTree → Type 0
 MaySwap st m n m' = ((x : Update) × IsShownLast m.0.upper st x.old × Updates x st m n m')
-    ⊎ (((x : Division) × IsShownLast m.0.upper st x.old × Divides x st m n m')
+    ⊎ ((((x : Division) × IsShownLast m.0.upper st x.old × Divides x st m n m') ⊎ UnlinksSome st m n m')
     ⊎ (((x : Copy) × (served : List ℕ) × (ranges : KnownRanges) × IsShownLast m.0.upper st x.old × Copies served ranges x st m n m')
     ⊎ (((pass : ℕ) × (number : ℕ) × (border : ℕ) × Helps pass number border st m n m')
     ⊎ (SwapsOwn st m n m' ⊎ SwapsJoin st m n m'))))

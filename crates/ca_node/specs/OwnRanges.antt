@@ -12,7 +12,7 @@ use Rattle.ca_node.specs.Notes.{IsBaseNote}
 use Rattle.ca_node.specs.Ranging.{IsRunShown, Reaches}
 use Rattle.ca_node.specs.Row.{IsMarkedBy}
 use Rattle.ca_node.specs.Told.{MyTree, with_upper, IsKnown, status_word}
-use Rattle.ca_node.specs.TreeView.{Note, Border, Begun, Ranging, Quiet, Unmarked, Marking, Left, KnownRanges, TreeView}
+use Rattle.ca_node.specs.TreeView.{Note, Border, Begun, Ranging, Quiet, Unmarked, Marking, Left, Joining, Secured, KnownRanges, TreeView}
 
 -- The seat may begin a range: it is pinned, its last one is over, and this one has the next number.
 pub record IsOpening (m : MyTree) (begun : Begun) : Type 0 where
@@ -70,6 +70,8 @@ IsFoundSo m n m' (Unmarked begun) = (n ≡ active_word begun.number) × (m' ≡ 
 IsFoundSo m n m' (Marking begun border) = ((n ≡ active_word begun.number) × (m' ≡ with_upper m (numbered_by n m.0.upper)))
     ⊎ HasFoundRun m n m' begun border
 IsFoundSo m n m' Left = m' ≡ with_upper m (numbered_by n m.0.upper)
+IsFoundSo m n m' (Joining x) = (n % sequence_unit ≢ row_limit) × (m' ≡ with_upper m (numbered_by n m.0.upper))
+IsFoundSo m n m' (Secured x) = (n % sequence_unit ≢ row_limit) × (m' ≡ with_upper m (numbered_by n m.0.upper))
 
 abbrev pub WatchesOwn : Step (Unit {0}) → MyTree → ℕ → MyTree → Type 0
 WatchesOwn st m n m' = (0 < m.0.upper.number) × (st.word ≡ status_word m.0.sizes m.0.upper.number) × IsFoundSo m n m' m.0.upper.ranges.own

@@ -14,7 +14,7 @@ use Rattle.ca_node.specs.Row.{row_at, IsMarkedBy, mark_back}
 use Rattle.ca_node.specs.Scenes.{IsBase}
 use Rattle.ca_node.specs.Shape.{Role}
 use Rattle.ca_node.specs.True.{IsTrue}
-use Rattle.ca_node.specs.TreeView.{Note, Over, Border, Begun, Ranging, Quiet, Unmarked, Marking, Left, KnownRanges, TreeView}
+use Rattle.ca_node.specs.TreeView.{Note, Over, Border, Begun, Ranging, Quiet, Unmarked, Marking, Left, Joining, Secured, KnownRanges, TreeView}
 use Rattle.ca_node.specs.Layout.{sequence_unit}
 
 -- The notes of a chain are on rows of it.
@@ -168,6 +168,8 @@ module _ (z : Sizes) (words others : List ℕ) (role role' : ℕ → Role)
           (λ was. inr (decided_still begun border.its (begun, border, is, refl) was)) now.2,
     )
     so_far Left is now = tt
+    so_far (Joining x) is quiet = λ number now. quiet number (active_back pass number now)
+    so_far (Secured x) is quiet = λ number now. quiet number (active_back pass number now)
 
     -- So does all that it knows of ranges.
     pub ranging_stays : IsRanging z words role ends since history pass ranges → IsRanging z others role' ends since history' pass ranges

@@ -15,7 +15,7 @@ use Rattle.ca_node.specs.Row.{row_at, IsBorderRow, IsMarkedBy, mark_back, edge_f
 use Rattle.ca_node.specs.Scenes.{IsBase, scene_of}
 use Rattle.ca_node.specs.Shape.{Role}
 use Rattle.ca_node.specs.True.{IsTrue}
-use Rattle.ca_node.specs.TreeView.{Note, Over, Border, Begun, Ranging, Quiet, Unmarked, Marking, Left, KnownRanges, TreeView}
+use Rattle.ca_node.specs.TreeView.{Note, Over, Border, Begun, Ranging, Quiet, Unmarked, Marking, Left, Joining, Secured, KnownRanges, TreeView}
 
 -- These ranges were begun, and are over.
 abbrev pub IsOver : List ℕ → Over → Type 0
@@ -77,7 +77,7 @@ pub record WasDecided (z : Sizes) (words : List ℕ) (role : ℕ → Role) (sinc
   pub run : IsRunShown since history begun.edge last notes
   pub whole : Reaches its run.high
 
--- how far the seat's own range is, by what it knows of it
+-- How far the seat's own range is, by what it knows of it. While it has an attempt to join of its own no range of its own is active.
 abbrev pub IsSoFar : Sizes → List ℕ → (ℕ → Role) → Ends → History → History → ℕ → List Border → Ranging → Type 0
 IsSoFar z words role ends since history pass borders Quiet = (number : ℕ) → ¬ IsActive words pass number
 IsSoFar z words role ends since history pass borders (Unmarked begun) = GoesOn words ends pass begun
@@ -85,6 +85,8 @@ IsSoFar z words role ends since history pass borders (Unmarked begun) = GoesOn w
 IsSoFar z words role ends since history pass borders (Marking begun border) = IsIn border borders × (border.row ≡ begun.top)
     × ((GoesOn words ends pass begun × IsSomeMarked words role pass begun.number) ⊎ WasDecided z words role since history pass begun border.its)
 IsSoFar z words role ends since history pass borders Left = Unit {0}
+IsSoFar z words role ends since history pass borders (Joining x) = (number : ℕ) → ¬ IsActive words pass number
+IsSoFar z words role ends since history pass borders (Secured x) = (number : ℕ) → ¬ IsActive words pass number
 
 -- The last range of the pass has this number, whether it is over or not.
 abbrev pub HasSequence : List ℕ → ℕ → ℕ → Type 0

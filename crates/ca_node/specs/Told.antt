@@ -23,11 +23,11 @@ use Rattle.ca_node.specs.declared.link.Link.TheVariants as link
 use Rattle.ca_node.specs.declared.range_state.RangeState.{RangeState}
 use Rattle.ca_node.specs.declared.range_state.RangeState.TheVariants.{Idle, Active, Decided}
 use Rattle.ca_node.specs.Notes.{IsBaseNote}
-use Rattle.ca_node.specs.Place.{Span, all_keys, left_of, right_of, HasKey, Place, left_place, right_place, edit_key}
+use Rattle.ca_node.specs.Place.{Span, all_keys, left_of, right_of, HasKey, Place, left_place, right_place, IsLinkOf, edit_key}
 use Rattle.ca_node.specs.Row.{IsObjectRow, IsBaseRow, IsRouteRow, IsBorderRow, count, level, items, mark, mark_owner, mark_number, mark_bound, IsMarkedBy, IsMarkedFor, IsUnmarked, IsIdle, key, route_key, pair, IsHeaded}
 use Rattle.ca_node.specs.States.{HasState, IsAlone, IsReadAt}
 use Rattle.ca_node.specs.Tree.{ArePast, IsFixed}
-use Rattle.ca_node.specs.TreeView.{Note, Way, Over, Finished, Quiet, Unfinished, Border, Turns, Renewal, Division, Inventory, TreeView, blank, no_note, one_passed}
+use Rattle.ca_node.specs.TreeView.{Note, Way, Over, Attempt, Finished, Quiet, Unfinished, Border, Turns, Renewal, Division, Inventory, TreeView, blank, no_note, one_passed}
 use Rattle.ca_rows.specs.Layout.{row_words, pass_words, row_limit}
 use Rattle.ca_node.specs.Layout.{root_word, sequence_unit}
 
@@ -57,15 +57,11 @@ pub record IsKnown (z : Sizes) (u : TreeView) : Type 0 where
   pub enrolled : u.number ≤ z.passes
   pub by_passes : AreByPasses z.passes u.seen
 
--- The seat remembers the route as one that is living. So far that is each one that it remembers, since no step unlinks a route.
-abbrev pub RemembersLiving : TreeView → Way → Type 0
-RemembersLiving u way = IsIn way u.ways
-
 -- The seat knows of the link which keys are led there, and from which level on rows hang there: it is the root link, or one of a route that it
--- was shown, and remembers as living.
+-- remembers, whether that is in the tree still or was unlinked since the seat was pinned.
 abbrev pub IsKnownLink : TreeView → ℕ → ℕ → Span → Type 0
 IsKnownLink u link least span = ((link ≡ root_word) × (least ≡ 0) × (span ≡ all_keys))
-    ⊎ ((way : Way) × RemembersLiving u way × (least ≡ way.place.level + 1)
+    ⊎ ((way : Way) × IsIn way u.ways × (least ≡ way.place.level + 1)
     × (((link ≡ row_words * way.row + 1) × (span ≡ left_of (route_key way.its) way.place.span))
     ⊎ ((link ≡ row_words * way.row + 2) × (span ≡ right_of (route_key way.its) way.place.span))))
 
@@ -126,8 +122,23 @@ pub record IsLedToRoute (link : ℕ) (m : MyTree) (n : ℕ) (m' : MyTree) : Type
 abbrev pub IsLed : Bool → ℕ → MyTree → ℕ → MyTree → Type 0
 IsLed walks link m n m' = IsLedToBase walks link m n m' ⊎ IsLedToRoute link m n m'
 
+-- The link was loaded of a route with this secured attempt: it names a base that the attempt marked. With each base that was shown before on the other link,
+-- with the same mark, it has no more items than a leaf may have.
+pub record IsShownSecured (link : ℕ) (x : Attempt) (m m' : MyTree) : Type 0 where
+  pub note : Note
+  pub shown : m'.0.upper.notes ≡ note ∷ m.0.upper.notes
+  pub hangs : note.place.link ≡ link
+  pub is_base : IsBaseRow note.its
+  pub marked : IsMarkedFor note.its x.route x.number
+  pub few : (other : Note) → IsIn other m.0.upper.notes → IsLinkOf x.route other.place.link → other.place.link ≢ link
+      → IsMarkedFor other.its x.route x.number → count other.its + count note.its ≤ m.0.sizes.leaf
+
+-- So it is for each attempt that the seat knows to be secured, whose route's link it loaded.
+abbrev pub IsLedSecured : ℕ → MyTree → MyTree → Type 0
+IsLedSecured link m m' = (x : Attempt) → IsIn x m.0.upper.ranges.joins.secured → IsLinkOf x.route link → IsShownSecured link x m m'
+
 abbrev pub Leads : Bool → Step (Unit {0}) → MyTree → ℕ → MyTree → Type 0
-Leads walks st m n m' = IsLed walks st.word m n m'
+Leads walks st m n m' = IsLed walks st.word m n m' × IsLedSecured st.word m m'
 
 -- The note is on the row, with these words, or on a base that names it as an object row.
 abbrev pub IsOfNote : Note → ℕ → List ℕ → Type 0
@@ -218,10 +229,10 @@ Watches st m n m' = (pass : ℕ) × (0 < pass) × (st.word ≡ status_word m.0.s
 abbrev pub IsRead : TreeView → ℕ → ℕ → Type 0
 IsRead u place n = (row index word : ℕ) → place ≡ row_words * row + index → index < row_words → IsShownWord u row index word → n ≡ word
 
--- The routes of joins that marked bases which were shown are remembered.
+-- The routes of joins that marked bases which were shown are remembered, and the bases hung on a link of theirs.
 abbrev pub AreHung : MyTree → Type 0
 AreHung m = (note : Note) → IsIn note m.0.upper.notes → (route attempt : ℕ) → IsMarkedFor note.its route attempt
-    → IsRemembered m.0.upper.ways route × (route ≤ m.0.sizes.rows)
+    → IsRemembered m.0.upper.ways route × (route ≤ m.0.sizes.rows) × IsLinkOf route note.place.link
 
 abbrev pub Reads : Step (Unit {0}) → MyTree → ℕ → MyTree → Type 0
 Reads st m n m' = (m' ≡ m) × IsRead m.0.upper st.word n × AreHung m
@@ -335,6 +346,7 @@ renewed_by met u new x = record {
   new = new_base new x;
   lost = u.lost;
   splits = u.splits;
+  joins = u.joins;
   loads = u.loads;
   met = met;
 }

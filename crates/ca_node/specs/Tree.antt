@@ -7,15 +7,15 @@ use Rattle.ca_model.specs.History.{History, after, AreEdits, AreByPasses}
 use Rattle.ca_model.specs.Lawful.{IsLawful}
 use Rattle.ca_rows.specs.declared.sizes.Sizes.{Sizes}
 use Rattle.ca_rows.specs.Opening.{AreUsable}
-use Rattle.ca_node.specs.Attempts.{IsSecured}
 pub use Rattle.ca_node.specs.Hindsight.{IsDead}
 use Rattle.ca_node.specs.Inventory.{IsInventory}
-use Rattle.ca_node.specs.Joining.{AreJoining, AreUnsecured, IsJoining}
+use Rattle.ca_node.specs.Joining.{AreJoining, IsJoining}
 use Rattle.ca_node.specs.Links.{IsIn}
+pub use Rattle.ca_node.specs.Lone.{IsAlive, AreLone}
 use Rattle.ca_node.specs.Place.{IsLinkOf}
 use Rattle.ca_node.specs.Ranging.{AreRanged}
-use Rattle.ca_node.specs.Row.{route_key}
-use Rattle.ca_node.specs.Shape.{Role, Route, IsShape}
+use Rattle.ca_node.specs.Row.{IsRouteRow, route_key}
+use Rattle.ca_node.specs.Shape.{Role, IsShape}
 pub use Rattle.ca_node.specs.True.{IsTrue}
 use Rattle.ca_node.specs.TreeView.{Note, Way, Inventory, Ended, TreeView, first_inventory}
 use Rattle.ca_rows.specs.Layout.{row_words}
@@ -37,18 +37,13 @@ IsLinkOfView u link = (link ≡ root_word) ⊎ ((way : Way) × IsIn way u.ways �
 abbrev pub IsFixed : ℕ → Type 0
 IsFixed index = (index < row_words) × (index ≢ 1) × (index ≢ 2) × (index ≢ 3)
 
--- The route hangs where it hung.
-abbrev pub IsAlive : (ℕ → Role) → Way → Type 0
-IsAlive role way = role way.row ≡ Route way.place (route_key way.its)
-
--- The route is alive, or was unlinked since the seat was pinned. It has the words that it had, but for its links and its join word. So far none is secured,
--- and so none was unlinked.
+-- The route is alive, or was unlinked since the seat was pinned. It has the words that it had, but for its links and its join word.
 pub record IsTrueWay (z : Sizes) (words : List ℕ) (role : ℕ → Role) (since history : History) (way : Way) : Type 0 where
   pub some_row : 0 < way.row
+  pub is_route : IsRouteRow way.its
   pub in_range : way.row ≤ z.rows
   pub stands : IsAlive role way ⊎ ((at : ℕ) × IsDead z words role since history way at)
   pub spells : (index : ℕ) → IsFixed index → slice_index words (row_words * way.row + index) ≡ slice_index way.its index
-  pub unsecured : (attempt : ℕ) → ¬ IsSecured words way.row attempt
 
 -- A pass that was joined into a seat: its log is lawful, and no seat has its number any more.
 pub record IsEnded (made : ℕ) (uppers : List TreeView) (history : History) (x : Ended) : Type 0 where
@@ -69,6 +64,7 @@ pub record Knows (z : Sizes) (made : ℕ) (words : List ℕ) (role : ℕ → Rol
   pub notes : (note : Note) → IsIn note u.notes → IsTrue z.rows words role note
   pub links : (note : Note) → IsIn note u.notes → IsLinkOfView u note.place.link
   pub ways : (way : Way) → IsIn way u.ways → IsTrueWay z words role u.since history way
+  pub way_links : (way : Way) → IsIn way u.ways → IsLinkOfView u way.place.link
   pub one_place : (a b : Way) → IsIn a u.ways → IsIn b u.ways → a.row ≡ b.row → (a.place ≡ b.place) × (route_key a.its ≡ route_key b.its)
   pub joining : IsJoining words u.notes u.ways u.ranges.joins
   pub ended : (x : Ended) → IsIn x u.ended → IsEnded made uppers history x
@@ -86,7 +82,7 @@ pub record IsTree (z : Sizes) (made : ℕ) (words : List ℕ) (uppers : List Tre
   pub shape : IsShape z words role (after history [])
   pub ranged : AreRanged z made words role uppers history
   pub joined : AreJoining z words role
-  pub unsecured : AreUnsecured z words role
+  pub lone : AreLone made words role uppers
   pub each_seat : (j : ℕ) (u : TreeView) → get_elem? uppers j ≡ some u → Knows z made words role uppers history j u
   -- What the tree has is listed. Until a pass was made that is what it has at first, and a pass that is the only one knows the list.
   pub inventory : Inventory

@@ -1,5 +1,5 @@
 -- What a seat knows of the tree. It is data of proofs alone: lists, since a function is no value.
-use Rattle.std.specs.Prelude.{ℕ, ◌+◌, List, [], ◌∷◌, None}
+use Rattle.std.specs.Prelude.{ℕ, ◌+◌, ◌==◌, cond, List, [], ◌∷◌, None}
 use Prim.Native.Nat.{zero, suc}
 use mathlib.Core.Option.{Option, none}
 use Rattle.ca_model.specs.Edges.{Bound, Unbounded}
@@ -25,8 +25,8 @@ pub record Way : Type 0 where
   pub place : Place
 
 -- An update that the seat carried out: how many it has carried out with this one, the key that it was about, the base that was there and the one
--- that took its place; and how many exchanges of a link the seat had lost until then, how many splits carried out, how many links loaded, and what
--- it had met of the pool.
+-- that took its place; and how many exchanges of a link the seat had lost until then, how many splits and joins carried out, how many links loaded, and
+-- what it had met of the pool.
 pub record Renewal : Type 0 where
   pub count : ℕ
   pub key : List ℕ
@@ -34,6 +34,7 @@ pub record Renewal : Type 0 where
   pub new : Note
   pub lost : ℕ
   pub splits : ℕ
+  pub joins : ℕ
   pub loads : ℕ
   pub met : Met
 
@@ -96,18 +97,21 @@ no_border = record { row = 0; its = [] }
 abbrev pub none_begun : Begun
 none_begun = record { number = 0; edge = Unbounded; top = 0 }
 
--- How far the last range of a pass is: it is over, or there was none; it was begun, and nothing is marked; something was marked, with the row that says up
--- to where it goes, and others may have ended it since; or the pass unpinned before it was over, and nothing is said of it.
+-- An attempt to join the two bases under a route.
+pub record Attempt : Type 0 where
+  pub route : ℕ
+  pub number : ℕ
+
+-- How far the last operation of a pass is that others may meet. Of a range: it is over, or there was none; it was begun, and nothing is marked; something was
+-- marked, with the row that says up to where it goes, and others may have ended it since; or the pass unpinned before it was over, and nothing is said of it.
+-- Of an attempt to join: it was begun, and the pass didn't secure it, but others may have given it up since; or the pass secured it.
 pub data Ranging : Type 0 where
   Quiet : Ranging
   Unmarked : Begun → Ranging
   Marking : Begun → Border → Ranging
   Left : Ranging
-
--- An attempt to join the two bases under a route.
-pub record Attempt : Type 0 where
-  pub route : ℕ
-  pub number : ℕ
+  Joining : Attempt → Ranging
+  Secured : Attempt → Ranging
 
 -- The attempts of a route whose numbers are less than this one, of which it is known that they are finished.
 pub record Finished : Type 0 where
@@ -171,7 +175,7 @@ abbrev pub no_note : Note
 no_note = record { row = 0; its = []; objects = []; place = root_place }
 
 abbrev pub no_renewal : Renewal
-no_renewal = record { count = 0; key = []; old = no_note; new = no_note; lost = 0; splits = 0; loads = 0; met = nothing_met }
+no_renewal = record { count = 0; key = []; old = no_note; new = no_note; lost = 0; splits = 0; joins = 0; loads = 0; met = nothing_met }
 
 abbrev pub no_refusals : Counts
 no_refusals = record { busy = 0; full = 0; deep = 0; worn = 0; last = None }
@@ -233,12 +237,23 @@ and_ended (suc before) x xs = x ∷ xs
 abbrev pub ended_with : TreeView → TreeView → TreeView
 ended_with u w = record u { ended = and_ended w.number (ended_of w) u.ended }
 
--- a range that isn't over as its pass unpins is left to others
+-- a range that isn't over as its pass unpins is left to others; an attempt of its own is its own still
 abbrev pub left_over : Ranging → Ranging
 left_over Quiet = Quiet
 left_over (Unmarked begun) = Left
 left_over (Marking begun border) = Left
 left_over Left = Left
+left_over (Joining x) = Joining x
+left_over (Secured x) = Secured x
+
+-- How far the last operation of a pass is behind an attempt that is over: if it was this one, which the pass had secured, it has none any more.
+abbrev pub own_behind : Attempt → Ranging → Ranging
+own_behind x Quiet = Quiet
+own_behind x (Unmarked begun) = Unmarked begun
+own_behind x (Marking begun border) = Marking begun border
+own_behind x Left = Left
+own_behind x (Joining y) = Joining y
+own_behind x (Secured y) = cond (y.route == x.route) (cond (y.number == x.number) Quiet (Secured y)) (Secured y)
 
 -- It is pinned, or not any more. As it is pinned it remembers no base and no route: those that it is shown since stood there since.
 abbrev pub pinned : TreeView → TreeView

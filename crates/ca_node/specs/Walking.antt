@@ -14,7 +14,8 @@ use Rattle.ca_node.specs.declared.link.Link.{Link}
 use Rattle.ca_node.specs.declared.link.Link.TheVariants as link
 use Rattle.ca_node.specs.Inventory.{IsListed}
 use Rattle.ca_node.specs.Links.{IsIn}
-use Rattle.ca_node.specs.Place.{Span, HasKey, Place}
+use Rattle.ca_node.specs.Layout.{root_word}
+use Rattle.ca_node.specs.Place.{Span, HasKey, Place, IsLinkOf}
 use Rattle.ca_node.specs.Row.{count, route_key}
 use Rattle.ca_node.specs.Notes.{IsBaseNote}
 use Rattle.ca_node.specs.Told.{MyTree, with_upper, IsRouteNote, IsKnown, IsKnownLink, IsShownRoute, link_word}
@@ -79,20 +80,34 @@ abbrev pub IsHighRoute : Sizes → List Way → Option ℕ → Bound → Type 0
 IsHighRoute z ways None bound = bound ≡ Unbounded
 IsHighRoute z ways (Some route) bound = (way : Way) × IsIn way ways × (way.row ≡ route) × (bound ≡ Excluded (route_key way.its)) × IsRouteNote z way
 
+-- The link is the root link, or one of a route that was shown.
+abbrev pub IsLinkAmong : List Way → ℕ → Type 0
+IsLinkAmong ways link = (link ≡ root_word) ⊎ ((way : Way) × IsIn way ways × IsLinkOf way.row link)
+
+-- The route was shown, and hung on this link: one of those, within the table.
+pub record IsHungOn (z : Sizes) (ways : List Way) (route : ℕ) (above : Link) : Type 0 where
+  pub way : Way
+  pub remembered : IsIn way ways
+  pub row_is : way.row ≡ route
+  pub link_is : way.place.link ≡ link_word above
+  pub is_route : IsRouteNote z way
+  pub known : IsLinkAmong ways (link_word above)
+  pub inside : link_word above < row_words * z.rows + row_words
+
 -- The link, if one is named, is the one on which the route hung whose link the other one is.
-abbrev pub IsAbove : List Way → Link → Option Link → Type 0
-IsAbove ways link.Root above = above ≡ None
-IsAbove ways (link.Left route) None = ⊥
-IsAbove ways (link.Left route) (Some above) = (way : Way) × IsIn way ways × (way.row ≡ route) × (link_word above ≡ way.place.link)
-IsAbove ways (link.Right route) None = ⊥
-IsAbove ways (link.Right route) (Some above) = (way : Way) × IsIn way ways × (way.row ≡ route) × (link_word above ≡ way.place.link)
+abbrev pub IsAbove : Sizes → List Way → Link → Option Link → Type 0
+IsAbove z ways link.Root above = above ≡ None
+IsAbove z ways (link.Left route) None = ⊥
+IsAbove z ways (link.Left route) (Some above) = IsHungOn z ways route above
+IsAbove z ways (link.Right route) None = ⊥
+IsAbove z ways (link.Right route) (Some above) = IsHungOn z ways route above
 
 -- The cursor tells the base that was shown, and where it hung.
 pub record IsCursor (z : Sizes) (ways : List Way) (note : Note) (cursor : Cursor) : Type 0 where
   pub base : note.row ≡ cursor.base
   pub link : note.place.link ≡ link_word cursor.link
   pub level : note.place.level ≡ cursor.level
-  pub above : IsAbove ways cursor.link cursor.above
+  pub above : IsAbove z ways cursor.link cursor.above
   pub low : IsLowRoute z ways cursor.low note.place.span.low
   pub high : IsHighRoute z ways cursor.high note.place.span.high
 
@@ -107,11 +122,11 @@ IsSide left spot.Last key = left ≡ false
 pub record IsPlaced (z : Sizes) (ways : List Way) (place : Place) (cursor : Cursor) : Type 0 where
   pub link : place.link ≡ link_word cursor.link
   pub inside : link_word cursor.link < row_words * z.rows + row_words
-  pub above : IsAbove ways cursor.link cursor.above
+  pub above : IsAbove z ways cursor.link cursor.above
   pub low : IsLowRoute z ways cursor.low place.span.low
   pub high : IsHighRoute z ways cursor.high place.span.high
 
--- A walk may begin with the cursor's link: it is the root link, or one of a route that is remembered as living. These keys are led there, and the cursor
+-- A walk may begin with the cursor's link: it is the root link, or one of a route that is remembered. These keys are led there, and the cursor
 -- tells where it hangs.
 pub record IsBegin (z : Sizes) (u : TreeView) (span : Span) (cursor : Cursor) : Type 0 where
   pub least : ℕ

@@ -60,7 +60,7 @@ pub fn walk(space: &TreeSpace, pass: &mut TreePass, spot: Spot<'_>) -> Cursor
     walk_from(space, pass, root, spot)
 }
 
-/// The same from the link of this cursor down, to which what is looked for is led: it is the root link, or one of a route that is remembered as living.
+/// The same from the link of this cursor down, to which what is looked for is led: it is the root link, or one of a route that is remembered.
 /// The link is loaded anew, whichever base the cursor is at.
 #[inline(always)]
 pub fn walk_from(space: &TreeSpace, pass: &mut TreePass, from: Cursor, spot: Spot<'_>) -> Cursor

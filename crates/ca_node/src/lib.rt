@@ -20,6 +20,7 @@ mod ranges;
 mod rule;
 mod steps;
 mod tallying;
+mod unlinking;
 mod view;
 
 pub use closing::close_words;
@@ -29,7 +30,7 @@ pub use exchange::{divide_base, replace_base};
 pub use handed::Front;
 pub use handing::{front, learn};
 pub use join_state::JoinState;
-pub use joins::{abort_join, begin_join, load_join};
+pub use joins::{abort_join, begin_join, leave_join, load_join, secure_join};
 pub use layout::{
     BASE, BASE_FORM, BORDER, BORDER_FORM, CODE, FORM, ITEMS, JOIN, KEY, OBJECT, OBJECT_FORM,
     PREFIX, PREFIX_LENGTH, ROOT, ROUTE,
@@ -38,10 +39,11 @@ pub use link::Link;
 pub use marking::{mark_first, mark_for_join, mark_next};
 pub use own_ranges::{abort_own, decide_own, leave_range, load_own_status, open_range};
 pub use passing::pass_on;
-pub use plays::{Finishing, Intent, Marking, Owning, Plan};
+pub use plays::{Finishing, Intent, Marking, Owning, Plan, Unlinks};
 pub use range_state::RangeState;
 pub use ranges::{decide_for, load_status};
 pub use rule::{TreePass, TreeRule, TreeSpace};
 pub use steps::{load_link, load_word, replace_link};
 pub use tallying::adapted;
+pub use unlinking::unlink_route;
 pub use view::Knowledge;

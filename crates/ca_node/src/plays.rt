@@ -2,11 +2,12 @@
 ghost use Rattle.std.specs.Prelude.{ℕ, List, [], ◌∷◌, true, false};
 ghost use Rattle.ca_node.specs.Copies.{Copy, no_copy, Copies, marking_now};
 ghost use Rattle.ca_node.specs.Endings.{Helps};
-ghost use Rattle.ca_node.specs.JoinSteps.{LoadsJoin, AbortsSome, BeginsSome};
+ghost use Rattle.ca_node.specs.JoinSteps.{LoadsJoin, AbortsSome, BeginsSome, SecuresSome, LeavesSome};
 ghost use Rattle.ca_node.specs.OwnRanges.{Opens, WatchesOwn, DecidesOwn, Aborts, Leaves};
 ghost use Rattle.ca_node.specs.Row.{mark_bound};
 ghost use Rattle.ca_node.specs.Told.{Leads, PassesOn, Reads, Watches, Update, Updates, no_update, Divides, no_division, front_of, learnt};
 ghost use Rattle.ca_node.specs.TreeView.{blank, no_note, no_border, none_begun, Note, Border, Begun, Division};
+ghost use Rattle.ca_node.specs.Unlinks.{Unlinking, no_unlinking, UnlinksRoute};
 ghost use Rattle.ca_rows.specs.Closed.{joined};
 ghost use Rattle.ca_rows.specs.Rule.{fresh, no_sizes};
 
@@ -141,6 +142,20 @@ impl Play<(), View<Knowledge>> for AbortJoin {
     ghost then = { AbortsSome };
 }
 
+/// The exchange that secures one.
+pub struct SecureJoin;
+
+impl Play<(), View<Knowledge>> for SecureJoin {
+    ghost then = { SecuresSome };
+}
+
+/// The exchange by which a pass leaves its own one.
+pub struct LeaveJoin;
+
+impl Play<(), View<Knowledge>> for LeaveJoin {
+    ghost then = { LeavesSome };
+}
+
 /// The exchange that begins one.
 pub struct BeginJoin;
 
@@ -254,4 +269,22 @@ pub struct Divide<K> {
 
 impl<K: Plan> Play<(), View<Knowledge>> for Divide<K> {
     ghost then = { λ st m n m'. Divides K.division st m n m' };
+}
+
+/// Which route a step unlinks, whose join is secured. It exists in proofs alone.
+pub trait Unlinks {
+    ghost unlinking: { Unlinking };
+}
+
+impl Unlinks for Brand {
+    ghost unlinking = { no_unlinking };
+}
+
+/// The exchange of a link that puts the joined base in the place of a route.
+pub struct Unlink<K> {
+    unlinking: PhantomData<K>,
+}
+
+impl<K: Unlinks> Play<(), View<Knowledge>> for Unlink<K> {
+    ghost then = { λ st m n m'. UnlinksRoute K.unlinking st m n m' };
 }

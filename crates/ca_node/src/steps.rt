@@ -6,11 +6,11 @@ ghost use prog.Atomic.{either};
 ghost use Rattle.atomic_table.specs.Table.{step, Allows};
 ghost use Rattle.ca_node.specs.Links.{IsLinked, IsLent, IsNoted};
 ghost use Rattle.ca_node.specs.May.{MaySwap};
-ghost use Rattle.ca_node.specs.Told.{AreHung, IsAnyLink, IsLed, IsShown, IsShownWord, link_word};
+ghost use Rattle.ca_node.specs.Told.{AreHung, IsAnyLink, IsLed, IsLedSecured, IsShown, IsShownWord, link_word};
 ghost use Rattle.ca_node.specs.Tree.{IsTree};
 ghost use Rattle.ca_rows.specs.Calls.{Relinks};
 ghost use Rattle.ca_rows.specs.Rule.{Ruled};
-ghost use Rattle.ca_rows.specs.Passes.{CountsSplit, OnlyReads, IsReading, KeepsList, sizes, known};
+ghost use Rattle.ca_rows.specs.Passes.{CountsJoin, CountsSplit, OnlyReads, IsReading, KeepsList, sizes, known};
 ghost use Rattle.ca_node.specs.TreePasses.{tree_of};
 
 use crate::layout::ROOT;
@@ -23,13 +23,14 @@ use ca_rows::{ROW_WORDS, View};
 
 /// One load of a link, the root link or one of a route that the pass was shown. It shows the base that the link names, with the objects that the
 /// base names, or the route. At that moment the base's objects were what the last state of the history has of the keys that are led there. Which
-/// base a walk came to last stays.
+/// base a walk came to last stays. Where the pass knows that an attempt is secured whose route's link it is, it shows a base that this attempt marked.
 pub fn load_link(space: &TreeSpace, pass: &mut TreePass, link: Link) -> u32
     requires reading { IsReading space.now pass.old }
     requires inside { link_word link < row_words * (sizes space.now).rows + row_words }
     requires known { IsAnyLink (tree_of pass.old) (link_word link) }
     ensures frame { KeepsList pass.old pass.new }
     ensures led { IsLed false (link_word link) (known pass.old) result (known pass.new) }
+    ensures secured { IsLedSecured (link_word link) (known pass.old) (known pass.new) }
 {
     space.load::<Lead>(pass, word_of(link)) as u32
 }
@@ -97,6 +98,26 @@ pub(crate) fn divide_link<M: Play<(), View<Knowledge>>>(
         × (result ≡ (n == old)) }
 {
     space.swap_split::<M>(pass, word_of(link), old as u64, new as u64)
+}
+
+/// The same exchange, which carries out a join where it wins: the pass's tally counts it then.
+pub(crate) fn join_link<M: Play<(), View<Knowledge>>>(
+    space: &TreeSpace,
+    pass: &mut TreePass,
+    link: Link,
+    old: u32,
+    new: u32,
+) -> bool
+    requires reading { IsReading space.now pass.old }
+    requires inside { link_word link < row_words * (sizes space.now).rows + row_words }
+    requires rule { Allows (Ruled IsLinked IsLent IsNoted IsTree (sizes space.now)) space.now.table.shared.table_id.slots pass.old.seat.id
+        (known pass.old) (link_word link) (λ n. either (n == old) new n) (Relinks MaySwap M.then (step space.now.table.shared.table_id.slots
+        (link_word link) old new none) (known pass.old)) }
+    ensures frame { CountsJoin result pass.old pass.new }
+    ensures told { (n : ℕ) × M.then (step space.now.table.shared.table_id.slots (link_word link) old new none) (known pass.old) n (known pass.new)
+        × (result ≡ (n == old)) }
+{
+    space.swap_join::<M>(pass, word_of(link), old as u64, new as u64)
 }
 
 // The word of a link.

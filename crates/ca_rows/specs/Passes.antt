@@ -6,7 +6,7 @@ use Rattle.ca_rows.specs.declared.space.Space.{Space}
 use Rattle.ca_rows.specs.declared.view.View.{View}
 use Rattle.ca_rows.specs.Calls.{IsNumbered, IsOf, IsSame, IsStill}
 use Rattle.ca_rows.specs.Kept.{AreKept}
-use Rattle.ca_rows.specs.Tallied.{HasTallied}
+use Rattle.ca_rows.specs.Tallied.{HasTallied, HasTalliedJoin}
 use Rattle.ca_rows.specs.Told.{Mine}
 
 module _ {R U : Type 0} where
@@ -56,6 +56,13 @@ module _ {R U : Type 0} where
     pub same : IsSame pass.seat new.seat
     pub number : new.number ≡ pass.number
     pub tally : HasTallied won pass.tally new.tally
+    pub kept : new.kept ≡ pass.kept
+
+  -- It is the same pass, and it keeps the same rows. One join more is in its tally where one was carried out.
+  pub record CountsJoin (won : Bool) (pass new : Pass R U) : Type 0 where
+    pub same : IsSame pass.seat new.seat
+    pub number : new.number ≡ pass.number
+    pub tally : HasTalliedJoin won pass.tally new.tally
     pub kept : new.kept ≡ pass.kept
 
   -- It is the same pass, keeps the same rows, and learnt nothing.

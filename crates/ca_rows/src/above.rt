@@ -6,7 +6,7 @@ ghost use Rattle.atomic_table.specs.Table.{step, Allows, Splits, Joins};
 ghost use Rattle.ca_rows.specs.Calls.{IsRaised, IsSwapped, Raises, Relinks};
 ghost use Rattle.ca_rows.specs.Closed.{joined};
 ghost use Rattle.ca_rows.specs.Rule.{Ruled};
-ghost use Rattle.ca_rows.specs.Passes.{CountsSplit, KeepsList, sizes, known, view};
+ghost use Rattle.ca_rows.specs.Passes.{CountsJoin, CountsSplit, KeepsList, sizes, known, view};
 
 use crate::plays::{Put, Raise, Relink};
 use crate::rule::RowRule;
@@ -92,6 +92,31 @@ impl<R: RowRule> Space<R> {
         let won = self.swap::<M>(pass, word, old, new);
         if won {
             pass.tally.splits = pass.tally.splits.saturating_add(1);
+        }
+        won
+    }
+
+    /// The same exchange, which carries out a join where it wins: the pass's tally counts it then, up to the last number that 64 bits hold.
+    pub fn swap_join<M: Play<(), View<R::Upper>>>(
+        &self,
+        pass: &mut Pass<R>,
+        word: u32,
+        old: u64,
+        new: u64,
+    ) -> bool
+        requires table { pass.old.seat.table_id ≡ self.now.table.shared.table_id }
+        requires word { word < self.now.table.shared.table_id.words }
+        requires rule { Allows (Ruled R.linked R.lent R.noted R.fact (sizes self.now)) self.now.table.shared.table_id.slots pass.old.seat.id
+            (known pass.old) word (λ n. either (n == old) new n) (Relinks R.swaps M.then (step self.now.table.shared.table_id.slots word old new
+            none) (known pass.old)) }
+        ensures frame { CountsJoin result pass.old pass.new }
+        ensures above { IsSwapped result (known pass.old) (known pass.new) }
+        ensures told { (n : ℕ) × M.then (step self.now.table.shared.table_id.slots word old new none) (known pass.old) n (known pass.new)
+            × (result ≡ (n == old)) }
+    {
+        let won = self.swap::<M>(pass, word, old, new);
+        if won {
+            pass.tally.joins = pass.tally.joins.saturating_add(1);
         }
         won
     }

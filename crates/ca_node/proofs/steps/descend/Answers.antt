@@ -11,4 +11,4 @@ load-requires-clause-rule c =
 pub returns-clause-led : goal.returns-clause-led
 returns-clause-led c = subst
     (λ (i : ℕ). IsLed true i c.args.pass.now.seat.me c.load.result c.load.new.pass.seat.me)
-    c.word_of.ensures c.load.ensures.told
+    c.word_of.ensures c.load.ensures.told.0

@@ -1,5 +1,5 @@
 use Rattle.std.proofs.Common.{ℕ, false, sym, subst}
-use Rattle.ca_node.specs.Told.{IsAnyLink, IsLed}
+use Rattle.ca_node.specs.Told.{IsAnyLink, IsLed, IsLedSecured}
 use Rattle.ca_node.proofs.LinkLoads.{leads}
 use Rattle.ca_node.proofs.steps.load_link.Goals as goal
 
@@ -11,4 +11,9 @@ load-requires-clause-rule c =
 pub returns-clause-led : goal.returns-clause-led
 returns-clause-led c = subst
     (λ (i : ℕ). IsLed false i c.args.pass.now.seat.me c.load.result c.load.new.pass.seat.me)
-    c.word_of.ensures c.load.ensures.told
+    c.word_of.ensures c.load.ensures.told.0
+
+pub returns-clause-secured : goal.returns-clause-secured
+returns-clause-secured c = subst
+    (λ (i : ℕ). IsLedSecured i c.args.pass.now.seat.me c.load.new.pass.seat.me)
+    c.word_of.ensures c.load.ensures.told.1

@@ -1,0 +1,21 @@
+use Rattle.std.proofs.Common.{Bool, sym, ◌∙◌, subst}
+use Rattle.ca_rows.specs.declared.sizes.Sizes.{Sizes}
+use Rattle.ca_node.specs.States.{IsAlone}
+use Rattle.ca_node.specs.JoinSteps.{attempt_of, HasLeftJoin}
+use Rattle.ca_node.proofs.JoinOwn.{leaves_join_at, has_left_join, lost_leaving}
+use Rattle.ca_node.proofs.joins.leave_join.Goals as goal
+
+pub swap-requires-clause-rule : goal.swap-requires-clause-rule
+swap-requires-clause-rule c = leaves_join_at c.args.space.now.table.shared.key _ _ _ c.join_word-word.result (attempt_of c.args.route c.args.attempt)
+    c.join_word-word.ensures.word c.requires.own.1 c.requires.leaving
+
+pub returns-clause-done : goal.returns-clause-done
+returns-clause-done c = let told = c.swap.ensures.told in
+    subst (λ (b : Bool). HasLeftJoin b (attempt_of c.args.route c.args.attempt) c.args.pass.now.seat.me c.swap.new.pass.seat.me) (sym told.2)
+    (has_left_join told.0 c.args.space.now.table.shared.table_id.slots c.join_word-word.result c.args.route c.args.attempt
+    c.args.pass.now.seat.me c.swap.new.pass.seat.me c.join_word-word.ensures.word told.1)
+
+pub returns-clause-several : goal.returns-clause-several
+returns-clause-several c lost = let told = c.swap.ensures.told in let m = c.args.pass.now.seat.me in
+    subst (λ (y : Sizes). ¬ IsAlone y m.0.upper) c.requires.own.1
+    (lost_leaving told.0 c.args.space.now.table.shared.table_id.slots c.join_word-word.result c.args.attempt m c.swap.new.pass.seat.me told.1 (sym told.2 ∙ lost))
