@@ -4,6 +4,8 @@ use Rattle.std.proofs.lemmas.List.{get_or-take, get_or-drop, get_or_append_left,
 use Rattle.ca_node.specs.Row.{count, row_in}
 use Rattle.ca_node.specs.Told.{MyTree}
 use Rattle.ca_node.specs.TreeView.{Note, TreeView}
+use Rattle.ca_base.specs.declared.copying.Run.{Run}
+use Rattle.ca_base.specs.Joined.{HasRun}
 use Rattle.ca_base.specs.Putting.{IsShownLast, first_note, last_items, last_words}
 use Rattle.ca_base.specs.Writing.{IsHeld, HasFilled, HasWritten, SpellsBase, HasEight, IsHeadWord, base_head}
 use Rattle.ca_base.proofs.Filling.{filled_as, filled_on, rewritten_again}
@@ -35,6 +37,14 @@ module _ (z : Sizes) (u : TreeView) (base : ℕ) (shown : IsShownLast z u base) 
   pub last_item : (k word : ℕ) → word ≡ get_or note.its (items_word + k) 0 → k < length (last_words u)
       → row_in word ≡ get_or (last_items u) k 0
   last_item k word is l = ap row_in (last_word k word is l) ∙ sym (get_or-map row_in (last_words u) k 0 0 l)
+
+-- A run of its items is one of a base that was shown, as long as the pass learnt nothing.
+pub run_then : (z : Sizes) (u v : TreeView) (run : Run) → IsShownLast z u run.base → run.from + run.count ≤ length (last_words u) → v ≡ u
+    → HasRun z v run (first_note u.notes)
+run_then z u v run shown inside same = subst (λ (w : TreeView). HasRun z w run (first_note u.notes)) (sym same) (
+  record { noted = shown.noted; here = shown.here; is_base = shown.is_base },
+  inside,
+)
 
 -- The words before a base's items, the last ones of which have the prefix.
 pub head_written : (row : ℕ) (front : List ℕ) (at_level many statistic : ℕ) (k m n : MyTree)

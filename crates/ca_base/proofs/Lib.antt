@@ -10,13 +10,16 @@ pub mod HalfFronts
 pub mod Halves
 pub mod Heads
 pub mod Held
+pub mod HeldStill
 pub mod Inserting
 pub mod Items
+pub mod JoinedFronts
 pub mod KeyWords
 pub mod LastItems
 pub mod LentRows
 pub mod NewFronts
 pub mod ObjectBytes
+pub mod Parts
 pub mod Readying
 pub mod Rebasing
 pub mod Removed
@@ -25,6 +28,7 @@ pub mod Replacing
 pub mod Rest
 pub mod RouteWords
 pub mod Searching
+pub mod SharedFronts
 pub mod ShownWords
 pub mod Spelling
 pub mod SplitKeys

@@ -119,7 +119,7 @@ module _ (its : List ℕ) (objects : List (List ℕ)) (old : IsHeaded its object
   within_old = t.shared.within
 
   -- The keys begin with what is left of it.
-  begins : (k : ℕ) (o : List ℕ) → get_elem? objects k ≡ some o
+  pub begins : (k : ℕ) (o : List ℕ) → get_elem? objects k ≡ some o
       → take (length front) (key o) ≡ front
   begins k o e = let l = within_old in let same = old_long in
       sym (take-take (length front) (prefix_length its) (key o) (omega arith))
@@ -129,7 +129,7 @@ module _ (its : List ℕ) (objects : List (List ℕ)) (old : IsHeaded its object
   new_begins = sym t.shared.alike ∙ sym t.new_is
 
   -- The heads are those behind that.
-  trimmed_heads : map head_in (map (reheaded lead bytes) (item_words its))
+  pub trimmed_heads : map head_in (map (reheaded lead bytes) (item_words its))
       ≡ map (head_of (length front)) objects
   trimmed_heads = let shift = λ (h : ℕ). lead + h / 256 ^ bytes in
       heads_shifted lead bytes (item_words its) ∙ (ap (map shift) old.headed

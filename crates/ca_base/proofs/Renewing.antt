@@ -101,6 +101,7 @@ module _ (z : Sizes) (kept : Vec Kept Global) (m : MyTree) (new : ℕ) (x : Upda
         has = up.map_is ∙ ap (λ (n : Note). after_edit x.edit (map pair n.objects)) (sym first_is);
         statistic_is = refl;
         same_splits = refl;
+        same_joins = refl;
         same_turns = refl;
         same_cuts = refl;
         same_lost = refl;

@@ -2,12 +2,14 @@ pub mod Copied
 pub mod Counting
 pub mod Finding
 pub mod Holding
+pub mod Joined
 pub mod Objects
 pub mod Prefixes
 pub mod Progress
 pub mod Putting
 pub mod Readiness
 pub mod Removing
+pub mod Spending
 pub mod Splitting
 pub mod Taking
 pub mod Targets

@@ -136,6 +136,7 @@ renewal_of met u key old new = record {
   new = new;
   lost = u.lost;
   splits = u.splits;
+  joins = u.joins;
   loads = u.loads;
   met = met;
 }
@@ -150,8 +151,9 @@ pub record IsRenewed (z : Sizes) (met : Met) (statistic : ℕ) (edit : Edit) (u 
   pub place : (first_note v.notes).place ≡ (first_note u.notes).place
   pub has : map pair (first_note v.notes).objects ≡ after_edit edit (map pair (first_note u.notes).objects)
   pub statistic_is : slice_index (first_note v.notes).its 1 ≡ statistic
-  -- No base was split, no exchange of a link was lost, and no link was loaded.
+  -- No base was split, none was joined, no exchange of a link was lost, and no link was loaded.
   pub same_splits : v.splits ≡ u.splits
+  pub same_joins : v.joins ≡ u.joins
   pub same_turns : v.turns ≡ u.turns
   pub same_cuts : v.cuts ≡ u.cuts
   pub same_lost : v.lost ≡ u.lost

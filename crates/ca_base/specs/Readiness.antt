@@ -1,7 +1,7 @@
 -- Passes in a call that edits: what an operation on a base begins with, and what stays of the pass.
 use Rattle.std.specs.Prelude.{◌≡◌, ◌<◌, [], true}
 use Rattle.ca_node.specs.Tallied.{IsTallied}
-use Rattle.ca_node.specs.TreeView.{Note, TreeView}
+use Rattle.ca_node.specs.TreeView.{Note, Ranging, TreeView}
 use Rattle.ca_base.specs.Putting.{first_note}
 use Rattle.ca_base.specs.Taking.{AreHeld}
 use Rattle.ca_rows.specs.declared.space.Pass.{Pass}
@@ -29,4 +29,13 @@ module _ {R : Type 0} where
     pub tally : IsTallied pass.tally pass.seat.me.0.upper → IsTallied new.tally new.seat.me.0.upper
     pub pin : (new.seat.me.0.sizes ≡ pass.seat.me.0.sizes) × (new.seat.me.0.pin ≡ pass.seat.me.0.pin)
     pub own_range : new.seat.me.0.upper.ranges.own ≡ pass.seat.me.0.upper.ranges.own
+    pub none : AreHeld space.table.shared.key.rows new.kept.rows new.seat.me.0 []
+
+  -- The same, but that its own operation is so far.
+  pub record StaysReadyBut (own : Ranging) (space : Space R TreeView) (pass new : Pass R TreeView) : Type 0 where
+    pub same : IsSame pass.seat new.seat
+    pub number : new.number ≡ pass.number
+    pub tally : IsTallied pass.tally pass.seat.me.0.upper → IsTallied new.tally new.seat.me.0.upper
+    pub pin : (new.seat.me.0.sizes ≡ pass.seat.me.0.sizes) × (new.seat.me.0.pin ≡ pass.seat.me.0.pin)
+    pub own_range : new.seat.me.0.upper.ranges.own ≡ own
     pub none : AreHeld space.table.shared.key.rows new.kept.rows new.seat.me.0 []

@@ -4,7 +4,7 @@ use Rattle.std.specs.Global.{Global}
 use mathlib.Core.Option.{some}
 use Rattle.ca_node.specs.Layout.{base_form}
 use Rattle.ca_node.specs.Links.{IsIn}
-use Rattle.ca_node.specs.TreeView.{Border, Ranging, Quiet, Unmarked, Marking, Left, TreeView}
+use Rattle.ca_node.specs.TreeView.{Border, Ranging, Quiet, Unmarked, Marking, Left, Joining, Secured, TreeView}
 use Rattle.ca_base.specs.declared.stop.Stop.{Stop}
 use Rattle.ca_rows.specs.declared.kept.Kept.{Kept}
 use Rattle.ca_rows.specs.declared.space.Pass.{Pass}
@@ -25,6 +25,8 @@ lent_of Quiet = []
 lent_of (Unmarked begun) = []
 lent_of (Marking begun border) = border.row ∷ []
 lent_of Left = []
+lent_of (Joining x) = []
+lent_of (Secured x) = []
 
 -- By these claims a seat holds these rows and lends those, and has no others but those that it keeps, which are those of the list.
 pub record HasHeld (rows : ℕ) (kept : Vec Kept Global) (claims : List Claimed) (lent held : List ℕ) : Type 0 where

@@ -1,8 +1,9 @@
 //! A new base gets the items of the base that was shown last, with one more or without one.
 ghost use Rattle.ca_node.specs.Layout.{items_word};
-ghost use Rattle.ca_node.specs.Row.{prefix as prefix_of};
+ghost use Rattle.ca_node.specs.Row.{prefix as prefix_of, item_words};
 ghost use Rattle.ca_node.specs.TreeView.{Note};
 ghost use Rattle.ca_base.specs.Finding.{IsBaseSeen};
+ghost use Rattle.ca_base.specs.Joined.{HasRun};
 ghost use Rattle.ca_rows.specs.Layout.{row_limit};
 ghost use Rattle.std.specs.Prelude.{◌≡◌, ℕ, List, [], ◌+◌, ◌-◌, ◌<◌, ◌≤◌, ◌++◌, length, take, drop, slice_index};
 ghost use Rattle.std.specs.List.{remove};
@@ -20,7 +21,7 @@ use crate::writing::{Front, set_word, word_of_item, write_head, write_items};
 use ca_node::{ITEMS, TreePass, TreeSpace, load_word};
 use ca_rows::ROW_LIMIT;
 
-/// Items of the base that was shown last, in this row: so many, from a place on.
+/// Items of a base that was shown, in this row: so many, from a place on.
 #[derive(Clone, Copy)]
 pub(crate) struct Run {
     pub(crate) base: u32,
@@ -247,16 +248,23 @@ fn write_around(
     copy_items(space, pass, row, next, last, shift);
 }
 
-// Copies items of the base that was shown last to a base row that the pass holds, with their heads shifted: so many, to the places from `to` on those from
-// `from` on.
-fn copy_items(space: &TreeSpace, pass: &mut TreePass, row: u32, to: u32, run: Run, shift: Shift)
+// Copies items of a base that the pass was shown to a base row that it holds, with their heads shifted: so many, to the places from `to` on those from `from`
+// on.
+pub(crate) fn copy_items(
+    space: &TreeSpace,
+    pass: &mut TreePass,
+    row: u32,
+    to: u32,
+    run: Run,
+    shift: Shift,
+)
     requires row { ReadsAndHolds space.now pass.old row }
-    requires shown { IsShownLast (sizes space.now) (tree_of pass.old) run.base }
-    requires places { (run.from + run.count ≤ length (last_words (tree_of pass.old))) × (run.from + run.count ≤ 120) × (to + run.count ≤ 120) }
+    requires shown { (note : Note) × HasRun (sizes space.now) (tree_of pass.old) run note }
+    requires places { (run.from + run.count ≤ 120) × (to + run.count ≤ 120) }
     requires shift { IsShift shift.lead shift.bytes }
     ensures frame { StillKeepsList pass.old pass.new }
-    ensures filled { HasFilled row (items_word + to) run.count (λ k word. word ≡ slice_index (shifted_words shift (last_words (tree_of pass.old))) (run.from + k))
-        (known pass.old) (known pass.new) }
+    ensures filled { (note : Note) → HasRun (sizes space.now) (tree_of pass.old) run note → HasFilled row (items_word + to) run.count
+        (λ k word. word ≡ slice_index (shifted_words shift (item_words note.its)) (run.from + k)) (known pass.old) (known pass.new) }
 {
     for place in 0..run.count {
         let word = load_word(space, pass, run.base, ITEMS + run.from + place);
