@@ -2,7 +2,6 @@
 use Rattle.std.proofs.Common.{◌≡◌, ℕ, ◌<◌, ◌≤◌, true, List, [], length, sym, refl, ap, ◌∙◌, subst, inr}
 use mathlib.Core.Option.{some}
 use Rattle.ca_node.specs.Copies.{Copy, copied, copy_note}
-use Rattle.ca_base.specs.Copied.{copy_of}
 use Rattle.ca_base.specs.Finding.{IsBaseShown}
 use Rattle.ca_node.specs.JoinCopies.{IsJoinCopy}
 use Rattle.ca_node.specs.JoinSteps.{attempt_of}
@@ -12,42 +11,42 @@ use Rattle.ca_node.specs.Place.{IsLinkOf}
 use Rattle.ca_node.specs.Row.{mark_owner, mark_number}
 use Rattle.ca_node.specs.Told.{MyTree, IsSettled, IsLastThere}
 use Rattle.ca_node.specs.TreeView.{Note, TreeView}
-use Rattle.ca_base.specs.Putting.{first_note, words_of}
-use Rattle.ca_base.proofs.Rebasing.{last_there}
+use Rattle.ca_base.specs.Putting.{words_of}
 use Rattle.ca_rows.specs.Claims.{claim_of}
 use Rattle.ca_rows.specs.declared.sizes.Sizes.{Sizes}
 use Rattle.ca_rows.specs.declared.view.Claim.TheVariants.{Holds}
 use Rattle.ca_rows.specs.declared.view.Pin.{Pin}
-use Rattle.ca_adapt.specs.Joins.{IsMarkedCopy, SpellsMarked}
+use Rattle.ca_adapt.specs.Joins.{IsMarkedCopy, SpellsMarked, copy_on, last_on}
+use Rattle.ca_adapt.proofs.LastOn.{last_there}
 use Rattle.ca_adapt.specs.declared.joining.Attempt.{Attempt}
 
-module _ (z : Sizes) (m0 m : MyTree) (row base : ℕ) (its : List ℕ) (attempt : Attempt) (upper : m.0.upper ≡ m0.0.upper)
-    (has : claim_of m.0.claims row ≡ some (Holds its)) (spells : SpellsMarked (first_note m0.0.upper.notes) attempt its)
-    (link : IsLinkOf attempt.route (first_note m0.0.upper.notes).place.link) where
+module _ (z : Sizes) (m0 m : MyTree) (row base word : ℕ) (its : List ℕ) (attempt : Attempt) (upper : m.0.upper ≡ m0.0.upper)
+    (has : claim_of m.0.claims row ≡ some (Holds its)) (spells : SpellsMarked (last_on word m0.0.upper.notes) attempt its)
+    (link : IsLinkOf attempt.route (last_on word m0.0.upper.notes).place.link) where
   abbrev note : Note
-  note = first_note m0.0.upper.notes
+  note = last_on word m0.0.upper.notes
 
   abbrev copy : Copy
-  copy = record { old = first_note m0.0.upper.notes; its = its; pass = mark_owner its; number = mark_number its }
+  copy = record { old = last_on word m0.0.upper.notes; its = its; pass = mark_owner its; number = mark_number its }
 
-  same : copy_of m row ≡ copy
+  same : copy_on word m row ≡ copy
   same = λ i. record {
-    old = first_note (upper i).notes;
+    old = last_on word (upper i).notes;
     its = words_of (has i);
     pass = mark_owner (words_of (has i));
     number = mark_number (words_of (has i));
   }
 
   -- The seat may put the copy in the base's place.
-  pub is_join_copy : (pin : m.0.pin ≡ m0.0.pin) → m0.0.pin.pinned ≡ true → 0 < m0.0.upper.number
-      → IsBaseShown z m0.0.upper base (first_note m0.0.upper.notes) → IsSettled m0.0.upper (first_note m0.0.upper.notes).its
-      → IsIn (attempt_of attempt.route attempt.number) m0.0.upper.ranges.joins.begun → IsJoinCopy z m row (copy_of m row)
-  is_join_copy pin pinned number shown settled begun = subst (IsJoinCopy z m row) (sym same) record {
+  pub is_join_copy : (pin : m.0.pin ≡ m0.0.pin) → (last_on word m0.0.upper.notes).place.link ≡ word → m0.0.pin.pinned ≡ true → 0 < m0.0.upper.number
+      → IsBaseShown z m0.0.upper base (last_on word m0.0.upper.notes) → IsSettled m0.0.upper (last_on word m0.0.upper.notes).its
+      → IsIn (attempt_of attempt.route attempt.number) m0.0.upper.ranges.joins.begun → IsJoinCopy z m row (copy_on word m row)
+  is_join_copy pin at pinned number shown settled begun = subst (IsJoinCopy z m row) (sym same) record {
     is_pinned = ap (λ (p : Pin). p.pinned) pin ∙ pinned;
     is_pass = subst (λ (u : TreeView). 0 < u.number) (sym upper) number;
-    shown = subst (λ (u : TreeView). IsLastThere (first_note m0.0.upper.notes) u.notes) (sym upper) (last_there m0.0.upper.notes shown.noted);
+    shown = subst (λ (u : TreeView). IsLastThere (last_on word m0.0.upper.notes) u.notes) (sym upper) (last_there word m0.0.upper.notes shown.noted at);
     old_base = shown.is_base.is_base;
-    settled = subst (λ (u : TreeView). IsSettled u (first_note m0.0.upper.notes).its) (sym upper) settled;
+    settled = subst (λ (u : TreeView). IsSettled u (last_on word m0.0.upper.notes).its) (sym upper) settled;
     held = has;
     is_base = spells.is_base;
     level_is = spells.level_is ∙ shown.is_base.level_is;
@@ -79,13 +78,14 @@ module _ (z : Sizes) (m0 m : MyTree) (row base : ℕ) (its : List ℕ) (attempt 
   }
 
   -- It took the base's place.
-  pub marked_copy : (v : TreeView) → IsBaseShown z m0.0.upper base (first_note m0.0.upper.notes) → 0 < row → row ≤ z.rows
-      → v ≡ copied [] m.0.upper.ranges row (copy_of m row) m.0.upper → IsMarkedCopy z (first_note m0.0.upper.notes) attempt row m0.0.upper v
+  pub marked_copy : (v : TreeView) → IsBaseShown z m0.0.upper base (last_on word m0.0.upper.notes) → 0 < row → row ≤ z.rows
+      → v ≡ copied [] m.0.upper.ranges row (copy_on word m row) m.0.upper → IsMarkedCopy z (last_on word m0.0.upper.notes) attempt row m0.0.upper v
   marked_copy v shown lo hi e = record {
     copy = copy;
     old_is = refl;
     is_base = is_note shown.is_base lo hi;
     marked = spells.marked;
     statistic_is = spells.statistic_is;
+    count_is = spells.count_is;
     now = e ∙ λ i. copied [] (upper i).ranges row (same i) (upper i);
   }

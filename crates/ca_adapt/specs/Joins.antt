@@ -1,23 +1,40 @@
 -- Attempts to join that are begun, and bases that are marked for them.
-use Rattle.std.specs.Prelude.{◌≡◌, ◌≢◌, ℕ, ◌/◌, ◌%◌, ◌<◌, ◌≤◌, List, [], length, slice_index, Result, Ok, Err}
-use Rattle.ca_base.specs.Putting.{stopped}
+use Rattle.std.specs.Prelude.{◌≡◌, ◌≢◌, ◌==◌, true, cond, ℕ, ◌+◌, ◌/◌, ◌%◌, ◌<◌, ◌≤◌, List, [], ◌∷◌, length, slice_index, Result, Ok, Err}
+use Rattle.ca_base.specs.Putting.{stopped, words_of}
 use Rattle.ca_base.specs.declared.stop.Stop.{Stop}
 use Rattle.ca_node.specs.Copies.{Copy, copied, copy_note}
-use Rattle.ca_node.specs.JoinSteps.{attempt_of, HasLoadedJoin, with_joins}
-use Rattle.ca_node.specs.Links.{IsIn}
+use Rattle.ca_node.specs.JoinSteps.{attempt_of, HasBegunJoin, HasLoadedJoin}
 use Rattle.ca_node.specs.Notes.{IsBaseNote}
-use Rattle.ca_node.specs.Row.{count, level, items, IsBaseRow, IsHeaded, IsMarkedFor}
-use Rattle.ca_node.specs.Told.{MyTree, with_upper}
-use Rattle.ca_node.specs.TreeView.{Note, KnownJoins, TreeView}
+use Rattle.ca_node.specs.Row.{count, level, items, mark_owner, mark_number, IsBaseRow, IsHeaded, IsMarkedFor}
+use Rattle.ca_node.specs.Told.{MyTree, link_word}
+use Rattle.ca_node.specs.declared.link.Link.{Link}
+use Rattle.ca_node.specs.TreeView.{Note, TreeView, no_note}
+use Rattle.ca_rows.specs.Claims.{claim_of}
 use Rattle.ca_rows.specs.Layout.{row_words}
 use Rattle.ca_rows.specs.declared.sizes.Sizes.{Sizes}
+use Rattle.ca_rows.specs.declared.space.Pass.{Pass}
 use Rattle.ca_adapt.specs.declared.adapted.Why.{Why}
 use Rattle.ca_adapt.specs.declared.adapted.Why.TheVariants as why
 use Rattle.ca_adapt.specs.declared.joining.Attempt.{Attempt}
 
--- The pass learnt of joins alone.
-abbrev pub LearnsOfJoins : MyTree → MyTree → Type 0
-LearnsOfJoins m m' = (joins : KnownJoins) × (m' ≡ with_upper m (with_joins m.0.upper joins))
+-- the base that was shown last on this link
+abbrev pub last_on : ℕ → List Note → Note
+last_on link [] = no_note
+last_on link (note ∷ notes) = cond (note.place.link == link) note (last_on link notes)
+
+-- the copy that a seat wrote to this row, of the base that it was shown last on this link
+abbrev pub copy_on : ℕ → MyTree → ℕ → Copy
+copy_on link m row = record {
+  old = last_on link m.0.upper.notes;
+  its = words_of (claim_of m.0.claims row);
+  pass = mark_owner (words_of (claim_of m.0.claims row));
+  number = mark_number (words_of (claim_of m.0.claims row));
+}
+
+module _ {R : Type 0} where
+  -- the base that the pass was shown last on this link
+  abbrev pub shown_on : Pass R TreeView → Link → Note
+  shown_on pass link = last_on (link_word link) pass.seat.me.0.upper.notes
 
 -- No attempt was begun, by the route's join word.
 abbrev pub IsWhyNotBegun : Why → ℕ → Type 0
@@ -31,9 +48,11 @@ IsWhyNotBegun why.Lost word = (word % 4 ≡ 0) × (word / 4 < 461168601842738790
 IsWhyNotBegun why.NoRow word = ⊥
 IsWhyNotBegun why.Worn word = (word % 4 ≡ 0) × (4611686018427387903 ≤ word / 4)
 
--- An attempt of this route was begun, as the pass knows; or none was, for this reason, and the pass knows what a load of the join word told.
+-- An attempt of this route was begun, the next one behind the last one, which is finished, as a load of the join word told; or none was, for this reason, and
+-- the pass knows what that load told.
 abbrev pub HasBegunAt : ℕ → Result Attempt Why → MyTree → MyTree → Type 0
-HasBegunAt route (Ok x) m m' = LearnsOfJoins m m' × (x.route ≡ route) × IsIn (attempt_of route x.number) m'.0.upper.ranges.joins.begun
+HasBegunAt route (Ok x) m m' = (x.route ≡ route) × (x.number < 4611686018427387904) × ((word : ℕ) × (then : MyTree) × HasLoadedJoin route m word then
+    × (word % 4 ≡ 0) × (x.number ≡ word / 4 + 1) × HasBegunJoin true (attempt_of x.route x.number) then m')
 HasBegunAt route (Err why) m m' = (word : ℕ) × HasLoadedJoin route m word m' × IsWhyNotBegun why word
 
 -- The words are those of a copy of the base with the mark of this attempt, and with its statistic.
@@ -54,6 +73,7 @@ pub record IsMarkedCopy (z : Sizes) (note : Note) (attempt : Attempt) (row : ℕ
   pub is_base : IsBaseNote z (copy_note row copy)
   pub marked : IsMarkedFor copy.its attempt.route attempt.number
   pub statistic_is : slice_index copy.its 1 ≡ slice_index note.its 1
+  pub count_is : count copy.its ≡ count note.its
   pub now : v ≡ copied [] u.ranges row copy u
 
 -- So it was, or it came to nothing.

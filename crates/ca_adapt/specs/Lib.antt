@@ -1,5 +1,9 @@
 pub mod Allowed
+pub mod Carrying
+pub mod Finishing
 pub mod Joins
+pub mod Pairs
 pub mod Splits
 pub mod Statistics
+pub mod Trying
 pub mod Tuned

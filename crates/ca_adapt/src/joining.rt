@@ -1,22 +1,26 @@
 //! An attempt to join the two bases under a route is begun, and they are marked for it.
-ghost use Rattle.std.specs.Prelude.{◌≡◌, ◌<◌, ◌≤◌, ℕ, [], ◌∷◌, slice_index};
-ghost use Rattle.ca_adapt.specs.Joins.{HasBegunAt, HasMarkedFor, SpellsMarked};
+ghost use Rattle.std.specs.Prelude.{◌≡◌, ◌≢◌, ◌<◌, ◌≤◌, ℕ, [], ◌∷◌, Err, slice_index};
+ghost use Rattle.ca_adapt.specs.Joins.{HasBegunAt, HasMarkedFor, SpellsMarked, shown_on};
+ghost use Rattle.ca_adapt.specs.Pairs.{IsThere};
 ghost use Rattle.ca_base.specs.Copied.{HasPut};
 ghost use Rattle.ca_base.specs.Counting.{HasFound, IsSpent};
 ghost use Rattle.ca_base.specs.Finding.{IsAtCursor, IsBaseShown};
 ghost use Rattle.ca_base.specs.Holding.{ReadsAndHolds};
-ghost use Rattle.ca_base.specs.Readiness.{IsReady, StaysReady, shown_last};
+ghost use Rattle.ca_base.specs.Readiness.{IsReady, StaysReady};
 ghost use Rattle.ca_base.specs.Taking.{AreHeld};
 ghost use Rattle.ca_base.specs.Writing.{HasWritten};
+ghost use Rattle.ca_base.specs.declared.stop.Exchange.TheVariants.{Link as IsLink};
+ghost use Rattle.ca_base.specs.declared.stop.Stop.TheVariants.{Lost as IsLost};
 ghost use Rattle.ca_node.specs.JoinCopies.{IsJoinCopy};
 ghost use Rattle.ca_node.specs.JoinSteps.{attempt_of};
 ghost use Rattle.ca_node.specs.Joining.{IsRemembered};
 ghost use Rattle.ca_node.specs.Links.{IsIn};
 ghost use Rattle.ca_node.specs.Place.{IsLinkOf};
+ghost use Rattle.ca_node.specs.States.{IsAlone};
 ghost use Rattle.ca_node.specs.Told.{IsSettled};
 ghost use Rattle.ca_node.specs.TreePasses.{tree_of};
-ghost use Rattle.ca_node.specs.TreeView.{Note};
-ghost use Rattle.ca_rows.specs.Passes.{IsOn, StillKeepsList, sizes, known, view};
+ghost use Rattle.ca_node.specs.TreeView.{Note, Quiet};
+ghost use Rattle.ca_rows.specs.Passes.{IsOn, KeepsList, StillKeepsList, sizes, known, view};
 
 use crate::adapted::Why;
 use crate::splitting::LAST_ATTEMPT;
@@ -38,14 +42,14 @@ pub struct Attempt {
     pub number: u64,
 }
 
-/// Begins the next attempt to join the two bases under a route that the pass was shown. So far that is a pass that isn't the only one of its space. It answers
-/// `Taken` where an attempt is under way, `Worn` where the last one had the last number that there is, and `Lost` where another pass came first.
+/// Begins the next attempt to join the two bases under a route that the pass was shown: it is the pass's own, to be secured or left. It answers `Taken` where
+/// an attempt is under way, `Worn` where the last one had the last number that there is, and `Lost` where another pass came first.
 pub fn begin_attempt(space: &TreeSpace, pass: &mut TreePass, route: u32) -> Result<Attempt, Why>
     requires ready { IsReady space.now pass.old }
     requires inside { route ≤ (sizes space.now).rows }
     requires remembered { IsRemembered (tree_of pass.old).ways route }
-    requires several { 1 < (sizes space.now).passes }
-    ensures frame { StaysReady space.now pass.old pass.new }
+    requires quiet { (tree_of pass.old).ranges.own ≡ Quiet }
+    ensures frame { KeepsList pass.old pass.new }
     ensures begun { HasBegunAt route result (known pass.old) (known pass.new) }
 {
     let JoinState::Idle(last) = load_join(space, pass, route) else {
@@ -62,9 +66,9 @@ pub fn begin_attempt(space: &TreeSpace, pass: &mut TreePass, route: u32) -> Resu
     }
 }
 
-/// Marks the base that was shown last for an attempt that was begun, of the route on whose link it hangs: a copy with the attempt's mark and the base's
-/// statistic takes its place, by one exchange of the link. Neither a range has the base nor a join, as the pass knows. It answers the copy's row. The turn is
-/// the caller's to count.
+/// Marks the base that was shown last on the cursor's link for an attempt that was begun, of the route on whose link it hangs: a copy with the attempt's mark
+/// and the base's statistic takes its place, by one exchange of the link. Neither a range has the base nor a join, as the pass knows. It answers the copy's row.
+/// The turn is the caller's to count.
 pub fn mark_for(
     space: &TreeSpace,
     pass: &mut TreePass,
@@ -74,13 +78,15 @@ pub fn mark_for(
 ) -> Result<u32, Stop>
     requires ready { IsReady space.now pass.old }
     requires leaf { (sizes space.now).leaf ≤ 120 }
-    requires shown { IsBaseShown (sizes space.now) (tree_of pass.old) cursor.base (shown_last pass.old) }
-    requires at { IsAtCursor (sizes space.now) (shown_last pass.old) cursor }
-    requires settled { IsSettled (tree_of pass.old) (shown_last pass.old).its }
-    requires link { IsLinkOf attempt.route (shown_last pass.old).place.link }
+    requires shown { IsBaseShown (sizes space.now) (tree_of pass.old) cursor.base (shown_on pass.old cursor.link) }
+    requires at { IsAtCursor (sizes space.now) (shown_on pass.old cursor.link) cursor }
+    requires settled { IsSettled (tree_of pass.old) (shown_on pass.old cursor.link).its }
+    requires link { IsLinkOf attempt.route (shown_on pass.old cursor.link).place.link }
     requires begun { IsIn (attempt_of attempt.route attempt.number) (tree_of pass.old).ranges.joins.begun }
     ensures frame { StaysReady space.now pass.old pass.new }
-    ensures marked { HasMarkedFor (sizes space.now) (shown_last pass.old) attempt result (tree_of pass.old) (tree_of pass.new) }
+    ensures marked { HasMarkedFor (sizes space.now) (shown_on pass.old cursor.link) attempt result (tree_of pass.old) (tree_of pass.new) }
+    ensures won { IsAlone (sizes space.now) (tree_of pass.old) → IsThere (tree_of pass.old).inventory (shown_on pass.old cursor.link)
+        → result ≢ Err (IsLost IsLink) }
     ensures counted { IsSpent spent.old spent.new (known pass.old) (known pass.new) }
     ensures found { HasFound result (known pass.old) (known pass.new) }
 {
@@ -121,6 +127,7 @@ fn put_marked<K: Marking>(
     requires held { AreHeld (sizes space.now).rows pass.old.kept.rows (view pass.old) (row ∷ []) }
     ensures frame { StaysReady space.now pass.old pass.new }
     ensures done { HasPut K.copy row result (tree_of pass.old) (tree_of pass.new) }
+    ensures won { IsAlone (sizes space.now) (tree_of pass.old) → IsThere (tree_of pass.old).inventory K.copy.old → result ≢ Err (IsLost IsLink) }
     ensures counted { IsSpent spent.old spent.new (known pass.old) (known pass.new) }
     ensures found { HasFound result (known pass.old) (known pass.new) }
 {

@@ -5,6 +5,7 @@ use Rattle.ca_node.specs.TreeView.{TreeView}
 use Rattle.ca_node.proofs.Tallies.{tallied_still}
 use Rattle.ca_base.proofs.Unlinking.{held_still, none_left}
 use Rattle.ca_base.proofs.CopiedRows.{copied_rows}
+use Rattle.ca_adapt.proofs.LoneTries.{never_missed}
 use Rattle.ca_adapt.proofs.joining.put_marked.Goals as goal
 
 pub returns-then-not-mark_for_join-clause-frame : goal.returns-then-not-mark_for_join-clause-frame
@@ -47,3 +48,7 @@ returns-clause-frame g c = record {
       c.args.pass.now.seat.me.0.upper.ranges c.args.row g.K.Marking.copy c.args.cursor.base c.requires.at.base refl c.if-not-mark_for_join.ensures.done
       c.mark_for_join.ensures.frame.kept c.requires.held));
 }
+
+pub returns-then-not-mark_for_join-clause-won : goal.returns-then-not-mark_for_join-clause-won
+returns-then-not-mark_for_join-clause-won g c alone there _ = never_missed c.args.space.now.table.shared.key c.args.pass.now.seat.me g.K.Marking.copy.old
+    c.requires.own.1 c.args.space.now.few.0 (c.if-not-mark_for_join.ensures.won refl) alone there
