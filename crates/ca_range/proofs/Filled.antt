@@ -20,12 +20,12 @@ use Rattle.ca_node.specs.Links.{IsIn}
 use Rattle.ca_node.specs.Notes.{IsBaseNote}
 use Rattle.ca_node.specs.Told.{MyTree, with_upper}
 use Rattle.ca_node.specs.TreeView.{Note, Way, Unfinished, TreeView}
-use Rattle.ca_node.specs.Walking.{IsHighRoute}
+use Rattle.ca_node.specs.Walking.{IsAbove, IsHighRoute}
 use Rattle.ca_rows.specs.declared.sizes.Sizes.{Sizes}
 use Rattle.ca_range.specs.Ahead.{IsAtLast, IsAtMarked, IsKnownOver}
 use Rattle.ca_range.specs.Filling.{RemembersAll}
 use Rattle.ca_range.specs.Marked.{IsMarkedNow}
-use Rattle.ca_range.specs.Staying.{IsCounted, OnlySteps}
+use Rattle.ca_range.specs.Staying.{HasJoined, IsCounted, OnlySteps}
 use Rattle.ca_range.specs.declared.copying.Mark.{Mark}
 use Rattle.ca_range.specs.declared.marks.MarkedBase.{MarkedBase}
 use Rattle.ca_range.proofs.Stepping.{counted_both}
@@ -39,6 +39,7 @@ at_same z u v cursor all at = record {
     is_base = subst (λ (ns : List Note). IsBaseNote z (first_note ns)) (sym all.notes) at.shown.is_base;
   };
   at = subst (λ (ns : List Note). IsAtCursor z (first_note ns) cursor) (sym all.notes) at.at;
+  above = subst (λ (ws : List Way). IsAbove z ws cursor.link cursor.above) (sym all.ways) at.above;
   high = subst (λ (p : List Way × List Note). IsHighRoute z p.0 cursor.high (first_note p.1).place.span.high) (λ i. (sym all.ways i, sym all.notes i)) at.high;
 }
 
@@ -58,6 +59,7 @@ at_copy z mark u v next row at k = subst (λ (x : TreeView). IsAtMarked z x mark
       level = ap (λ (n : Note). n.place.level) k.old_is ∙ at.at.level;
       inside = at.at.inside;
     };
+    above = at.above;
     high = subst (λ (n : Note). IsHighRoute z u.ways next.high n.place.span.high) (sym k.old_is) at.high;
   };
   marked = k.marked;
@@ -88,11 +90,19 @@ passed_on t (step.Ended helped) u v word p c = tt
 pub raised_met : (m m' : MyTree) (u : TreeView) → m' ≡ with_upper m u → HasMet 0 0 m m'
 raised_met m m' u is = let e = ap (λ (x : MyTree). x.0.empty) is in let w = ap (λ (x : MyTree). x.0.worn) is in (omega arith, omega arith)
 
+-- A join was carried out behind steps.
+joined_after : {z : Sizes} {n : ℕ} (u v w : TreeView) → OnlySteps z n u v → HasJoined v w → HasJoined u w
+joined_after u v w a j = let joins = a.joins in let helped = a.helped in let more = j.0 in let one = j.1 in (omega arith, omega arith)
+
 -- A step came after others that met nothing of the pool.
 ended_after : (z : Sizes) (range : Range) (h : Helped) (k m n : MyTree) → HasMet 0 0 k m → OnlySteps z 0 k.0.upper m.0.upper → losses k ≤ losses m
     → m.0.upper.turns.helped ≤ n.0.upper.turns.helped → IsEnded z range h m n → IsEnded z range h k n
-ended_after z range helped.Finished k m n met steps lost more e =
-    (e.0, counted_both range k.0.upper m.0.upper n.0.upper steps more e.1, met_both 0 0 0 0 k m n met e.2)
+ended_after z range helped.Finished k m n met steps lost more e = (
+  ⊎_elim (λ (o : IsKnownOver n.0.upper range × IsCounted range m.0.upper n.0.upper).
+      inl (o.0, counted_both range k.0.upper m.0.upper n.0.upper steps more o.1))
+      (λ (j : HasJoined m.0.upper n.0.upper). inr (joined_after k.0.upper m.0.upper n.0.upper steps j)) e.0,
+  met_both 0 0 0 0 k m n met e.1,
+)
 ended_after z range (helped.Lost exchange) k m n met steps lost more e = let some = e.0 in (omega arith, met_both 0 0 0 0 k m n met e.1)
 ended_after z range (helped.Busy spent) k m n met steps lost more e = e
 ended_after z range helped.NoRow k m n met steps lost more e = met_both 0 0 1 0 k m n met e
@@ -142,8 +152,12 @@ one_over first now u v w a more (inr (inr one)) over counted = record { last = n
 pub helped_after : (z : Sizes) (first now : Range) (budget : ℕ) (spent : Spent) (h : Helped) (k m n : MyTree) → HasMet 0 0 k m
     → OnlySteps z 0 k.0.upper m.0.upper → losses k ≤ losses m → m.0.upper.turns.helped ≤ n.0.upper.turns.helped
     → IsHelpedNow first now k.0.upper m.0.upper → IsEnded z now h m n → IsHelpedTo z first budget spent h k n
-helped_after z first now budget spent helped.Finished k m n met steps lost more goes e =
-    (one_over first now k.0.upper m.0.upper n.0.upper steps more goes e.0 e.1, met_both 0 0 0 0 k m n met e.2)
+helped_after z first now budget spent helped.Finished k m n met steps lost more goes e = (
+  ⊎_elim (λ (o : IsKnownOver n.0.upper now × IsCounted now m.0.upper n.0.upper).
+      inl (one_over first now k.0.upper m.0.upper n.0.upper steps more goes o.0 o.1))
+      (λ (j : HasJoined m.0.upper n.0.upper). inr (joined_after k.0.upper m.0.upper n.0.upper steps j)) e.0,
+  met_both 0 0 0 0 k m n met e.1,
+)
 helped_after z first now budget spent (helped.Lost exchange) k m n met steps lost more goes e = let some = e.0 in
     (omega arith, met_both 0 0 0 0 k m n met e.1)
 helped_after z first now budget spent (helped.Busy told) k m n met steps lost more goes e = absurd e

@@ -12,7 +12,7 @@ use Rattle.ca_node.specs.Row.{count, pair}
 use Rattle.ca_node.specs.States.{HasState}
 use Rattle.ca_node.specs.Told.{MyTree, IsKnown}
 use Rattle.ca_node.specs.TreeView.{Note, TreeView}
-use Rattle.ca_node.specs.Walking.{IsHighRoute, IsWalked, walked}
+use Rattle.ca_node.specs.Walking.{IsAbove, IsHighRoute, IsWalked, walked}
 use Rattle.ca_node.proofs.Parts.{part_map}
 use Rattle.ca_rows.specs.declared.sizes.Sizes.{Sizes}
 use Rattle.ca_runs.specs.Runs.{BeginsBefore}
@@ -52,6 +52,7 @@ gone_to z spot m m' cursor w most = let few = w.is_base.few in let u : TreeView 
       at = record {
         shown = record { noted = (0, refl); here = w.cursor_is.base; is_base = w.is_base };
         at = record { base = w.cursor_is.base; link = w.cursor_is.link; level = w.cursor_is.level; inside = w.inside };
+        above = subst (λ (x : TreeView). IsAbove z x.ways cursor.link cursor.above) here w.cursor_is.above;
         high = subst (λ (x : TreeView). IsHighRoute z x.ways cursor.high w.note.place.span.high) here w.cursor_is.high;
       };
       few = omega arith;

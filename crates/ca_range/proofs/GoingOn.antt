@@ -24,7 +24,7 @@ use Rattle.ca_rows.specs.declared.space.Space.{Space}
 use Rattle.ca_range.specs.Gathering.{HasEnded, IsFurther, IsMarking, refused_by}
 use Rattle.ca_range.specs.Snapping.{GoesOn, IsRefused, StaysPinned}
 use Rattle.ca_range.specs.Snapshots.{OnlyRanges}
-use Rattle.ca_range.specs.Spending.{IsSpentOn}
+use Rattle.ca_base.specs.Spending.{IsSpentOn}
 use Rattle.ca_range.specs.Staying.{OnlySteps}
 use Rattle.ca_range.specs.declared.gathering.Further.{Further}
 use Rattle.ca_range.specs.declared.gathering.Further.TheVariants as further
@@ -41,13 +41,14 @@ use Rattle.ca_range.proofs.Stepping.{steps_lost_by}
 module _ {R : Type 0} (space : Space R TreeView) where
   -- Steps that leave the own range.
   pub goes_steps : (a b : Spent) (p q : Pass R TreeView) → IsReady space p → KeepsList p q → q.seat.me ≡ with_upper p.seat.me q.seat.me.0.upper
+      → q.seat.me.0.upper.joins ≡ p.seat.me.0.upper.joins
       → OnlySteps space.table.shared.key 0 p.seat.me.0.upper q.seat.me.0.upper → IsSpentOn a b p.seat.me q.seat.me → GoesOn space a b p q
-  goes_steps a b p q ready keeps raised steps spent = record {
+  goes_steps a b p q ready keeps raised no_join steps spent = record {
     frame = record {
       same = keeps.same;
       number = keeps.number;
       tally = tallied_still p.tally q.tally p.seat.me.0.upper q.seat.me.0.upper keeps.tally (ap (λ (u : TreeView). u.splits) steps.only)
-          (ap (λ (u : TreeView). u.joins) steps.only);
+          no_join;
       pin = (ap (λ (x : MyTree). x.0.sizes) raised, ap (λ (x : MyTree). x.0.pin) raised);
       none = (ready_still space p q ready keeps raised steps).none;
     };

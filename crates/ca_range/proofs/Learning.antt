@@ -1,5 +1,5 @@
 -- What the word of a range tells a pass that found none of another pass unfinished.
-use Rattle.std.proofs.Common.{◌≡◌, ◌≢◌, ℕ, ◌+◌, ◌<◌, ◌≤◌, Bool, true, false, cond, eqb, List, Some, [], refl, ap, ◌∙◌, subst, sym, inl, inr, arith}
+use Rattle.std.proofs.Common.{◌≡◌, ◌≢◌, ◌⊎◌, ⊎_elim, ℕ, ◌+◌, ◌<◌, ◌≤◌, Bool, true, false, cond, eqb, List, Some, [], refl, ap, ◌∙◌, subst, sym, inl, inr, arith}
 use Rattle.ca_base.proofs.Counts.{met_both}
 use Rattle.ca_base.specs.Counting.{losses, HasMet}
 use Rattle.ca_base.specs.Putting.{first_note}
@@ -12,10 +12,10 @@ use Rattle.ca_rows.specs.Passes.{KeepsList, OnlyReads}
 use Rattle.ca_rows.specs.declared.sizes.Sizes.{Sizes}
 use Rattle.ca_rows.specs.declared.space.Pass.{Pass}
 use Rattle.ca_range.specs.Clearing.{HasGone, LearnsOfRanges, none_spent}
-use Rattle.ca_range.specs.Filling.{IsHelpedTo}
+use Rattle.ca_range.specs.Filling.{IsHelpedTo, IsOneOver}
 use Rattle.ca_range.specs.Meeting.{active_of}
-use Rattle.ca_range.specs.Spending.{IsSpentOn}
-use Rattle.ca_range.specs.Staying.{OnlySteps}
+use Rattle.ca_base.specs.Spending.{IsSpentOn}
+use Rattle.ca_range.specs.Staying.{HasJoined, OnlySteps}
 use Rattle.ca_range.specs.declared.account.Range.{Range}
 use Rattle.ca_range.specs.declared.helped.Helped.{Helped}
 use Rattle.ca_range.specs.declared.helped.Helped.TheVariants as helped
@@ -73,6 +73,9 @@ module _ {R : Type 0} (z : Sizes) (pass mid new : Pass R TreeView) (owner word :
   pub steps_then : OnlySteps z 0 pass.seat.me.0.upper new.seat.me.0.upper
   steps_then = subst (λ (x : MyTree). OnlySteps z 0 x.0.upper new.seat.me.0.upper) reads.still (steps_by_word owner word mid.seat.me new.seat.me h)
 
+  pub no_join_then : new.seat.me.0.upper.joins ≡ pass.seat.me.0.upper.joins
+  no_join_then = ap (λ (x : MyTree). x.0.upper.joins) h.now ∙ ap (λ (x : MyTree). x.0.upper.joins) reads.still
+
   pub notes_then : first_note new.seat.me.0.upper.notes ≡ first_note pass.seat.me.0.upper.notes
   notes_then = ap (λ (x : MyTree). first_note x.0.upper.notes) h.now ∙ ap (λ (x : MyTree). first_note x.0.upper.notes) reads.still
 
@@ -87,8 +90,11 @@ module _ {R : Type 0} (z : Sizes) (pass mid new : Pass R TreeView) (owner word :
 module _ (z : Sizes) (range : Range) (budget : ℕ) (spent : Spent) (m m' n : MyTree) (some : 1 ≤ budget) (first : HasMet 0 0 m m')
     (met : IsIn {A = Unfinished} (record { pass = range.owner; number = range.number }) m'.0.upper.ranges.unfinished)
     (lost : losses m ≤ losses m') (helps : m.0.upper.turns.helped ≤ m'.0.upper.turns.helped) (all : IsSpentOn none_spent spent m n) where
+  one_helped : IsOneOver range m'.0.upper n.0.upper ⊎ HasJoined m'.0.upper n.0.upper → m'.0.upper.turns.helped < n.0.upper.turns.helped
+  one_helped h = ⊎_elim (λ (o : IsOneOver range m'.0.upper n.0.upper). o.counted met) (λ (j : HasJoined m'.0.upper n.0.upper). j.1) h
+
   pub has_gone : (helped : Helped) → IsHelpedTo z range budget spent helped m' n → HasGone helped m n
-  has_gone helped.Finished h = let more = h.0.counted met in let up = all.lost.more in let on = all.passed.more in
+  has_gone helped.Finished h = let more = one_helped h.0 in let up = all.lost.more in let on = all.passed.more in
       (met_both 0 0 0 0 m m' n first h.1, omega arith)
   has_gone (helped.Lost exchange) h = let more = h.0 in let up = all.helped.more in let on = all.passed.more in
       (met_both 0 0 0 0 m m' n first h.1, omega arith)

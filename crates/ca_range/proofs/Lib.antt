@@ -12,6 +12,7 @@ pub mod FirstRuns
 pub mod Gaps
 pub mod GoingOn
 pub mod JoinsEnded
+pub mod JoinsFinished
 pub mod Learning
 pub mod NextGathered
 pub mod NextNumbers
@@ -29,5 +30,6 @@ pub mod SnapshotSteps
 pub mod Spends
 pub mod Stepping
 pub mod Unjoined
+pub mod Used
 pub mod Watched
 pub mod WordsWatched

@@ -15,7 +15,7 @@ use Rattle.ca_range.specs.Looking.{IsFirst}
 use Rattle.ca_range.specs.Opening.{with_sequence}
 use Rattle.ca_range.specs.Snapping.{GoesOn}
 use Rattle.ca_range.specs.Snapshots.{OnlyRanges}
-use Rattle.ca_range.specs.Spending.{IsSpentOn}
+use Rattle.ca_base.specs.Spending.{IsSpentOn}
 use Rattle.ca_range.proofs.FirstBases.{first_still}
 use Rattle.ca_range.proofs.SnapshotSteps.{ranges_both}
 use Rattle.ca_range.proofs.Spends.{on_both, on_lost, on_still}
@@ -57,6 +57,8 @@ module _ {R : Type 0} (space : Space R TreeView) (p0 p1 p2 : Pass R TreeView) (l
           only = refl;
           seen = none_more p0.seat.me.0.upper;
           known = known_same space.table.shared.key p0.seat.me.0.upper _ refl refl refl;
+          joins = omega arith;
+          joined = omega arith;
         }) goes.steps;
     counted = on_both a b c p0.seat.me p2.seat.me p3.seat.me (taken_spent a b spent) goes.counted;
   }

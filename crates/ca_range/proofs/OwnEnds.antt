@@ -9,7 +9,7 @@ use Rattle.ca_node.specs.Links.{IsIn}
 use Rattle.ca_node.specs.Endings.{over_up_to, without}
 use Rattle.ca_node.specs.OwnRanges.{HasAborted, IsOwnDecided, aborted, given_up, own_over}
 use Rattle.ca_node.specs.Told.{MyTree, IsKnown}
-use Rattle.ca_node.specs.TreeView.{Begun, Border, Inventory, Left, Marking, Note, Over, Quiet, Ranging, TreeView, Unmarked, no_border, none_begun}
+use Rattle.ca_node.specs.TreeView.{Begun, Border, Inventory, Joining, Left, Marking, Note, Over, Quiet, Ranging, Secured, TreeView, Unmarked, no_border, none_begun}
 use Rattle.ca_rows.specs.Claims.{held_count}
 use Rattle.ca_rows.specs.declared.kept.KeptRows.{KeptRows}
 use Rattle.ca_rows.specs.declared.sizes.Sizes.{Sizes}
@@ -25,12 +25,16 @@ begun_of Quiet = none_begun
 begun_of (Unmarked begun) = begun
 begun_of (Marking begun border) = begun
 begun_of Left = none_begun
+begun_of (Joining x) = none_begun
+begun_of (Secured x) = none_begun
 
 abbrev pub border_of : Ranging → Border
 border_of Quiet = no_border
 border_of (Unmarked begun) = no_border
 border_of (Marking begun border) = border
 border_of Left = no_border
+border_of (Joining x) = no_border
+border_of (Secured x) = no_border
 
 pub is_under_way : (own : Ranging) (begun : Begun) (border : Border) → own ≡ Marking begun border → own ≡ Marking (begun_of own) (border_of own)
 is_under_way own begun border e = e ∙ (λ i. Marking (begun_of (sym e i)) (border_of (sym e i)))
@@ -66,7 +70,7 @@ module _ (z : Sizes) (m : MyTree) (seen : History) (over : List Over) (run : Lis
   pub ended_own : ((more : History) × (seen ≡ m.0.upper.seen ++ more)) → (IsKnown z m.0.upper → IsKnown z ended)
       → most ≤ max m.0.most (held_count m.0.claims) → HasEndedOwn z m (record m.0 { upper = ended; most = most }, m.1)
   ended_own more known few = record {
-    only = record { only = refl; seen = more; known = known };
+    only = record { only = refl; seen = more; known = known; joins = omega arith; joined = omega arith };
     claims = refl;
     most = λ ever now. omega arith;
     sizes = refl;
@@ -127,4 +131,6 @@ steps_over {z} u number = record {
   known = known_same z u (own_over number u) refl refl refl;
   helped = omega arith;
   unfinished = λ x i. inl i;
+  joins = omega arith;
+  joined = omega arith;
 }

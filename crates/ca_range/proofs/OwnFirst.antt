@@ -35,7 +35,7 @@ use Rattle.ca_range.specs.Marked.{copy_of}
 use Rattle.ca_range.specs.Opening.{HasPutFirst, HasWrittenFirst, IsFirstReady, begun_at}
 use Rattle.ca_range.specs.Snapping.{GoesOn, StaysPinned}
 use Rattle.ca_range.specs.Snapshots.{OnlyRanges}
-use Rattle.ca_range.specs.Spending.{IsSpentOn}
+use Rattle.ca_base.specs.Spending.{IsSpentOn}
 use Rattle.ca_range.specs.declared.copying.Mark.{Mark}
 use Rattle.ca_range.specs.declared.opening.Rows.{Rows}
 use Rattle.ca_range.specs.declared.sought.Sought.{Sought}
@@ -141,6 +141,7 @@ module _ (z : Sizes) (m1 m2 m3 : MyTree) (rows : Rows) (first : Cursor) (number 
                   (subst (λ (n : ℕ). 0 < n) (sym owner) some_number) (subst (λ (n : ℕ). n ≤ 64) (sym owner) few);
             };
             at = record { base = refl; link = f.gone.at.at.link; level = f.gone.at.at.level; inside = f.gone.at.at.inside };
+            above = f.gone.at.above;
             high = f.gone.at.high;
           };
           few = subst (λ (n : ℕ). n ≤ 120) (sym w.copy_spells.count_is) f.gone.few;
@@ -163,11 +164,15 @@ put_steps z true rows m m' d = subst (OnlyRanges z m.0.upper) (sym d.2) record {
   only = refl;
   seen = none_more m.0.upper;
   known = known_same z m.0.upper _ refl refl refl;
+  joins = omega arith;
+  joined = omega arith;
 }
 put_steps z false rows m m' d = subst (OnlyRanges z m.0.upper) (sym d) record {
   only = refl;
   seen = none_more m.0.upper;
   known = known_same z m.0.upper _ refl refl refl;
+  joins = omega arith;
+  joined = omega arith;
 }
 
 module _ {R : Type 0} (space : Space R TreeView) (p0 p1 p2 p3 p4 : Pass R TreeView) (won : Bool) (rows : Rows) (begun : Begun) (reads : OnlyReads p0 p1)
@@ -207,6 +212,8 @@ module _ {R : Type 0} (space : Space R TreeView) (p0 p1 p2 p3 p4 : Pass R TreeVi
           only = refl;
           seen = none_more p0.seat.me.0.upper;
           known = known_same space.table.shared.key p0.seat.me.0.upper _ refl refl refl;
+          joins = omega arith;
+          joined = omega arith;
         }) (put_steps space.table.shared.key won rows p3.seat.me p4.seat.me done);
     counted = on_both a a b p0.seat.me p3.seat.me p4.seat.me (on_still a p0.seat.me p3.seat.me lost_now turns_now) spent;
   }

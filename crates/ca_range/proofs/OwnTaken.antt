@@ -100,6 +100,8 @@ module _ {R : Type 0} (space : Space R TreeView) (p q : Pass R TreeView) (n : �
     only = refl;
     seen = none_more p.seat.me.0.upper;
     known = known_same space.table.shared.key p.seat.me.0.upper _ refl refl refl;
+    joins = omega arith;
+    joined = omega arith;
   }) (ap losses is) (ap (λ (x : MyTree). x.0.upper.turns) is)
 
   pub numbered_marking : (z : Sizes) (own : Own) → IsMarking z p.seat.me.0.upper own → IsMarking z q.seat.me.0.upper own

@@ -1,5 +1,5 @@
 -- Steps of a snapshot, one after another, and what they come to.
-use Rattle.std.proofs.Common.{◌≡◌, ℕ, ◌≤◌, ◌++◌, sym, ap, ◌∙◌, subst, arith, append_assoc}
+use Rattle.std.proofs.Common.{◌≡◌, ℕ, ◌≤◌, ◌++◌, sym, ap, ◌∙◌, subst, ◌⊎◌, ⊎_elim, ◌<◌, arith, append_assoc}
 use denote.Ref.{Bor}
 use denote.Param.Members.{Shared}
 use Rattle.std.specs.Prelude.{Bool, List}
@@ -9,16 +9,23 @@ use Rattle.ca_model.specs.declared.outcome.Spent.{Spent}
 use Rattle.ca_base.specs.Counting.{HasMet, losses}
 use Rattle.ca_base.proofs.Counts.{met_both}
 use Rattle.ca_node.specs.Told.{MyTree, with_upper}
-use Rattle.ca_node.specs.TreeView.{KnownRanges, TreeView}
+use Rattle.ca_node.specs.Links.{IsIn}
+use Rattle.ca_node.specs.TreeView.{KnownRanges, TreeView, Unfinished}
 use Rattle.ca_rows.specs.declared.sizes.Sizes.{Sizes}
-use Rattle.ca_range.specs.Clearing.{turns_at}
-use Rattle.ca_range.specs.Snapping.{IsRefused}
+use Rattle.ca_range.specs.Attempts.{CountsJoin}
+use Rattle.ca_range.specs.Clearing.{HasGone, turns_at}
+use Rattle.ca_range.specs.Gathering.{HasEnded}
+use Rattle.ca_range.specs.Snapping.{IsRefused, snapped_so}
 use Rattle.ca_range.specs.Snapshots.{HasSnapped, OnlyRanges}
-use Rattle.ca_range.specs.Spending.{IsSpentOn}
-use Rattle.ca_range.specs.Staying.{OnlySteps, with_steps_of}
+use Rattle.ca_base.specs.Spending.{IsSpentOn}
+use Rattle.ca_range.specs.Filling.{IsHelpedTo, IsOneOver}
+use Rattle.ca_range.specs.Staying.{HasJoined, OnlySteps, with_steps_of}
+use Rattle.ca_range.specs.declared.account.Range.{Range}
 use Rattle.ca_range.proofs.Filled.{raised_met}
 use Rattle.ca_range.proofs.Spends.{on_both, on_still}
 use Rattle.ca_range.proofs.Stepping.{steps_both, steps_none}
+use Rattle.ca_range.specs.declared.helped.Helped.{Helped}
+use Rattle.ca_range.specs.declared.helped.Helped.TheVariants as helped
 use Rattle.ca_range.specs.declared.sought.Snapped.{Snapped}
 use Rattle.ca_range.specs.declared.sought.Snapped.TheVariants as snapped
 use Rattle.ca_range.specs.declared.sought.Sought.{Sought}
@@ -33,6 +40,8 @@ ranges_by_steps u v s = record {
   only = s.only ∙ ap (λ (r : KnownRanges). record (with_steps_of u v) { ranges = r }) (sym (ap (λ (x : TreeView). x.ranges) s.only));
   seen = s.seen;
   known = s.known;
+  joins = s.joins;
+  joined = s.joined;
 }
 
 pub ranges_none : {z : Sizes} (u : TreeView) → OnlyRanges z u u
@@ -43,6 +52,8 @@ ranges_both u v w a b = record {
   only = b.only ∙ ap (λ (x : TreeView). stepped x w) a.only;
   seen = (a.seen.0 ++ b.seen.0, b.seen.1 ∙ (ap (λ (h : History). h ++ b.seen.0) a.seen.1 ∙ append_assoc u.seen a.seen.0 b.seen.0));
   known = λ k. b.known (a.known k);
+  joins = let less = a.joins in let less' = b.joins in omega arith;
+  joined = let less = a.joined in let less' = b.joined in omega arith;
 }
 
 -- No fewer turns were spent.
@@ -60,6 +71,18 @@ refused_after budget spent (snapped.Worn counter.PoolTag) k m n met less r = met
 refused_after budget spent (snapped.Worn counter.Epoch) k m n met less r = r
 refused_after budget spent (snapped.Worn counter.Sequence) k m n met less r = r
 
+-- So it came to nothing where a range was in the way that was found unfinished, and was helped.
+module _ (z : Sizes) (range : Range) (budget : ℕ) (a spent : Spent) where
+  pub refused_by_help : (h : Helped) (m n : MyTree)
+      → IsIn {A = Unfinished} (record { pass = range.owner; number = range.number }) m.0.upper.ranges.unfinished → IsSpentOn a spent m n
+      → IsHelpedTo z range budget spent h m n → IsRefused budget spent (snapped_so h) m n
+  refused_by_help helped.Finished m n met all h = let lost = all.lost.more in let passed = all.passed.more in
+      let one = ⊎_elim (λ (o : IsOneOver range m.0.upper n.0.upper). o.counted met) (λ (j : HasJoined m.0.upper n.0.upper). j.1) h.0 in (h.1, omega arith)
+  refused_by_help (helped.Lost x) m n met all h = let helps = all.helped.more in let passed = all.passed.more in let one = h.0 in (h.1, omega arith)
+  refused_by_help (helped.Busy told) m n met all h = (h.2, h.1)
+  refused_by_help helped.NoRow m n met all h = h
+  refused_by_help (helped.Worn which) m n met all h = h
+
 module _ {F : Type 0} (g : Shared F (Bor (List ℕ) × Unit {0}) Bool) (sought : Sought F) where
   pub snapped_after : (z : Sizes) (budget : ℕ) (spent : Spent) (s : Snapped) (k m n : MyTree) → HasMet 0 0 k m → turns_at k ≤ turns_at m
       → HasSnapped g sought z budget spent s m n → HasSnapped g sought z budget spent s k n
@@ -70,6 +93,24 @@ module _ {F : Type 0} (g : Shared F (Bor (List ℕ) × Unit {0}) Bool) (sought :
   snapped_after z budget spent (snapped.Worn counter.PoolTag) k m n met less r = met_both 0 0 0 1 k m n met r
   snapped_after z budget spent (snapped.Worn counter.Epoch) k m n met less r = r
   snapped_after z budget spent (snapped.Worn counter.Sequence) k m n met less r = (met_both 0 0 0 0 k m n met r.0, r.1)
+
+  -- So it came to nothing where an attempt to join was in the way.
+  pub gone_snaps : (z : Sizes) (budget : ℕ) (spent : Spent) (h : Helped) (m n : MyTree) → HasGone h m n → CountsJoin h m n
+      → HasSnapped g sought z budget spent (snapped_so h) m n
+  gone_snaps z budget spent helped.Finished m n gone c = gone
+  gone_snaps z budget spent (helped.Lost x) m n gone c = gone
+  gone_snaps z budget spent (helped.Busy told) m n gone c = absurd c
+  gone_snaps z budget spent helped.NoRow m n gone c = gone
+  gone_snaps z budget spent (helped.Worn which) m n gone c = gone
+
+  -- The own range was over then.
+  pub gone_ends : (z : Sizes) (budget : ℕ) (spent : Spent) (h : Helped) (m k n : MyTree) → HasGone h m k → CountsJoin h m k → HasMet 0 0 k n
+      → HasEnded g sought z budget spent (snapped_so h) m n
+  gone_ends z budget spent helped.Finished m k n gone c met = met_both 0 0 0 0 m k n gone.0 met
+  gone_ends z budget spent (helped.Lost x) m k n gone c met = met_both 0 0 0 0 m k n gone.0 met
+  gone_ends z budget spent (helped.Busy told) m k n gone c met = absurd c
+  gone_ends z budget spent helped.NoRow m k n gone c met = met_both 1 0 0 0 m k n gone met
+  gone_ends z budget spent (helped.Worn which) m k n gone c met = met_both 0 1 0 0 m k n gone met
 
   -- A refusal is one of a snapshot.
   pub refused_so : (z : Sizes) (budget : ℕ) (spent : Spent) (s : Snapped) (m n : MyTree) → IsRefused budget spent s m n
@@ -89,8 +130,8 @@ module _ (z : Sizes) (m k l n : MyTree) (raised : k ≡ with_upper m k.0.upper) 
   walked_still a = let lost = ap (λ (x : MyTree). x.0.lost) raised in let link = steps.lost_is in
       on_still a m k (let same : losses k ≡ losses m = omega arith in same) turns
 
-  pub steps_on : OnlySteps z 0 l.0.upper n.0.upper → OnlySteps z 0 m.0.upper n.0.upper
-  steps_on more = steps_both m.0.upper k.0.upper n.0.upper steps (subst (λ (x : MyTree). OnlySteps z 0 x.0.upper n.0.upper) still more)
+  pub steps_on : {lost : ℕ} → OnlySteps z lost l.0.upper n.0.upper → OnlySteps z lost m.0.upper n.0.upper
+  steps_on {lost} more = steps_both m.0.upper k.0.upper n.0.upper steps (subst (λ (x : MyTree). OnlySteps z lost x.0.upper n.0.upper) still more)
 
   pub spent_on : (a b : Spent) → IsSpentOn a b l n → IsSpentOn a b m n
   spent_on a b more = on_both a a b m k n (walked_still a) (subst (λ (x : MyTree). IsSpentOn a b x n) still more)

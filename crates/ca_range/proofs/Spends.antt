@@ -6,11 +6,12 @@ use Rattle.ca_node.specs.Told.{MyTree}
 use Rattle.ca_node.specs.Links.{IsIn}
 use Rattle.ca_node.specs.TreeView.{Turns, Unfinished}
 use Rattle.ca_rows.specs.declared.sizes.Sizes.{Sizes}
-use Rattle.ca_range.specs.Filling.{IsHelpedTo, IsTurned, turns_of}
+use Rattle.ca_range.specs.Filling.{IsHelpedTo, IsOneOver, IsTurned, turns_of}
+use Rattle.ca_range.specs.Staying.{HasJoined}
 use Rattle.ca_range.specs.declared.account.Range.{Range}
 use Rattle.ca_range.specs.declared.helped.Helped.{Helped}
 use Rattle.ca_range.specs.declared.helped.Helped.TheVariants as helped
-use Rattle.ca_range.specs.Spending.{RisesBy, IsSpentOn}
+use Rattle.ca_base.specs.Spending.{RisesBy, IsSpentOn}
 
 rises_both : (a b c x y z : ℕ) → RisesBy a b x y → RisesBy b c y z → RisesBy a c x z
 rises_both a b c x y z one two = let m = one.more in let n = two.more in record {
@@ -57,7 +58,8 @@ turns_more budget a b k m most s more room = let lost = s.lost.now_is (omega ari
 pub help_turned : (z : Sizes) (range : Range) (budget : ℕ) (a b : Spent) (h : Helped) (k m : MyTree) → budget ≤ 4294967295 → IsSpentOn a b k m
     → IsHelpedTo z range budget b h k m
     → IsIn {A = Unfinished} (record { pass = range.owner; number = range.number }) k.0.upper.ranges.unfinished → IsTurned budget a b h
-help_turned z range budget a b helped.Finished k m most s h i = turns_more budget a b k m most s (inr (h.0.counted i))
+help_turned z range budget a b helped.Finished k m most s h i = turns_more budget a b k m most s
+    (⊎_elim (λ (o : IsOneOver range k.0.upper m.0.upper). inr (o.counted i)) (λ (j : HasJoined k.0.upper m.0.upper). inr j.1) h.0)
 help_turned z range budget a b (helped.Lost exchange) k m most s h i = turns_more budget a b k m most s (inl h.0)
 help_turned z range budget a b (helped.Busy told) k m most s h i = λ room. let all = h.1 in omega arith
 help_turned z range budget a b helped.NoRow k m most s h i = tt

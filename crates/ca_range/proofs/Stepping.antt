@@ -124,21 +124,26 @@ steps_none u = record {
   known = λ k. k;
   helped = omega arith;
   unfinished = λ x i. inl i;
+  joins = omega arith;
+  joined = omega arith;
 }
 
 pub steps_both : {z : Sizes} {n : ℕ} (u v w : TreeView) → OnlySteps z 0 u v → OnlySteps z n v w → OnlySteps z n u w
-steps_both u v w a b = let less = a.helped in let less' = b.helped in let lost = a.lost_is in let lost' = b.lost_is in record {
-  only = b.only ∙ ap (λ (x : TreeView). with_steps_of x w) a.only;
-  seen = (a.seen.0 ++ b.seen.0, b.seen.1 ∙ (ap (λ (h : History). h ++ b.seen.0) a.seen.1 ∙ append_assoc u.seen a.seen.0 b.seen.0));
-  over = λ x i. b.over x (a.over x i);
-  lost_is = omega arith;
-  known = λ k. b.known (a.known k);
-  helped = omega arith;
-  unfinished = λ x i. ⊎_elim
-      (λ (j : IsIn x v.ranges.unfinished). ⊎_elim (λ (k : IsIn x w.ranges.unfinished). inl k)
-      (λ (l : v.turns.helped < w.turns.helped). inr (omega arith)) (b.unfinished x j))
-      (λ (l : u.turns.helped < v.turns.helped). inr (omega arith)) (a.unfinished x i);
-}
+steps_both u v w a b = let less = a.helped in let less' = b.helped in let lost = a.lost_is in let lost' = b.lost_is in
+    let joins = a.joins in let joins' = b.joins in let joined = a.joined in let joined' = b.joined in record {
+      only = b.only ∙ ap (λ (x : TreeView). with_steps_of x w) a.only;
+      seen = (a.seen.0 ++ b.seen.0, b.seen.1 ∙ (ap (λ (h : History). h ++ b.seen.0) a.seen.1 ∙ append_assoc u.seen a.seen.0 b.seen.0));
+      over = λ x i. b.over x (a.over x i);
+      lost_is = omega arith;
+      known = λ k. b.known (a.known k);
+      helped = omega arith;
+      unfinished = λ x i. ⊎_elim
+          (λ (j : IsIn x v.ranges.unfinished). ⊎_elim (λ (k : IsIn x w.ranges.unfinished). inl k)
+          (λ (l : v.turns.helped < w.turns.helped). inr (omega arith)) (b.unfinished x j))
+          (λ (l : u.turns.helped < v.turns.helped). inr (omega arith)) (a.unfinished x i);
+      joins = omega arith;
+      joined = omega arith;
+    }
 
 -- A range was counted, by these steps or by what came then.
 pub counted_both : {z : Sizes} (range : Range) (u v w : TreeView) → OnlySteps z 0 u v → v.turns.helped ≤ w.turns.helped → IsCounted range v w
@@ -155,6 +160,8 @@ steps_watched {z} u pass word borders = record {
   known = known_same z u (watched u pass word borders) refl refl refl;
   helped = no_fewer u pass word (eqb pass u.number);
   unfinished = watched_goes u pass word;
+  joins = omega arith;
+  joined = let more = no_fewer u pass word (eqb pass u.number) in omega arith;
 }
 
 pub steps_copied : {z : Sizes} (u : TreeView) (new : ℕ) (x : Copy) → OnlySteps z 0 u (copied [] u.ranges new x u)
@@ -166,6 +173,8 @@ steps_copied {z} u new x = record {
   known = known_same z u (copied [] u.ranges new x u) refl refl refl;
   helped = omega arith;
   unfinished = λ x i. inl i;
+  joins = omega arith;
+  joined = omega arith;
 }
 
 pub steps_lost : {z : Sizes} (u : TreeView) → OnlySteps z 1 u (one_more_lost u)
@@ -177,6 +186,8 @@ steps_lost {z} u = record {
   known = known_same z u (one_more_lost u) refl refl refl;
   helped = omega arith;
   unfinished = λ x i. inl i;
+  joins = omega arith;
+  joined = omega arith;
 }
 
 -- A try lost this exchange.
@@ -193,6 +204,8 @@ steps_helped {z} u pass number border = record {
   known = known_same z u (helped pass number border u) refl refl refl;
   helped = omega arith;
   unfinished = λ x i. inr (omega arith);
+  joins = omega arith;
+  joined = omega arith;
 }
 
 steps_too_late : {z : Sizes} (u : TreeView) (pass number : ℕ) → OnlySteps z 0 u (too_late pass number u)
@@ -204,6 +217,8 @@ steps_too_late {z} u pass number = record {
   known = known_same z u (too_late pass number u) refl refl refl;
   helped = omega arith;
   unfinished = λ x i. inr (omega arith);
+  joins = omega arith;
+  joined = omega arith;
 }
 
 -- A walk came to a base.
@@ -216,6 +231,8 @@ steps_by_walk {z} spot m m' cursor w = let u = m.0.upper in record {
   known = λ k. w.known;
   helped = let same = ap (λ (x : MyTree). x.0.upper.turns.helped) w.now in omega arith;
   unfinished = λ x i. inl (subst (λ (y : MyTree). IsIn x y.0.upper.ranges.unfinished) (sym w.now) i);
+  joins = let same = ap (λ (x : MyTree). x.0.upper.joins) w.now in omega arith;
+  joined = let same = ap (λ (x : MyTree). x.0.upper.joins) w.now in let alike = ap (λ (x : MyTree). x.0.upper.turns.helped) w.now in omega arith;
 }
 
 -- The word of a pass's last range was loaded.

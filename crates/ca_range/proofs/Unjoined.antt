@@ -4,58 +4,64 @@ use Rattle.ca_base.specs.Counting.{losses}
 use Rattle.ca_base.specs.Putting.{first_note}
 use Rattle.ca_base.specs.Readiness.{IsReady}
 use Rattle.ca_model.specs.declared.outcome.Spent.{Spent}
+use Rattle.ca_node.specs.declared.cursor.Cursor.{Cursor}
 use Rattle.ca_node.specs.Row.{mark}
-use Rattle.ca_node.specs.Tallied.{IsTallied}
-use Rattle.ca_node.specs.Told.{MyTree, IsKnown, IsSettled, IsUnjoined}
+use Rattle.ca_node.specs.Told.{MyTree, IsKnown, IsSettled}
 use Rattle.ca_node.specs.TreeView.{Note, TreeView}
 use Rattle.ca_rows.specs.Passes.{KeepsList, OnlyReads}
 use Rattle.ca_rows.specs.declared.space.Pass.{Pass}
 use Rattle.ca_rows.specs.declared.space.Space.{Space}
-use Rattle.ca_rows.specs.declared.tally.Tally.{Tally}
-use Rattle.ca_range.specs.Attempts.{LearnsOfJoins, joined_more}
+use Rattle.ca_range.specs.Ahead.{IsAtLast}
+use Rattle.ca_range.specs.Attempts.{HasFinishedJoin, HasFreed, joined_more}
 use Rattle.ca_range.specs.Clearing.{HasGone, IsCleared, LearnsOfRanges, none_spent}
 use Rattle.ca_range.specs.Filling.{links_lost}
-use Rattle.ca_range.specs.Spending.{IsSpentOn}
+use Rattle.ca_base.specs.Spending.{IsSpentOn}
 use Rattle.ca_range.specs.Staying.{OnlySteps}
 use Rattle.ca_range.specs.declared.clearing.Way.{Way}
 use Rattle.ca_range.specs.declared.clearing.Way.TheVariants as way
+use Rattle.ca_range.specs.declared.helped.Helped.{Helped}
 use Rattle.ca_range.specs.declared.helped.Helped.TheVariants as helped
-use Rattle.ca_range.proofs.JoinsEnded.{joined_raised, joined_steps}
+use Rattle.ca_range.proofs.Filled.{last_shown}
+use Rattle.ca_range.proofs.JoinsEnded.{joined_none, joined_raised, joined_steps}
 use Rattle.ca_range.proofs.Learning.{reads_keep}
-use Rattle.ca_range.proofs.Readied.{ready_still, stays_then}
+use Rattle.ca_range.proofs.Readied.{reads_stay, ready_still, stays_then}
 
-module _ {R : Type 0} (space : Space R TreeView) (pass new : Pass R TreeView) where
+module _ {R : Type 0} (space : Space R TreeView) (cursor : Cursor) (pass new : Pass R TreeView) where
   -- No join has the base, and no range marked it.
-  pub cleared_free : (marked : Bool) → KeepsList pass new → LearnsOfJoins false pass.seat.me new.seat.me
-      → mark (first_note pass.seat.me.0.upper.notes).its ≢ 1 → IsUnjoined new.seat.me.0.upper (first_note pass.seat.me.0.upper.notes).its
-      → pass.seat.me.0.upper.ranges.unfinished ≡ [] → IsCleared space (way.Free marked) pass new
-  cleared_free marked keeps l unranged unjoined none = (
-    keeps,
-    subst (λ (n : Note). IsSettled new.seat.me.0.upper n.its)
-        (sym (ap (λ (x : MyTree). first_note x.0.upper.notes) l.1)) (inl unranged, unjoined),
-    ((joined_more false l.0 pass.seat.me.0.upper).ranges, (λ _. none), refl, l.1),
+  pub cleared_free : (marked : Bool) → HasFreed space cursor.base false pass new → IsAtLast space.table.shared.key pass.seat.me.0.upper cursor
+      → mark (first_note pass.seat.me.0.upper.notes).its ≢ 1 → pass.seat.me.0.upper.ranges.unfinished ≡ [] → IsCleared space (way.Free marked) pass new
+  cleared_free marked f at unranged none = let l = f.learnt in let u = pass.seat.me.0.upper in (
+    f.frame,
+    subst (λ (n : Note). IsSettled new.seat.me.0.upper n.its) (sym (ap (λ (x : MyTree). first_note x.0.upper.notes) l.1))
+        (inl unranged, f.unjoined (first_note u.notes) (last_shown space.table.shared.key u cursor at)),
+    ((joined_more false l.0 u).ranges, (λ _. none), refl, l.1),
   )
 
   -- One was given up.
-  pub cleared_now : (spent : Spent) → IsReady space pass → KeepsList pass new → LearnsOfJoins true pass.seat.me new.seat.me
-      → IsSpentOn none_spent spent pass.seat.me new.seat.me → 1 < space.table.shared.key.passes → IsCleared space (way.Helped helped.Finished spent) pass new
-  cleared_now spent ready keeps l counted several = let z = space.table.shared.key in let m = pass.seat.me in let n = new.seat.me in
+  pub cleared_now : (spent : Spent) → IsReady space pass → HasFreed space cursor.base true pass new
+      → IsSpentOn none_spent spent pass.seat.me new.seat.me → IsCleared space (way.Helped helped.Finished spent) pass new
+  cleared_now spent ready f counted = let z = space.table.shared.key in let m = pass.seat.me in let n = new.seat.me in let l = f.learnt in
       let raised = joined_raised true m n l in let steps = joined_steps z true m n l in record {
-        frame = stays_then space pass new new keeps raised steps record {
+        frame = stays_then space pass new new f.frame raised (joined_none true m n l) steps record {
           same = (refl, refl);
           number = refl;
           tally = λ t. t;
           pin = (refl, refl);
           own_range = refl;
-          none = (ready_still space pass new ready keeps raised steps).none;
+          none = (ready_still space pass new ready f.frame raised steps).none;
         };
         steps = steps;
         counted = counted;
         gone = let one = ap (λ (x : MyTree). x.0.upper.turns.helped) l.1 in let lost = ap (λ (x : MyTree). losses x) l.1 in
             let passed = ap (λ (x : MyTree). x.0.upper.turns.passed) l.1 in let empty = ap (λ (x : MyTree). x.0.empty) l.1 in
             let worn = ap (λ (x : MyTree). x.0.worn) l.1 in ((omega arith, omega arith), omega arith);
-        several = λ _. several;
+        several = λ _. f.several refl;
       }
+
+  -- One was carried out.
+  pub cleared_gone : (h : Helped) (spent : Spent) → HasFinishedJoin space h pass new → IsSpentOn none_spent spent pass.seat.me new.seat.me
+      → IsCleared space (way.Helped h spent) pass new
+  cleared_gone h spent f counted = record { frame = f.frame; steps = f.steps; counted = counted; gone = f.gone; several = λ _. f.several }
 
 -- The same behind loads of words that were shown.
 pub cleared_behind : {R : Type 0} (space : Space R TreeView) (pass mid new : Pass R TreeView) (w : Way) → OnlyReads pass mid → IsCleared space w mid new
@@ -63,14 +69,7 @@ pub cleared_behind : {R : Type 0} (space : Space R TreeView) (pass mid new : Pas
 cleared_behind space pass mid new (way.Free marked) r c =
     (reads_keep r c.0, c.1, subst (λ (x : MyTree). LearnsOfRanges marked x new.seat.me) r.still c.2)
 cleared_behind space pass mid new (way.Helped helped spent) r c = record {
-  frame = record {
-    same = (c.frame.same.0 ∙ r.same.0, c.frame.same.1 ∙ r.same.1);
-    number = c.frame.number ∙ r.number;
-    tally = λ t. c.frame.tally (subst (λ (x : Tally × MyTree). IsTallied x.0 x.1.0.upper) (λ i. (sym r.tally i, sym r.still i)) t);
-    pin = (c.frame.pin.0 ∙ ap (λ (x : MyTree). x.0.sizes) r.still, c.frame.pin.1 ∙ ap (λ (x : MyTree). x.0.pin) r.still);
-    own_range = c.frame.own_range ∙ ap (λ (x : MyTree). x.0.upper.ranges.own) r.still;
-    none = c.frame.none;
-  };
+  frame = reads_stay space pass mid new r c.frame;
   steps = subst (λ (x : MyTree). OnlySteps space.table.shared.key (links_lost helped) x.0.upper new.seat.me.0.upper) r.still c.steps;
   counted = subst (λ (x : MyTree). IsSpentOn none_spent spent x new.seat.me) r.still c.counted;
   gone = subst (λ (x : MyTree). HasGone helped x new.seat.me) r.still c.gone;

@@ -10,7 +10,7 @@ use Rattle.ca_node.specs.Place.{HasKey}
 use Rattle.ca_node.specs.Row.{mark_bound, route_key, IsMarkedBy}
 use Rattle.ca_node.specs.Told.{MyTree, HasWatched, IsShownWord, but_of, over_by, unfinished_by, watched}
 use Rattle.ca_node.specs.TreeView.{Note, Border, Unfinished, TreeView}
-use Rattle.ca_node.specs.Walking.{IsHighRoute, IsWalked}
+use Rattle.ca_node.specs.Walking.{IsAbove, IsHighRoute, IsWalked}
 use Rattle.ca_node.specs.declared.cursor.Cursor.{Cursor}
 use Rattle.ca_node.specs.declared.cursor.Spot.TheVariants as spot
 use Rattle.ca_node.proofs.Listing.{in_front}
@@ -85,6 +85,7 @@ module _ (z : Sizes) (range : Range) (left : Cursor) (m m' : MyTree) (word : ℕ
     at = record {
       shown = record { noted = at.at.shown.noted; here = at.at.shown.here; is_base = at.at.shown.is_base };
       at = at.at.at;
+      above = at.at.above;
       high = at.at.high;
     };
     marked = at.marked;
@@ -131,6 +132,7 @@ is_before z range bytes m m' next u key same w ends is bound beyond = subst (λ 
   at = record {
     shown = record { noted = (0, refl); here = w.cursor_is.base; is_base = w.is_base };
     at = record { base = w.cursor_is.base; link = w.cursor_is.link; level = w.cursor_is.level; inside = w.inside };
+    above = subst (λ (x : MyTree). IsAbove z x.0.upper.ways next.link next.above) w.now w.cursor_is.above;
     high = subst (λ (x : MyTree). IsHighRoute z x.0.upper.ways next.high w.note.place.span.high) w.now w.cursor_is.high;
   };
   key = key;

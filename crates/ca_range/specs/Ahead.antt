@@ -8,7 +8,7 @@ use Rattle.ca_node.specs.Links.{IsIn}
 use Rattle.ca_node.specs.Place.{HasKey}
 use Rattle.ca_node.specs.Row.{count, mark_bound, IsMarkedBy}
 use Rattle.ca_node.specs.TreeView.{Note, Over, Unfinished, Border, TreeView}
-use Rattle.ca_node.specs.Walking.{IsHighRoute}
+use Rattle.ca_node.specs.Walking.{IsAbove, IsHighRoute}
 use Rattle.ca_rows.specs.Layout.{last_sequence}
 use Rattle.ca_rows.specs.declared.sizes.Sizes.{Sizes}
 use Rattle.ca_range.specs.Reaching.{IsBorderShown, reaches_by}
@@ -17,10 +17,11 @@ use Rattle.ca_range.specs.declared.account.Range.{Range}
 use Rattle.ca_range.specs.declared.ahead.Ahead.{Ahead}
 use Rattle.ca_range.specs.declared.ahead.Ahead.TheVariants as ahead
 
--- The base under the cursor was shown last, where it hangs, and which route bounds its keys above.
+-- The base under the cursor was shown last, where it hangs and where the route above it hung, and which route bounds its keys above.
 pub record IsAtLast (z : Sizes) (u : TreeView) (cursor : Cursor) : Type 0 where
   pub shown : IsBaseShown z u cursor.base (first_note u.notes)
   pub at : IsAtCursor z (first_note u.notes) cursor
+  pub above : IsAbove z u.ways cursor.link cursor.above
   pub high : IsHighRoute z u.ways cursor.high (first_note u.notes).place.span.high
 
 -- So it was, and this range marked it.

@@ -7,7 +7,7 @@ use Rattle.ca_model.specs.declared.outcome.Spent.{Spent}
 use Rattle.ca_node.specs.Told.{MyTree, with_upper, IsKnown, IsSettled}
 use Rattle.ca_node.specs.TreeView.{KnownRanges, TreeView}
 use Rattle.ca_range.specs.Filling.{links_lost}
-use Rattle.ca_range.specs.Spending.{IsSpentOn}
+use Rattle.ca_base.specs.Spending.{IsSpentOn}
 use Rattle.ca_range.specs.Staying.{OnlySteps}
 use Rattle.ca_range.specs.declared.clearing.Way.{Way}
 use Rattle.ca_range.specs.declared.clearing.Way.TheVariants as way
@@ -39,7 +39,7 @@ HasGone helped.NoRow m m' = HasMet 1 0 m m'
 HasGone (helped.Worn counter) m m' = HasMet 0 1 m m'
 
 module _ {R : Type 0} where
-  -- A range of another pass was helped, or an attempt to join given up, which came to this, and so much was spent.
+  -- A range of another pass was helped, or an attempt to join given up or carried out, which came to this, and so much was spent.
   pub record HasHelpedWith (space : Space R TreeView) (helped : Helped) (spent : Spent) (pass new : Pass R TreeView) : Type 0 where
     pub frame : StaysReady space pass new
     pub steps : OnlySteps space.table.shared.key (links_lost helped) pass.seat.me.0.upper new.seat.me.0.upper
@@ -48,7 +48,8 @@ module _ {R : Type 0} where
     -- The pass isn't the only one of the space.
     pub several : IsKnown space.table.shared.key pass.seat.me.0.upper → 1 < space.table.shared.key.passes
 
-  -- Neither a range has the base that was shown last nor a join, as the pass knows then; or another pass's range was helped, or an attempt to join given up.
+  -- Neither a range has the base that was shown last nor a join, as the pass knows then; or another pass's range was helped, or an attempt to join given up or
+  -- carried out.
   abbrev pub IsCleared : Space R TreeView → Way → Pass R TreeView → Pass R TreeView → Type 0
   IsCleared space (way.Free marked) pass new = KeepsList pass new × IsSettled new.seat.me.0.upper (first_note new.seat.me.0.upper.notes).its
       × LearnsOfRanges marked pass.seat.me new.seat.me

@@ -15,7 +15,7 @@ use Rattle.ca_rows.specs.declared.sizes.Sizes.{Sizes}
 use Rattle.ca_range.specs.Ahead.{IsAtLast, IsAtMarked, IsKnownOver}
 use Rattle.ca_range.specs.Farther.{reach}
 use Rattle.ca_range.specs.Marked.{second_note}
-use Rattle.ca_range.specs.Staying.{IsCounted}
+use Rattle.ca_range.specs.Staying.{HasJoined, IsCounted}
 use Rattle.ca_range.specs.declared.account.Range.{Range}
 use Rattle.ca_range.specs.declared.filling.Step.{Step}
 use Rattle.ca_range.specs.declared.filling.Step.TheVariants as step
@@ -38,9 +38,10 @@ pub record RemembersAll (u v : TreeView) : Type 0 where
   pub notes : v.notes ≡ u.notes
   pub ways : v.ways ≡ u.ways
 
--- This became of the range, given what the pass knew before and behind.
+-- This became of the range, given what the pass knew before and behind. Where a join was carried out that was in its way, the help ended, too.
 abbrev pub IsEnded : Sizes → Range → Helped → MyTree → MyTree → Type 0
-IsEnded z range helped.Finished m m' = IsKnownOver m'.0.upper range × IsCounted range m.0.upper m'.0.upper × HasMet 0 0 m m'
+IsEnded z range helped.Finished m m' = ((IsKnownOver m'.0.upper range × IsCounted range m.0.upper m'.0.upper) ⊎ HasJoined m.0.upper m'.0.upper)
+    × HasMet 0 0 m m'
 IsEnded z range (helped.Lost exchange) m m' = (losses m < losses m') × HasMet 0 0 m m'
 IsEnded z range (helped.Busy spent) m m' = ⊥
 IsEnded z range helped.NoRow m m' = HasMet 1 0 m m'
@@ -100,9 +101,9 @@ pub record IsOneOver (range : Range) (u v : TreeView) : Type 0 where
   pub which : (last ≡ range) ⊎ (u.turns.helped < v.turns.helped)
   pub counted : IsCounted range u v
 
--- The help ended so, or as the budget was spent.
+-- The help ended so, or as the budget was spent. Where a join was carried out that was in the way of a range, it ended, too.
 abbrev pub IsHelpedTo : Sizes → Range → ℕ → Spent → Helped → MyTree → MyTree → Type 0
-IsHelpedTo z range budget spent helped.Finished m m' = IsOneOver range m.0.upper m'.0.upper × HasMet 0 0 m m'
+IsHelpedTo z range budget spent helped.Finished m m' = (IsOneOver range m.0.upper m'.0.upper ⊎ HasJoined m.0.upper m'.0.upper) × HasMet 0 0 m m'
 IsHelpedTo z range budget spent (helped.Lost exchange) m m' = IsEnded z range (helped.Lost exchange) m m'
 IsHelpedTo z range budget spent (helped.Busy told) m m' = (told ≡ spent) × (budget ≤ turns_of spent) × HasMet 0 0 m m'
 IsHelpedTo z range budget spent helped.NoRow m m' = IsEnded z range helped.NoRow m m'

@@ -15,6 +15,5 @@ pub mod Opening
 pub mod Reaching
 pub mod Snapping
 pub mod Snapshots
-pub mod Spending
 pub mod Staying
 pub mod Using

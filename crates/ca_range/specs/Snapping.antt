@@ -10,7 +10,9 @@ use Rattle.ca_node.specs.TreeView.{TreeView}
 use Rattle.ca_range.specs.Clearing.{turns_at}
 use Rattle.ca_range.specs.Filling.{turns_of}
 use Rattle.ca_range.specs.Snapshots.{OnlyRanges}
-use Rattle.ca_range.specs.Spending.{IsSpentOn}
+use Rattle.ca_base.specs.Spending.{IsSpentOn}
+use Rattle.ca_range.specs.declared.helped.Helped.{Helped}
+use Rattle.ca_range.specs.declared.helped.Helped.TheVariants as helped
 use Rattle.ca_range.specs.declared.sought.Snapped.{Snapped}
 use Rattle.ca_range.specs.declared.sought.Snapped.TheVariants as snapped
 use Rattle.ca_rows.specs.Calls.{IsSame}
@@ -31,6 +33,14 @@ module _ {R : Type 0} where
     pub frame : StaysPinned space pass new
     pub steps : OnlyRanges space.table.shared.key pass.seat.me.0.upper new.seat.me.0.upper
     pub counted : IsSpentOn before now pass.seat.me new.seat.me
+
+-- what a snapshot comes to behind help, by what became of that
+abbrev pub snapped_so : Helped → Snapped
+snapped_so helped.Finished = snapped.Again
+snapped_so (helped.Lost exchange) = snapped.Again
+snapped_so (helped.Busy spent) = snapped.Busy
+snapped_so helped.NoRow = snapped.NoRow
+snapped_so (helped.Worn which) = snapped.Worn counter.PoolTag
 
 -- No run came out, and this is why: turns were spent, or the budget was, or no row was free, or the pool's tag can rise no more.
 abbrev pub IsRefused : ℕ → Spent → Snapped → MyTree → MyTree → Type 0

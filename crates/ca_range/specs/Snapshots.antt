@@ -1,5 +1,5 @@
 -- What a pass knows behind a snapshot: bases that have together what one state of the history has.
-use Rattle.std.specs.Prelude.{◌≡◌, ℕ, ◌<◌, ◌≤◌, ◌++◌, Bool, true, false, List, [], ◌∷◌, cond, length}
+use Rattle.std.specs.Prelude.{◌≡◌, ℕ, ◌+◌, ◌<◌, ◌≤◌, ◌++◌, Bool, true, false, List, [], ◌∷◌, cond, length}
 use denote.Ref.{Bor}
 use denote.Param.Members.{Shared}
 use mathlib.Core.Option.{some}
@@ -34,6 +34,9 @@ pub record OnlyRanges (z : Sizes) (u v : TreeView) : Type 0 where
   pub only : v ≡ record (with_steps_of u v) { ranges = v.ranges }
   pub seen : (more : History) × (v.seen ≡ u.seen ++ more)
   pub known : IsKnown z u → IsKnown z v
+  -- Each join that it carried out was counted as one that it helped.
+  pub joins : u.joins ≤ v.joins
+  pub joined : v.joins + u.turns.helped ≤ u.joins + v.turns.helped
 
 -- the bases of a run, from the last one on: those on its chain, or the one that was shown last
 abbrev pub bases_of : Run → TreeView → List Note

@@ -15,6 +15,7 @@ with_steps_of u v = record u {
   ways = v.ways;
   ranges = record u.ranges { over = v.ranges.over; borders = v.ranges.borders; unfinished = v.ranges.unfinished; joins = v.ranges.joins };
   loads = v.loads;
+  joins = v.joins;
   lost = v.lost;
   turns = v.turns;
   last = v.last;
@@ -34,6 +35,13 @@ pub record OnlySteps (z : Sizes) (lost : ℕ) (u v : TreeView) : Type 0 where
   -- A range that was found unfinished is so still, or one was counted as helped.
   pub helped : u.turns.helped ≤ v.turns.helped
   pub unfinished : (x : Unfinished) → IsIn x u.ranges.unfinished → IsIn x v.ranges.unfinished ⊎ (u.turns.helped < v.turns.helped)
+  -- Each join that it carried out was counted as one that it helped.
+  pub joins : u.joins ≤ v.joins
+  pub joined : v.joins + u.turns.helped ≤ u.joins + v.turns.helped
+
+-- A join was carried out that another pass had secured, and was counted as helped.
+abbrev pub HasJoined : TreeView → TreeView → Type 0
+HasJoined u v = (u.joins < v.joins) × (u.turns.helped < v.turns.helped)
 
 -- Where the range was found unfinished, it was counted as helped.
 abbrev pub IsCounted : Range → TreeView → TreeView → Type 0

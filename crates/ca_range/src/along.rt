@@ -5,7 +5,7 @@ ghost use Rattle.ca_node.specs.TreePasses.{tree_of};
 ghost use Rattle.ca_range.specs.Ahead.{IsAtMarked};
 ghost use Rattle.ca_range.specs.Along.{IsReached};
 ghost use Rattle.ca_range.specs.Meeting.{AreMet};
-ghost use Rattle.ca_range.specs.Spending.{IsSpentOn};
+ghost use Rattle.ca_base.specs.Spending.{IsSpentOn};
 ghost use Rattle.ca_range.specs.Staying.{OnlySteps};
 ghost use Rattle.ca_rows.specs.Passes.{IsReading, KeepsList, sizes, known};
 
@@ -41,6 +41,7 @@ pub(crate) fn go_along(
     ensures frame { KeepsList pass.old pass.new }
     ensures raised { known pass.new ≡ with_upper (known pass.old) (tree_of pass.new) }
     ensures steps { OnlySteps (sizes space.now) 0 (tree_of pass.old) (tree_of pass.new) }
+    ensures no_join { (tree_of pass.new).joins ≡ (tree_of pass.old).joins }
     ensures met { AreMet account.new.met.numbers (tree_of pass.new).ranges.unfinished }
     ensures reached { IsReached (sizes space.now) range result (tree_of pass.old) (tree_of pass.new) }
     ensures counted { IsSpentOn account.old.spent account.new.spent (known pass.old) (known pass.new) }

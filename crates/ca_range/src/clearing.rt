@@ -1,9 +1,9 @@
 //! What an edit does about the mark of the base that it is to exchange.
 ghost use Rattle.std.specs.Prelude.{◌≡◌, ◌≢◌, ◌≤◌, []};
 ghost use Rattle.ca_adapt.specs.Tuned.{IsTuned};
-ghost use Rattle.ca_base.specs.Finding.{IsBaseShown};
 ghost use Rattle.ca_base.specs.Putting.{first_note};
 ghost use Rattle.ca_base.specs.Readiness.{IsReady};
+ghost use Rattle.ca_node.specs.LoneStays.{HasNone};
 ghost use Rattle.ca_node.specs.Row.{mark};
 ghost use Rattle.ca_node.specs.TreePasses.{tree_of};
 ghost use Rattle.ca_node.specs.TreeView.{Quiet};
@@ -27,12 +27,13 @@ use ca_node::{Cursor, TreePass, TreeSpace};
 pub enum Way {
     /// Neither a range has it nor a join. Whether one marked it.
     Free(bool),
-    /// A range of another pass has it, and was helped, or an attempt to join was given up: what became of that, and what was spent.
+    /// A range of another pass has it, and was helped, or an attempt to join, which was given up or carried out: what became of that, and what was spent.
     Helped(Helped, Spent),
 }
 
 /// Looks which range or which attempt to join marked the base that was shown last. Where that is a range of another pass that isn't over, the pass helps it,
-/// with a budget of its own; where it is an attempt that is prepared, the pass gives it up. The pass has no range, and found none unfinished since it was pinned.
+/// with a budget of its own; where it is an attempt that is prepared, the pass gives it up, and one that is secured it carries out. The pass has no range, and
+/// found none unfinished since it was pinned.
 pub fn clear(
     space: &TreeSpace,
     pass: &mut TreePass,
@@ -50,7 +51,7 @@ pub fn clear(
     ensures cleared { IsCleared space.now result pass.old pass.new }
 {
     let Some(range) = range_of(space, pass, cursor.base) else {
-        return clear_of_join(space, pass, cursor.base);
+        return clear_of_join(space, pass, cursor);
     };
     let mut account = Account::new();
     let state = watch(space, pass, range.owner, &mut account);
@@ -63,11 +64,13 @@ pub fn clear(
 }
 
 // The same of a base that no range marked.
-fn clear_of_join(space: &TreeSpace, pass: &mut TreePass, base: u32) -> Way
+fn clear_of_join(space: &TreeSpace, pass: &mut TreePass, cursor: Cursor) -> Way
     requires ready { IsReady space.now pass.old }
+    requires leaf { (sizes space.now).leaf ≤ 120 }
     requires none_met { (tree_of pass.old).ranges.unfinished ≡ [] }
-    requires shown { IsBaseShown (sizes space.now) (tree_of pass.old) base (first_note (tree_of pass.old).notes) }
+    requires at { IsAtLast (sizes space.now) (tree_of pass.old) cursor }
     requires unranged { mark (first_note (tree_of pass.old).notes).its ≢ 1 }
+    requires other { HasNone (tree_of pass.old).ranges.own }
     ensures cleared { IsCleared space.now result pass.old pass.new }
 {
     let mut spent = Spent {
@@ -75,9 +78,10 @@ fn clear_of_join(space: &TreeSpace, pass: &mut TreePass, base: u32) -> Way
         helped: 0,
         passed: 0,
     };
-    match end_join(space, pass, base, &mut spent) {
+    match end_join(space, pass, cursor, &mut spent) {
         JoinEnd::Unmarked => Way::Free(false),
         JoinEnd::Before => Way::Free(true),
         JoinEnd::Now => Way::Helped(Helped::Finished, spent),
+        JoinEnd::Gone(helped) => Way::Helped(helped, spent),
     }
 }

@@ -5,7 +5,7 @@ ghost use Rattle.ca_base.specs.Readiness.{IsReady, StaysReady};
 ghost use Rattle.ca_node.specs.TreePasses.{tree_of};
 ghost use Rattle.ca_range.specs.Ahead.{IsAtMarked, IsKnownOver, IsWhole};
 ghost use Rattle.ca_range.specs.Meeting.{AreMet};
-ghost use Rattle.ca_range.specs.Spending.{IsSpentOn};
+ghost use Rattle.ca_base.specs.Spending.{IsSpentOn};
 ghost use Rattle.ca_range.specs.Staying.{OnlySteps};
 ghost use Rattle.ca_rows.specs.Passes.{sizes, known};
 

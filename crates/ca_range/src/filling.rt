@@ -1,25 +1,24 @@
 //! The next base of a range is marked, where no other range has it.
 ghost use Rattle.std.specs.Prelude.{◌≡◌, ◌<◌, ◌≤◌, ℕ};
-ghost use Rattle.ca_base.specs.Finding.{IsBaseShown};
 ghost use Rattle.ca_base.specs.Putting.{first_note};
 ghost use Rattle.ca_base.specs.Readiness.{IsReady, StaysReady};
-ghost use Rattle.ca_node.specs.Told.{with_upper};
 ghost use Rattle.ca_node.specs.TreePasses.{tree_of};
-ghost use Rattle.ca_node.specs.TreeView.{Note, Quiet};
+ghost use Rattle.ca_node.specs.TreeView.{Quiet};
 ghost use Rattle.ca_range.specs.Ahead.{IsAtLast};
-ghost use Rattle.ca_range.specs.Filling.{GoesTo, HasStepped, IsCopyOf, IsUseOf, RemembersAll, step_lost};
+ghost use Rattle.ca_range.specs.Filling.{GoesTo, HasStepped, IsCopyOf, step_lost};
 ghost use Rattle.ca_range.specs.Farther.{reach};
 ghost use Rattle.ca_range.specs.Marked.{IsNextTo, second_note};
 ghost use Rattle.ca_range.specs.Meeting.{AreMet};
-ghost use Rattle.ca_range.specs.Spending.{IsSpentOn};
+ghost use Rattle.ca_base.specs.Spending.{IsSpentOn};
 ghost use Rattle.ca_range.specs.Staying.{OnlySteps};
-ghost use Rattle.ca_rows.specs.Passes.{KeepsList, sizes, known};
+ghost use Rattle.ca_range.specs.Using.{HasFoundUse};
+ghost use Rattle.ca_rows.specs.Passes.{sizes, known};
 
 use crate::account::{Account, Range};
 use crate::ahead::is_active;
 use crate::copying::Mark;
 use crate::helped::Helped;
-use crate::joins::end_join;
+use crate::joins::{JoinEnd, end_join};
 use crate::marking::mark_base;
 use crate::marks::{MarkedBase, range_of};
 use crate::watching::watch;
@@ -38,39 +37,41 @@ pub(crate) enum Step {
     Ended(Helped),
 }
 
-/// Which range of another pass marked a base that the pass was shown, where that range isn't over. An attempt to join that marked the base and is prepared is
-/// given up.
+/// Which range of another pass marked the base that the pass was shown last, where that range isn't over. An attempt to join that marked the base is ended:
+/// one that is prepared is given up, and where it is secured it answers what became of carrying it out.
 pub fn range_in_use(
     space: &TreeSpace,
     pass: &mut TreePass,
-    base: u32,
+    cursor: Cursor,
     account: &mut Account,
-) -> Option<Range>
+) -> Result<Option<Range>, Helped>
     requires ready { IsReady space.now pass.old }
     requires number { pass.old.number ≡ (tree_of pass.old).number }
     requires quiet { (tree_of pass.old).ranges.own ≡ Quiet }
     requires met { AreMet account.old.met.numbers (tree_of pass.old).ranges.unfinished }
-    requires shown { (note : Note) × IsBaseShown (sizes space.now) (tree_of pass.old) base note }
-    ensures frame { KeepsList pass.old pass.new }
-    ensures raised { known pass.new ≡ with_upper (known pass.old) (tree_of pass.new) }
-    ensures steps { OnlySteps (sizes space.now) 0 (tree_of pass.old) (tree_of pass.new) }
-    ensures all { RemembersAll (tree_of pass.old) (tree_of pass.new) }
+    requires leaf { (sizes space.now).leaf ≤ 120 }
+    requires at { IsAtLast (sizes space.now) (tree_of pass.old) cursor }
     ensures met { AreMet account.new.met.numbers (tree_of pass.new).ranges.unfinished }
-    ensures in_use { (note : Note) → IsBaseShown (sizes space.now) (tree_of pass.old) base note → IsUseOf (tree_of pass.new) note result }
+    ensures in_use { HasFoundUse space.now cursor.base result pass.old pass.new }
     ensures counted { IsSpentOn account.old.spent account.new.spent (known pass.old) (known pass.new) }
 {
-    let Some(range) = range_of(space, pass, base) else {
-        end_join(space, pass, base, &mut account.spent);
-        return None;
+    let Some(range) = range_of(space, pass, cursor.base) else {
+        return match end_join(space, pass, cursor, &mut account.spent) {
+            JoinEnd::Unmarked => Ok(None),
+            JoinEnd::Before => Ok(None),
+            JoinEnd::Now => Ok(None),
+            JoinEnd::Gone(helped) => Err(helped),
+        };
     };
     let state = watch(space, pass, range.owner, account);
     if !is_active(state, range.number) {
-        return None;
+        return Ok(None);
     }
-    Some(range)
+    Ok(Some(range))
 }
 
-/// Marks the base that the pass was shown last as the next one of a range, where no other range has it. An attempt to join that has it is given up.
+/// Marks the base that the pass was shown last as the next one of a range, where no other range has it. An attempt to join that has it is given up; or it is
+/// carried out, which ends the help.
 pub(crate) fn fill_gap(
     space: &TreeSpace,
     pass: &mut TreePass,
@@ -94,9 +95,13 @@ pub(crate) fn fill_gap(
     ensures goes { GoesTo (reach (tree_of pass.old)) result (tree_of pass.new) }
     ensures counted { IsSpentOn account.old.spent account.new.spent (known pass.old) (known pass.new) }
 {
-    if let Some(range) = range_in_use(space, pass, next.base, account) {
-        let cursor = next;
-        return Step::Met(MarkedBase { cursor, range });
+    match range_in_use(space, pass, next, account) {
+        Ok(None) => {}
+        Ok(Some(range)) => {
+            let cursor = next;
+            return Step::Met(MarkedBase { cursor, range });
+        }
+        Err(helped) => return Step::Ended(helped),
     }
     match mark_base(space, pass, next, mark, &mut account.spent) {
         Ok(base) => Step::Marked(Cursor { base, ..next }),

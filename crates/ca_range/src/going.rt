@@ -22,7 +22,7 @@ use crate::marking::mark_base;
 use crate::marks::{MarkedBase, is_of};
 use crate::own::Gathered;
 use crate::settling::give_up;
-use crate::snapping::help_first;
+use crate::snapping::{after_help, help_first};
 use crate::sought::{Search, Snapped, Sought};
 use crate::using::{Use, use_of};
 use ca_base::Stop;
@@ -30,7 +30,7 @@ use ca_model::Counter;
 use ca_node::{Cursor, TreePass, TreeSpace, load_word};
 
 /// Goes on to the next base, which was shown behind the last one that the pass's range marked: it is marked, where no range has it. Else the range is given
-/// up; one of another pass that is in the way is helped then.
+/// up; one of another pass that is in the way is helped then. So it is where an attempt to join was in the way, and was carried out.
 pub(crate) fn go_to<F: Fn(&[u8]) -> bool>(
     space: &TreeSpace,
     pass: &mut TreePass,
@@ -50,7 +50,7 @@ pub(crate) fn go_to<F: Fn(&[u8]) -> bool>(
         → IsFurther F.Fn search.now.sought.now (sizes space.now) far search.now.budget account.new.spent result (known pass.old) (known pass.new) }
     ensures quiet { IsOver result (tree_of pass.new) }
 {
-    match use_of(space, pass, next.base, account) {
+    match use_of(space, pass, next, account) {
         Use::Free => mark_on(space, pass, from, next, search, account),
         Use::Own => follow(space, pass, from, next, search.sought),
         Use::Other(range) => {
@@ -59,6 +59,10 @@ pub(crate) fn go_to<F: Fn(&[u8]) -> bool>(
             let other = MarkedBase { cursor, range };
             let tuning = search.tuning;
             Further::Ended(help_first(space, pass, other, tuning, search.budget, account))
+        }
+        Use::Gone(helped) => {
+            give_up(space, pass, from.own);
+            Further::Ended(after_help(helped))
         }
     }
 }

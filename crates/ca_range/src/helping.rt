@@ -13,7 +13,7 @@ ghost use Rattle.ca_range.specs.Ahead.{IsAtMarked};
 ghost use Rattle.ca_range.specs.Filling.{GoesTo, HasStepped, IsHelpedTo, IsPassedOn, IsTurned, links_lost, step_lost, turns_of};
 ghost use Rattle.ca_range.specs.Farther.{reach};
 ghost use Rattle.ca_range.specs.Meeting.{AreMet};
-ghost use Rattle.ca_range.specs.Spending.{IsSpentOn};
+ghost use Rattle.ca_base.specs.Spending.{IsSpentOn};
 ghost use Rattle.ca_range.specs.Staying.{OnlySteps};
 ghost use Rattle.ca_rows.specs.Passes.{OnlyReads, IsReading, sizes, known};
 

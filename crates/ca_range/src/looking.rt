@@ -36,6 +36,7 @@ pub(crate) fn walk_to_first(space: &TreeSpace, pass: &mut TreePass, lo: Edge<'_>
     ensures frame { KeepsList pass.old pass.new }
     ensures raised { known pass.new ≡ with_upper (known pass.old) (tree_of pass.new) }
     ensures steps { OnlySteps (sizes space.now) 0 (tree_of pass.old) (tree_of pass.new) }
+    ensures no_join { (tree_of pass.new).joins ≡ (tree_of pass.old).joins }
     ensures turns { (tree_of pass.new).turns ≡ (tree_of pass.old).turns }
     ensures unfinished { (tree_of pass.new).ranges.unfinished ≡ (tree_of pass.old).ranges.unfinished }
     ensures first { IsFirst (sizes space.now) (bound_of lo.entry) (tree_of pass.new) result }

@@ -8,7 +8,7 @@ ghost use Rattle.ca_node.specs.Copies.{IsCopy, IsNextCopy};
 ghost use Rattle.ca_node.specs.Told.{IsSettled};
 ghost use Rattle.ca_node.specs.TreePasses.{tree_of};
 ghost use Rattle.ca_range.specs.Marked.{HasMarked, HasPut, IsNextTo, second_note};
-ghost use Rattle.ca_range.specs.Spending.{IsSpentOn};
+ghost use Rattle.ca_base.specs.Spending.{IsSpentOn};
 ghost use Rattle.ca_rows.specs.Passes.{IsOn, sizes, known, view};
 
 use crate::copying::{Mark, write_copy};

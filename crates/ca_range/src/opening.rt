@@ -21,7 +21,7 @@ ghost use Rattle.ca_range.specs.Meeting.{AreMet};
 ghost use Rattle.ca_range.specs.Opening.{begun_at, IsKeptWord, HasNumbered, HasPutFirst, HasWrittenFirst, IsFirstReady, IsNumberOf};
 ghost use Rattle.ca_range.specs.Snapping.{GoesOn, StaysPinned};
 ghost use Rattle.ca_range.specs.Snapshots.{HasSnapped, OnlyRanges};
-ghost use Rattle.ca_range.specs.Spending.{IsSpentOn};
+ghost use Rattle.ca_base.specs.Spending.{IsSpentOn};
 ghost use Rattle.ca_rows.specs.Calls.{IsNumbered};
 ghost use Rattle.ca_rows.specs.Passes.{IsOn, IsReading, KeepsList, OnlyReads, StillKeepsList, sizes, known, view};
 

@@ -10,9 +10,9 @@ ghost use Rattle.ca_node.specs.TreeView.{Quiet};
 ghost use Rattle.ca_range.specs.Ahead.{IsAtLast};
 ghost use Rattle.ca_range.specs.Filling.{IsInUse, turns_of};
 ghost use Rattle.ca_range.specs.Meeting.{AreMet};
-ghost use Rattle.ca_range.specs.Snapping.{IsRefused};
+ghost use Rattle.ca_range.specs.Snapping.{IsRefused, snapped_so};
 ghost use Rattle.ca_range.specs.Snapshots.{HasSnapped, OnlyRanges};
-ghost use Rattle.ca_range.specs.Spending.{IsSpentOn};
+ghost use Rattle.ca_base.specs.Spending.{IsSpentOn};
 ghost use Rattle.ca_rows.specs.Passes.{sizes, known};
 
 use crate::account::Account;
@@ -60,12 +60,14 @@ pub fn snapshot<F: Fn(&[u8]) -> bool>(
             whole,
         });
     }
-    if let Some(range) = range_in_use(space, pass, first.base, account) {
-        let from = MarkedBase {
-            cursor: first,
-            range,
-        };
-        return help_first(space, pass, from, tuning, budget, account);
+    match range_in_use(space, pass, first, account) {
+        Ok(None) => {}
+        Ok(Some(range)) => {
+            let cursor = first;
+            let from = MarkedBase { cursor, range };
+            return help_first(space, pass, from, tuning, budget, account);
+        }
+        Err(helped) => return after_help(helped),
     }
     let search = Search {
         sought,
@@ -97,7 +99,14 @@ pub(crate) fn help_first(
     ensures refused { IsRefused budget account.new.spent result (known pass.old) (known pass.new) }
     ensures counted { IsSpentOn account.old.spent account.new.spent (known pass.old) (known pass.new) }
 {
-    match help_ranges(space, pass, from, tuning, budget, account) {
+    after_help(help_ranges(space, pass, from, tuning, budget, account))
+}
+
+/// What a snapshot comes to behind help, by what became of that.
+pub(crate) fn after_help(helped: Helped) -> Snapped
+    ensures { result ≡ snapped_so helped }
+{
+    match helped {
         Helped::Finished => Snapped::Again,
         Helped::Lost(_) => Snapped::Again,
         Helped::Busy(_) => Snapped::Busy,

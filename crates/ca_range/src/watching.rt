@@ -5,7 +5,7 @@ ghost use Rattle.ca_node.specs.Row.{mark_bound};
 ghost use Rattle.ca_node.specs.Told.{HasWatched, IsKnown, status_of};
 ghost use Rattle.ca_node.specs.TreePasses.{tree_of};
 ghost use Rattle.ca_range.specs.Meeting.{AreMet, active_of, finished_of};
-ghost use Rattle.ca_range.specs.Spending.{IsSpentOn};
+ghost use Rattle.ca_base.specs.Spending.{IsSpentOn};
 ghost use Rattle.ca_rows.specs.Layout.{last_sequence, row_limit};
 ghost use Rattle.ca_rows.specs.Passes.{IsOn, IsReading, KeepsList, sizes, known};
 

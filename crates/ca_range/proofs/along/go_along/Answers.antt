@@ -6,7 +6,7 @@ use Rattle.ca_range.specs.Ahead.{IsAtMarked}
 use Rattle.ca_range.specs.Along.{IsGap}
 use Rattle.ca_range.specs.Farther.{reach, room}
 use Rattle.ca_range.specs.Meeting.{AreMet}
-use Rattle.ca_range.specs.Spending.{IsSpentOn}
+use Rattle.ca_base.specs.Spending.{IsSpentOn}
 use Rattle.ca_range.specs.Staying.{OnlySteps}
 use Rattle.ca_range.proofs.Gaps.{is_gap, at_next}
 use Rattle.ca_range.proofs.Filled.{last_shown}
@@ -23,6 +23,7 @@ loop-left-init c = record {
   kept = search rules;
   raised = refl;
   steps = steps_none c.args.pass.now.seat.me.0.upper;
+  no_join = refl;
   met = c.requires.met;
   counted = on_still c.args.account.now.spent c.args.pass.now.seat.me c.args.pass.now.seat.me refl refl;
   at = c.requires.at;
@@ -97,6 +98,7 @@ loop-left-preserved c = let b = c.in-Next.ensures.ahead in let still = c.is_of.e
           ∙ ap (λ (u : TreeView). with_upper m u) (ap (λ (x : MyTree). x.0.upper) (sym still))));
       steps = subst (λ (x : MyTree). OnlySteps z 0 m.0.upper x.0.upper) (sym still)
           (steps_both m.0.upper k.0.upper n.0.upper inv.steps c.look_ahead.ensures.steps);
+      no_join = ap (λ (x : MyTree). x.0.upper.joins) still ∙ (c.look_ahead.ensures.no_join ∙ inv.no_join);
       met = subst (λ (x : MyTree). AreMet c.look_ahead.new.account.met.numbers x.0.upper.ranges.unfinished) (sym still) c.look_ahead.ensures.met;
       counted = subst (λ (x : MyTree). IsSpentOn c.args.account.now.spent spent m x) (sym still)
           (on_both c.args.account.now.spent c.loop-left.account.spent spent m k n inv.counted c.look_ahead.ensures.counted);
@@ -105,3 +107,13 @@ loop-left-preserved c = let b = c.in-Next.ensures.ahead in let still = c.is_of.e
       far = subst (λ (x : MyTree). reach m.0.upper ≤ reach x.0.upper) (sym still)
           (let more = next_farther z c.args.range c.loop-left.left c.in-Next.next k.0.upper n.0.upper inv.at.at b in let far = inv.far in omega arith);
     }
+
+pub returns-in-Over-clause-no_join : goal.returns-in-Over-clause-no_join
+returns-in-Over-clause-no_join c = c.look_ahead.ensures.no_join ∙ c.loop-left.invariant.no_join
+
+pub returns-in-Whole-clause-no_join : goal.returns-in-Whole-clause-no_join
+returns-in-Whole-clause-no_join c = c.look_ahead.ensures.no_join ∙ c.loop-left.invariant.no_join
+
+pub returns-then-not-is_of-clause-no_join : goal.returns-then-not-is_of-clause-no_join
+returns-then-not-is_of-clause-no_join c = ap (λ (x : MyTree). x.0.upper.joins) c.is_of.ensures.frame.still
+    ∙ (c.look_ahead.ensures.no_join ∙ c.loop-left.invariant.no_join)

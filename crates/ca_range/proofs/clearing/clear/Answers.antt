@@ -2,6 +2,7 @@ use Rattle.std.proofs.Common.{◌≡◌, ◌≢◌, ◌≤◌, true, false, sym,
 use Rattle.ca_base.specs.Counting.{HasMet}
 use Rattle.ca_base.specs.Putting.{first_note}
 use Rattle.ca_model.specs.declared.outcome.Spent.{Spent}
+use Rattle.ca_node.specs.LoneStays.{none_by_quiet}
 use Rattle.ca_node.specs.Row.{IsMarkedBy}
 use Rattle.ca_node.specs.Told.{MyTree, IsSettled}
 use Rattle.ca_node.specs.TreeView.{Note, TreeView}
@@ -9,8 +10,8 @@ use Rattle.ca_rows.specs.declared.sizes.Sizes.{Sizes}
 use Rattle.ca_range.specs.Ahead.{IsAtLast}
 use Rattle.ca_range.specs.Clearing.{LearnsOfRanges, none_spent}
 use Rattle.ca_range.specs.Meeting.{AreMet}
-use Rattle.ca_range.specs.Spending.{IsSpentOn}
-use Rattle.ca_range.proofs.Learning.{has_gone, keeps_then, learns, noted_then, notes_then, other_then, raised_then, settled_now, steps_then}
+use Rattle.ca_base.specs.Spending.{IsSpentOn}
+use Rattle.ca_range.proofs.Learning.{has_gone, keeps_then, learns, no_join_then, noted_then, notes_then, other_then, raised_then, settled_now, steps_then}
 use Rattle.ca_range.proofs.Readied.{ready_still, stays_then}
 use Rattle.ca_range.proofs.Spends.{on_both}
 use Rattle.ca_range.proofs.Stepping.{steps_both}
@@ -98,7 +99,9 @@ returns c = let w = c.watch-state.ensures.watched in let z = c.args.space.now.ta
       cleared = record {
         frame = stays_then c.args.space.now c.args.pass.now c.watch-state.new.pass c.help_ranges-helped.new.pass
             (keeps_then c.args.space.now.table.shared.key c.args.pass.now c.range_of.new.pass c.watch-state.new.pass c.in-Some.range.owner c.watch-state.ensures.watched.0
-            c.range_of.ensures.frame c.watch-state.ensures.frame c.watch-state.ensures.watched.2) up steps h.frame;
+            c.range_of.ensures.frame c.watch-state.ensures.frame c.watch-state.ensures.watched.2) up
+            (no_join_then z c.args.pass.now c.range_of.new.pass c.watch-state.new.pass c.in-Some.range.owner w.0 c.range_of.ensures.frame
+            c.watch-state.ensures.frame w.2) steps h.frame;
         steps = steps_both m.0.upper l.0.upper n.0.upper steps h.steps;
         counted = all;
         gone = has_gone z c.in-Some.range c.args.budget c.help_ranges-helped.new.account.spent m l n c.requires.budget
@@ -118,3 +121,7 @@ returns-in_default c = record {
   cleared = cleared_behind c.args.space.now c.args.pass.now c.range_of.new.pass c.clear_of_join.new.pass c.clear_of_join.result c.range_of.ensures.frame
       c.clear_of_join.ensures.cleared;
 }
+
+pub clear_of_join-requires-clause-other : goal.clear_of_join-requires-clause-other
+clear_of_join-requires-clause-other c = none_by_quiet c.range_of.new.pass.seat.me.0.upper.ranges.own
+    (ap (λ (x : MyTree). x.0.upper.ranges.own) c.range_of.ensures.frame.still ∙ c.requires.quiet)

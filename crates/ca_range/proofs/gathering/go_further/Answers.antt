@@ -78,7 +78,7 @@ returns-in-On g c = let few = c.requires.tuned.allowed.most_leaf in let leaf = c
       goes = goes_both c.args.space.now a a d p r t (goes_both c.args.space.now a a a p q r
           (goes_reads c.args.space.now a p q c.requires.ready c.look.ensures.frame)
           (goes_steps c.args.space.now a a q r (ready_reads c.args.space.now p q c.requires.ready c.look.ensures.frame) c.walk-next.ensures.frame raised
-          (steps_by_walk _ q.seat.me r.seat.me c.walk-next.result w)
+          (ap (λ (x : MyTree). x.0.upper.joins) w.now) (steps_by_walk _ q.seat.me r.seat.me c.walk-next.result w)
           (on_still a q.seat.me r.seat.me (ap losses w.now) (ap (λ (x : MyTree). x.0.upper.turns) w.now)))) c.go_to.ensures.goes;
       met = c.go_to.ensures.met;
       further = further_on g.F.Fn sought z (reach p.seat.me.0.upper) c.args.search.now.budget d c.go_to.result p.seat.me r.seat.me t.seat.me

@@ -6,7 +6,7 @@ use Rattle.ca_node.proofs.Tallies.{tallied_still}
 use Rattle.ca_range.specs.Farther.{reach}
 use Rattle.ca_range.specs.Filling.{HasStepped, IsCopyOf, step_lost}
 use Rattle.ca_range.specs.Marked.{IsNextTo, second_note}
-use Rattle.ca_range.specs.Spending.{IsSpentOn}
+use Rattle.ca_base.specs.Spending.{IsSpentOn}
 use Rattle.ca_range.specs.Staying.{OnlySteps}
 use Rattle.ca_range.specs.declared.account.Range.{Range}
 use Rattle.ca_range.proofs.Filled.{goes_to, last_shown, passed_on, stepped_after}
@@ -57,7 +57,7 @@ fill_gap-requires-clause-owner c = subst (λ (x : Range). (0 < x.owner) × (x.ow
 
 pub returns-in-Whole-clause-frame : goal.returns-in-Whole-clause-frame
 returns-in-Whole-clause-frame c = stays_then c.args.space.now c.args.pass.now c.go_along.new.pass c.decide.new.pass c.go_along.ensures.frame
-    c.go_along.ensures.raised c.go_along.ensures.steps c.decide.ensures.frame
+    c.go_along.ensures.raised c.go_along.ensures.no_join c.go_along.ensures.steps c.decide.ensures.frame
 
 pub returns-in-Before-clause-frame : goal.returns-in-Before-clause-frame
 returns-in-Before-clause-frame c = let still = c.mark_for-mark.ensures.frame.still in
@@ -66,7 +66,7 @@ returns-in-Before-clause-frame c = let still = c.mark_for-mark.ensures.frame.sti
       number = search rules;
       tally = λ t. c.fill_gap.ensures.frame.tally (tallied_still c.args.pass.now.tally c.mark_for-mark.new.pass.tally c.args.pass.now.seat.me.0.upper
           c.mark_for-mark.new.pass.seat.me.0.upper (c.mark_for-mark.ensures.frame.tally ∙ c.go_along.ensures.frame.tally)
-          (ap (λ (u : TreeView). u.splits) only) (ap (λ (u : TreeView). u.joins) only) t);
+          (ap (λ (u : TreeView). u.splits) only) (ap (λ (x : MyTree). x.0.upper.joins) still ∙ c.go_along.ensures.no_join) t);
       pin = (
         c.fill_gap.ensures.frame.pin.0 ∙ (ap (λ (x : MyTree). x.0.sizes) still ∙ ap (λ (x : MyTree). x.0.sizes) c.go_along.ensures.raised),
         c.fill_gap.ensures.frame.pin.1 ∙ (ap (λ (x : MyTree). x.0.pin) still ∙ ap (λ (x : MyTree). x.0.pin) c.go_along.ensures.raised),

@@ -5,7 +5,7 @@ use Rattle.ca_node.specs.TreeView.{Quiet}
 use Rattle.ca_range.specs.Ahead.{IsAtMarked}
 use Rattle.ca_range.specs.Farther.{reach, room}
 use Rattle.ca_range.specs.Meeting.{AreMet}
-use Rattle.ca_range.specs.Spending.{IsSpentOn}
+use Rattle.ca_base.specs.Spending.{IsSpentOn}
 use Rattle.ca_range.specs.Staying.{OnlySteps}
 use Rattle.ca_range.proofs.Filled.{IsHelpedNow}
 use Rattle.ca_range.proofs.helping.help_ranges.Given as goal

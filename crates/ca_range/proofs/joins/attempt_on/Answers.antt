@@ -3,6 +3,7 @@ use Rattle.ca_node.specs.Row.{mark_owner, mark_number}
 use Rattle.ca_node.specs.Told.{MyTree, IsShownWord}
 use Rattle.ca_rows.specs.declared.sizes.Sizes.{Sizes}
 use Rattle.ca_node.specs.Joining.{IsRemembered}
+use Rattle.ca_node.specs.Place.{IsLinkOf}
 use Rattle.ca_range.proofs.Basing.{base_word, some_word}
 use Rattle.ca_range.proofs.joins.attempt_on.Goals as goal
 
@@ -45,4 +46,5 @@ returns-clause-attempt c note s = let z = c.args.space.now.table.shared.key in l
         subst (λ (k : ℕ). IsRemembered u.ways k) (sym owner) h.0,
         subst (λ (k : ℕ). k ≤ z.rows) (sym owner) (subst (λ (y : Sizes). mark_owner note.its ≤ y.rows) c.requires.reading.own.1 h.1),
       ),
+      subst (λ (k : ℕ). IsLinkOf k note.place.link) (sym owner) h.2,
     )

@@ -1,15 +1,22 @@
-use Rattle.std.proofs.Common.{List, false, sym, subst}
+use Rattle.std.proofs.Common.{Option, List, false, sym, subst}
 use Rattle.ca_base.specs.Counting.{HasMet}
 use Rattle.ca_base.specs.Putting.{first_note}
 use Rattle.ca_model.specs.Edges.{bound_of}
 use Rattle.ca_node.specs.Told.{MyTree, IsSettled}
 use Rattle.ca_node.specs.TreeView.{Note}
+use Rattle.ca_range.specs.Attempts.{CountsJoin}
+use Rattle.ca_range.specs.Clearing.{HasGone}
+use Rattle.ca_range.specs.Filling.{IsUseOf}
 use Rattle.ca_range.specs.Looking.{IsFirst}
-use Rattle.ca_range.specs.Snapshots.{HasRun}
+use Rattle.ca_range.specs.Snapping.{snapped_so}
+use Rattle.ca_range.specs.Snapshots.{HasRun, HasSnapped}
+use Rattle.ca_range.specs.Using.{HasFoundOf}
+use Rattle.ca_range.specs.declared.account.Range.{Range}
+use Rattle.ca_range.specs.declared.sought.Snapped.{Snapped}
 use Rattle.ca_range.proofs.Filled.{last_shown, raised_met}
 use Rattle.ca_range.proofs.FirstBases.{first_still}
 use Rattle.ca_range.proofs.FirstRuns.{first_run}
-use Rattle.ca_range.proofs.SnapshotSteps.{met_on, more_turns, ranges_both, ranges_by_steps, refused_after, refused_so, snapped_after, spent_on, steps_on}
+use Rattle.ca_range.proofs.SnapshotSteps.{gone_snaps, met_on, more_turns, ranges_both, ranges_by_steps, refused_after, refused_so, snapped_after, spent_on, steps_on, walked_still}
 use Rattle.ca_range.proofs.Spends.{on_both}
 use Rattle.ca_range.proofs.snapping.snapshot.Goals as goal
 
@@ -22,29 +29,29 @@ returns-in-Done-clause-snapped g c = let z = c.args.space.now.table.shared.key i
       first_run g.F.Fn c.args.sought.now z k.0.upper c.walk_to_first-first.result c.in-Done.whole _ e.first e.has c.in-Done.ensures.looked,
     )
 
-pub returns-in-Some-clause-steps : goal.returns-in-Some-clause-steps
-returns-in-Some-clause-steps g c = let z = c.args.space.now.table.shared.key in let m = c.args.pass.now.seat.me in
+pub returns-in-Ok-Some-clause-steps : goal.returns-in-Ok-Some-clause-steps
+returns-in-Ok-Some-clause-steps g c = let z = c.args.space.now.table.shared.key in let m = c.args.pass.now.seat.me in
     let k = c.walk_to_first-first.new.pass.seat.me in let l = c.look.new.pass.seat.me in let n = c.range_in_use.new.pass.seat.me in
     let e = c.walk_to_first-first.ensures in
     ranges_both m.0.upper n.0.upper c.help_first.new.pass.seat.me.0.upper (ranges_by_steps m.0.upper n.0.upper
-    (steps_on z m k l n e.raised e.steps e.turns c.look.ensures.frame.still c.range_in_use.ensures.steps)) c.help_first.ensures.steps
+    (steps_on z m k l n e.raised e.steps e.turns c.look.ensures.frame.still c.in-Ok-Some.ensures.in_use.0.steps)) c.help_first.ensures.steps
 
-pub returns-in-Some-clause-counted : goal.returns-in-Some-clause-counted
-returns-in-Some-clause-counted g c = let z = c.args.space.now.table.shared.key in let m = c.args.pass.now.seat.me in
+pub returns-in-Ok-Some-clause-counted : goal.returns-in-Ok-Some-clause-counted
+returns-in-Ok-Some-clause-counted g c = let z = c.args.space.now.table.shared.key in let m = c.args.pass.now.seat.me in
     let k = c.walk_to_first-first.new.pass.seat.me in let l = c.look.new.pass.seat.me in let n = c.range_in_use.new.pass.seat.me in
     let e = c.walk_to_first-first.ensures in
     on_both c.args.account.now.spent c.range_in_use.new.account.spent c.help_first.new.account.spent m n c.help_first.new.pass.seat.me
     (spent_on z m k l n e.raised e.steps e.turns c.look.ensures.frame.still c.args.account.now.spent c.range_in_use.new.account.spent
     c.range_in_use.ensures.counted) c.help_first.ensures.counted
 
-pub returns-in-Some-clause-snapped : goal.returns-in-Some-clause-snapped
-returns-in-Some-clause-snapped g c = let z = c.args.space.now.table.shared.key in let m = c.args.pass.now.seat.me in
+pub returns-in-Ok-Some-clause-snapped : goal.returns-in-Ok-Some-clause-snapped
+returns-in-Ok-Some-clause-snapped g c = let z = c.args.space.now.table.shared.key in let m = c.args.pass.now.seat.me in
     let k = c.walk_to_first-first.new.pass.seat.me in let l = c.look.new.pass.seat.me in let n = c.range_in_use.new.pass.seat.me in
     let e = c.walk_to_first-first.ensures in let still = c.look.ensures.frame.still in
     let last = c.help_first.new.pass.seat.me in let spent = c.help_first.new.account.spent in
     refused_so g.F.Fn c.args.sought.now z c.args.budget spent c.help_first.result m last
     (refused_after c.args.budget spent c.help_first.result m n last
-    (met_on z m k l n e.raised e.steps e.turns still c.range_in_use.ensures.raised)
+    (met_on z m k l n e.raised e.steps e.turns still c.in-Ok-Some.ensures.in_use.0.raised)
     (more_turns c.args.account.now.spent c.range_in_use.new.account.spent m n
     (spent_on z m k l n e.raised e.steps e.turns still c.args.account.now.spent c.range_in_use.new.account.spent
     c.range_in_use.ensures.counted)) c.help_first.ensures.refused)
@@ -52,22 +59,25 @@ returns-in-Some-clause-snapped g c = let z = c.args.space.now.table.shared.key i
 pub begin_range-requires-clause-first : goal.begin_range-requires-clause-first
 begin_range-requires-clause-first g c = let z = c.args.space.now.table.shared.key in let e = c.walk_to_first-first.ensures in
     let cursor = c.walk_to_first-first.result in
-    let lo = bound_of c.args.sought.now.lo in first_still z lo c.look.new.pass.seat.me.0.upper c.range_in_use.new.pass.seat.me.0.upper cursor c.range_in_use.ensures.all
-    c.range_in_use.ensures.steps.known (subst (λ (x : MyTree). IsFirst z lo x.0.upper cursor) (sym c.look.ensures.frame.still) e.first)
+    let lo = bound_of c.args.sought.now.lo in
+    first_still z lo c.look.new.pass.seat.me.0.upper c.range_in_use.new.pass.seat.me.0.upper cursor c.in-Ok-None.ensures.in_use.0.all
+    c.in-Ok-None.ensures.in_use.0.steps.known (subst (λ (x : MyTree). IsFirst z lo x.0.upper cursor) (sym c.look.ensures.frame.still) e.first)
 
 pub begin_range-requires-clause-settled : goal.begin_range-requires-clause-settled
 begin_range-requires-clause-settled g c = let z = c.args.space.now.table.shared.key in let l = c.look.new.pass.seat.me in
     let cursor = c.walk_to_first-first.result in
     let first = subst (λ (x : MyTree). IsFirst z (bound_of c.args.sought.now.lo) x.0.upper cursor) (sym c.look.ensures.frame.still) c.walk_to_first-first.ensures.first in
-    subst (λ (ns : List Note). IsSettled c.range_in_use.new.pass.seat.me.0.upper (first_note ns).its) (sym c.range_in_use.ensures.all.notes)
-    (c.in_default-range_in_use.ensures.in_use (first_note l.0.upper.notes) (last_shown z l.0.upper cursor first.gone.at))
+    let h = subst (λ (r : Option Range). HasFoundOf c.args.space.now cursor.base (λ w note. IsUseOf w note r) c.look.new.pass c.range_in_use.new.pass)
+    c.in-Ok-None.field-0-is c.in-Ok-None.ensures.in_use in
+    subst (λ (ns : List Note). IsSettled c.range_in_use.new.pass.seat.me.0.upper (first_note ns).its) (sym h.0.all.notes)
+    (h.1 (first_note l.0.upper.notes) (last_shown z l.0.upper cursor first.gone.at))
 
 pub returns-clause-steps : goal.returns-clause-steps
 returns-clause-steps g c = let z = c.args.space.now.table.shared.key in let m = c.args.pass.now.seat.me in
     let k = c.walk_to_first-first.new.pass.seat.me in let l = c.look.new.pass.seat.me in let n = c.range_in_use.new.pass.seat.me in
     let e = c.walk_to_first-first.ensures in
     ranges_both m.0.upper n.0.upper c.begin_range.new.pass.seat.me.0.upper (ranges_by_steps m.0.upper n.0.upper
-    (steps_on z m k l n e.raised e.steps e.turns c.look.ensures.frame.still c.range_in_use.ensures.steps)) c.begin_range.ensures.steps
+    (steps_on z m k l n e.raised e.steps e.turns c.look.ensures.frame.still c.in-Ok-None.ensures.in_use.0.steps)) c.begin_range.ensures.steps
 
 pub returns-clause-counted : goal.returns-clause-counted
 returns-clause-counted g c = let z = c.args.space.now.table.shared.key in let m = c.args.pass.now.seat.me in
@@ -83,7 +93,32 @@ returns-clause-snapped g c = let z = c.args.space.now.table.shared.key in let m 
     let e = c.walk_to_first-first.ensures in let still = c.look.ensures.frame.still in
     let last = c.begin_range.new.pass.seat.me in let spent = c.begin_range.new.account.spent in
     snapped_after g.F.Fn c.args.sought.now z c.args.budget spent c.begin_range.result m n last
-    (met_on z m k l n e.raised e.steps e.turns still c.range_in_use.ensures.raised)
+    (met_on z m k l n e.raised e.steps e.turns still c.in-Ok-None.ensures.in_use.0.raised)
     (more_turns c.args.account.now.spent c.range_in_use.new.account.spent m n
     (spent_on z m k l n e.raised e.steps e.turns still c.args.account.now.spent c.range_in_use.new.account.spent
     c.range_in_use.ensures.counted)) c.begin_range.ensures.snapped
+
+pub returns-in-Err-clause-steps : goal.returns-in-Err-clause-steps
+returns-in-Err-clause-steps g c = let z = c.args.space.now.table.shared.key in let m = c.args.pass.now.seat.me in
+    let k = c.walk_to_first-first.new.pass.seat.me in let l = c.look.new.pass.seat.me in let n = c.range_in_use.new.pass.seat.me in
+    let e = c.walk_to_first-first.ensures in
+    ranges_by_steps m.0.upper n.0.upper (steps_on z m k l n e.raised e.steps e.turns c.look.ensures.frame.still c.in-Err.ensures.in_use.steps)
+
+pub returns-in-Err-clause-counted : goal.returns-in-Err-clause-counted
+returns-in-Err-clause-counted g c = let z = c.args.space.now.table.shared.key in let m = c.args.pass.now.seat.me in
+    let k = c.walk_to_first-first.new.pass.seat.me in let l = c.look.new.pass.seat.me in let n = c.range_in_use.new.pass.seat.me in
+    let e = c.walk_to_first-first.ensures in
+    spent_on z m k l n e.raised e.steps e.turns c.look.ensures.frame.still c.args.account.now.spent c.range_in_use.new.account.spent
+    c.range_in_use.ensures.counted
+
+pub returns-in-Err-clause-snapped : goal.returns-in-Err-clause-snapped
+returns-in-Err-clause-snapped g c = let z = c.args.space.now.table.shared.key in let m = c.args.pass.now.seat.me in
+    let k = c.walk_to_first-first.new.pass.seat.me in let l = c.look.new.pass.seat.me in let n = c.range_in_use.new.pass.seat.me in
+    let e = c.walk_to_first-first.ensures in let f = c.in-Err.ensures.in_use in let still = c.look.ensures.frame.still in
+    let spent = c.range_in_use.new.account.spent in
+    subst (λ (s : Snapped). HasSnapped g.F.Fn c.args.sought.now z c.args.budget spent s m n) (sym c.after_help.ensures)
+    (snapped_after g.F.Fn c.args.sought.now z c.args.budget spent (snapped_so c.in-Err.helped) m k n
+    (raised_met m k k.0.upper e.raised)
+    (more_turns c.args.account.now.spent c.args.account.now.spent m k (walked_still z m k l n e.raised e.steps e.turns still c.args.account.now.spent))
+    (gone_snaps g.F.Fn c.args.sought.now z c.args.budget spent c.in-Err.helped k n
+    (subst (λ (x : MyTree). HasGone c.in-Err.helped x n) still f.gone) (subst (λ (x : MyTree). CountsJoin c.in-Err.helped x n) still f.counts)))

@@ -1,72 +1,44 @@
-use Rattle.std.proofs.Common.{◌≡◌, ◌<◌, ℕ, true, false, sym, ap, ◌∙◌, subst, inr}
-use Rattle.ca_node.specs.Links.{IsIn}
+use Rattle.std.proofs.Common.{◌≡◌, true, false, sym, ap, ◌∙◌, subst}
 use Rattle.ca_node.specs.Told.{MyTree}
-use Rattle.ca_range.specs.Staying.{OnlySteps}
-use Rattle.ca_range.specs.Attempts.{is_now}
-use Rattle.ca_range.proofs.JoinsEnded.{joined_borders, joined_steps}
-use Rattle.ca_range.proofs.Learning.{ranged_unjoined}
-use Rattle.ca_range.proofs.Stepping.{steps_by_word}
-use Rattle.ca_range.proofs.WordsWatched.{borders_by_word}
-use Rattle.ca_range.proofs.Watched.{met_by_word, over_now}
+use Rattle.ca_range.proofs.JoinsEnded.{none_still}
+use Rattle.ca_range.proofs.JoinsFinished.{finished_read}
+use Rattle.ca_range.proofs.Used.{found_free, found_over, found_used, only_watched}
 use Rattle.ca_range.proofs.using.use_of.Goals as goal
 
-pub returns-then-not-is_active-clause-steps : goal.returns-then-not-is_active-clause-steps
-returns-then-not-is_active-clause-steps c = let w = c.watch-state.ensures.watched in
-    subst (λ (x : MyTree). OnlySteps c.args.space.now.table.shared.key 0 x.0.upper c.watch-state.new.pass.seat.me.0.upper) c.range_of.ensures.frame.still
-    (steps_by_word c.in-Some.range.owner w.0 c.range_of.new.pass.seat.me c.watch-state.new.pass.seat.me w.2)
+pub returns-in-Unmarked-clause-used : goal.returns-in-Unmarked-clause-used
+returns-in-Unmarked-clause-used c = found_free c.args.space.now c.args.pass.now c.range_of.new.pass c.end_join.new.pass c.range_of.ensures.frame
+    c.args.cursor.base false c.in-Unmarked.ensures.ended c.in_default.ensures.range
 
-pub returns-then-not-is_active-clause-borders : goal.returns-then-not-is_active-clause-borders
-returns-then-not-is_active-clause-borders c = λ border i. let w = c.watch-state.ensures.watched in
-    borders_by_word c.in-Some.range.owner w.0 c.range_of.new.pass.seat.me c.watch-state.new.pass.seat.me w.2 border
-    (subst (λ (x : MyTree). IsIn border x.0.upper.ranges.borders) (sym c.range_of.ensures.frame.still) i)
+pub returns-in-Before-clause-used : goal.returns-in-Before-clause-used
+returns-in-Before-clause-used c = found_free c.args.space.now c.args.pass.now c.range_of.new.pass c.end_join.new.pass c.range_of.ensures.frame
+    c.args.cursor.base false c.in-Before.ensures.ended c.in_default.ensures.range
+
+pub returns-in-Now-clause-used : goal.returns-in-Now-clause-used
+returns-in-Now-clause-used c = found_free c.args.space.now c.args.pass.now c.range_of.new.pass c.end_join.new.pass c.range_of.ensures.frame
+    c.args.cursor.base true c.in-Now.ensures.ended c.in_default.ensures.range
+
+pub returns-in-Gone-clause-used : goal.returns-in-Gone-clause-used
+returns-in-Gone-clause-used c = finished_read c.args.space.now c.in-Gone.helped c.args.pass.now c.range_of.new.pass c.end_join.new.pass
+    c.range_of.ensures.frame c.in-Gone.ensures.ended
 
 pub returns-then-not-is_active-clause-used : goal.returns-then-not-is_active-clause-used
-returns-then-not-is_active-clause-used c note s = let w = c.watch-state.ensures.watched in let r = c.in-Some.ensures.range note s in
-    let m = c.range_of.new.pass.seat.me in
-    let over = over_now c.in-Some.range m c.watch-state.new.pass.seat.me w.0 note w.2
-    (subst (λ (x : MyTree). IsIn note x.0.upper.notes) (sym c.range_of.ensures.frame.still) s.noted) r.0
-    (λ on. let no : false ≡ true = sym c.if-not-is_active.true ∙ (c.is_active.ensures w.0 w.1).1 on in cc) in (
-      inr (over.0, over.1, r.0.1 ∙ sym over.2, subst (λ (n : ℕ). n < over.0.below) (sym r.0.2) over.3),
-      ranged_unjoined c.watch-state.new.pass.seat.me.0.upper note.its r.0.0,
-    )
+returns-then-not-is_active-clause-used c = let w = c.watch-state.ensures.watched in
+    found_over c.args.space.now c.args.pass.now c.range_of.new.pass c.watch-state.new.pass c.range_of.ensures.frame c.in-Some.range w.0
+    c.watch-state.ensures.frame w.2 c.args.cursor.base (λ note s. (c.in-Some.ensures.range note s).0)
+    (λ on. let no : false ≡ true = sym c.if-not-is_active.true ∙ (c.is_active.ensures w.0 w.1).1 on in cc)
 
-pub returns-then-range-number-clause-steps : goal.returns-then-range-number-clause-steps
-returns-then-range-number-clause-steps c = let w = c.watch-state.ensures.watched in
-    subst (λ (x : MyTree). OnlySteps c.args.space.now.table.shared.key 0 x.0.upper c.watch-state.new.pass.seat.me.0.upper) c.range_of.ensures.frame.still
-    (steps_by_word c.in-Some.range.owner w.0 c.range_of.new.pass.seat.me c.watch-state.new.pass.seat.me w.2)
-
-pub returns-then-range-number-clause-borders : goal.returns-then-range-number-clause-borders
-returns-then-range-number-clause-borders c = λ border i. let w = c.watch-state.ensures.watched in
-    borders_by_word c.in-Some.range.owner w.0 c.range_of.new.pass.seat.me c.watch-state.new.pass.seat.me w.2 border
-    (subst (λ (x : MyTree). IsIn border x.0.upper.ranges.borders) (sym c.range_of.ensures.frame.still) i)
-
-pub returns-else-range-number-clause-steps : goal.returns-else-range-number-clause-steps
-returns-else-range-number-clause-steps c = let w = c.watch-state.ensures.watched in
-    subst (λ (x : MyTree). OnlySteps c.args.space.now.table.shared.key 0 x.0.upper c.watch-state.new.pass.seat.me.0.upper) c.range_of.ensures.frame.still
-    (steps_by_word c.in-Some.range.owner w.0 c.range_of.new.pass.seat.me c.watch-state.new.pass.seat.me w.2)
-
-pub returns-else-range-number-clause-borders : goal.returns-else-range-number-clause-borders
-returns-else-range-number-clause-borders c = λ border i. let w = c.watch-state.ensures.watched in
-    borders_by_word c.in-Some.range.owner w.0 c.range_of.new.pass.seat.me c.watch-state.new.pass.seat.me w.2 border
-    (subst (λ (x : MyTree). IsIn border x.0.upper.ranges.borders) (sym c.range_of.ensures.frame.still) i)
+pub returns-then-range-number-clause-used : goal.returns-then-range-number-clause-used
+returns-then-range-number-clause-used c = let w = c.watch-state.ensures.watched in
+    only_watched c.args.space.now c.args.pass.now c.range_of.new.pass c.watch-state.new.pass c.range_of.ensures.frame c.in-Some.range w.0
+    c.watch-state.ensures.frame w.2
 
 pub returns-else-range-number-clause-used : goal.returns-else-range-number-clause-used
-returns-else-range-number-clause-used c note s = let w = c.watch-state.ensures.watched in let r = c.in-Some.ensures.range note s in
-    let on = (c.is_active.ensures w.0 w.1).0 c.if-not-is_active.false in let m = c.range_of.new.pass.seat.me in
-    let n = c.watch-state.new.pass.seat.me in
+returns-else-range-number-clause-used c = let w = c.watch-state.ensures.watched in let on = (c.is_active.ensures w.0 w.1).0 c.if-not-is_active.false in
     let is = sym c.requires.number ∙ sym (c.number.ensures ∙ (c.watch-state.ensures.frame.number ∙ c.range_of.ensures.frame.number)) in
-    let other = λ (own : c.in-Some.range.owner ≡ m.0.upper.number).
-    c.if-range-number.false (own ∙ (ap (λ (x : MyTree). x.0.upper.number) c.range_of.ensures.frame.still ∙ is)) in record {
-      marked = r.0;
-      unfinished = met_by_word c.in-Some.range m n w.0 w.2 on other;
-      other = (r.1, r.2, λ own. other (own ∙ ap (λ (x : MyTree). x.0.upper.number) w.2.now));
-    }
+    found_used c.args.space.now c.args.pass.now c.range_of.new.pass c.watch-state.new.pass c.range_of.ensures.frame c.in-Some.range w.0
+    c.watch-state.ensures.frame w.2 c.args.cursor.base c.in-Some.ensures.range on
+    (λ own. c.if-range-number.false (own ∙ (ap (λ (x : MyTree). x.0.upper.number) c.range_of.ensures.frame.still ∙ is)))
 
-pub returns-in_default-clause-steps : goal.returns-in_default-clause-steps
-returns-in_default-clause-steps c = let e = c.end_join.ensures in let m = c.range_of.new.pass.seat.me in let n = c.end_join.new.pass.seat.me in
-    subst (λ (x : MyTree). OnlySteps c.args.space.now.table.shared.key 0 x.0.upper n.0.upper) c.range_of.ensures.frame.still
-    (joined_steps c.args.space.now.table.shared.key (is_now c.end_join.result) m n e.learnt)
-
-pub returns-in_default-clause-borders : goal.returns-in_default-clause-borders
-returns-in_default-clause-borders c border i = joined_borders (is_now c.end_join.result) c.range_of.new.pass.seat.me c.end_join.new.pass.seat.me
-    c.end_join.ensures.learnt border (subst (λ (x : MyTree). IsIn border x.0.upper.ranges.borders) (sym c.range_of.ensures.frame.still) i)
+pub end_join-requires-clause-other : goal.end_join-requires-clause-other
+end_join-requires-clause-other c = none_still c.args.pass.now.seat.me.0.upper.ranges.own c.range_of.new.pass.seat.me.0.upper.ranges.own
+    (ap (λ (x : MyTree). x.0.upper.ranges.own) c.range_of.ensures.frame.still) c.requires.other
