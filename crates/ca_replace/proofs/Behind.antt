@@ -18,10 +18,10 @@ use Rattle.ca_replace.specs.Growing.{HasGrown}
 use Rattle.ca_replace.specs.Looking.{HasLooked}
 use Rattle.ca_replace.specs.Turning.{IsTurn}
 use Rattle.ca_replace.specs.Winning.{HasWon}
-use Rattle.ca_replace.proofs.Counted.{none_paid, stopped_behind}
+use Rattle.ca_replace.proofs.Counted.{none_paid, stopped_behind, paid_but}
 use Rattle.ca_replace.proofs.Cutting.{entered_cut, looked_cut}
 use Rattle.ca_replace.proofs.Entries.{held_looked, held_upper}
-use Rattle.ca_replace.proofs.GoingOn.{adapts_after, entered_waits, gone_after, paid_behind}
+use Rattle.ca_replace.proofs.GoingOn.{adapts_after, entered_waits, gone_after, paid_behind, paid_looked}
 use Rattle.ca_replace.proofs.Growing.{alone_on, entered_grown, looked_grown}
 use Rattle.ca_replace.proofs.Numbering.{numbered_as}
 use Rattle.ca_replace.proofs.Tallies.{tallied_read}
@@ -132,8 +132,9 @@ module _ {R : Type 0} {space : Space R TreeView} {key : List ℕ} {cursor : Curs
           gone_on = subst (λ b. Goes b z t a.adapting a.adapting u v) (sym idle)
               (entered_waits a.adapting u mid.seat.me.0.upper mid.seat.me new.seat.me event refl
               l.quiet.idle e);
-          counted = none_paid a.spent pass.seat.me new.seat.me (ap losses e.now ∙ l.quiet.lost)
-              (ap (λ (m : MyTree). m.0.upper.turns) e.now ∙ l.quiet.same_turns);
+          counted = paid_but a.spent a.spent pass.seat.me new.seat.me
+              (none_paid a.spent pass.seat.me new.seat.me (ap losses e.now ∙ l.quiet.lost)
+              (ap (λ (m : MyTree). m.0.upper.turns) e.now ∙ l.quiet.same_turns));
           found = tt;
           grown = λ alone. entered_grown pass.seat.me mid.seat.me new.seat.me event l.quiet e;
           won = λ alone. subst (λ b. HasWon b u v) (sym idle)
@@ -154,7 +155,7 @@ module _ {R : Type 0} {space : Space R TreeView} {key : List ℕ} {cursor : Curs
               (λ b'. IfTrue b' (IsCauseMet b.adapting.last.adapted met v)) (sym did) i.met_as;
           gone_on = subst (λ b'. Goes b' z t a.adapting b.adapting u v) (sym did)
               (adapts_after z t a.adapting b.adapting.last u w v l.quiet.idle i.gone_on);
-          counted = paid_behind a.spent b.spent pass.seat.me mid.seat.me new.seat.me l.quiet
+          counted = paid_looked {T = Unit {0}} {E = Halt} (Ok tt) a.spent b.spent pass.seat.me mid.seat.me new.seat.me l.quiet
               i.counted;
           found = tt;
           grown = looked_grown {T = Unit {0}} z adds (Ok tt) pass.seat.me mid.seat.me v known
@@ -174,7 +175,7 @@ module _ {R : Type 0} {space : Space R TreeView} {key : List ℕ} {cursor : Curs
           met_as = i.met_as;
           gone_on = gone_after (λ (_ : Unit {0}). true) z t a.adapting b.adapting r u w v
               l.quiet.idle i.gone_on;
-          counted = paid_behind a.spent b.spent pass.seat.me mid.seat.me new.seat.me l.quiet
+          counted = paid_looked r a.spent b.spent pass.seat.me mid.seat.me new.seat.me l.quiet
               i.counted;
           found = stopped_behind r pass.seat.me mid.seat.me new.seat.me l.quiet i.found;
           grown = looked_grown z adds r pass.seat.me mid.seat.me v known l.looking.known l.further

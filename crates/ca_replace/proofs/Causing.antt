@@ -66,7 +66,7 @@ pub record EndsSo {T : Type 0} (z : Sizes) (budget : ℕ) (adds : Option (List �
   pub full : tried ≡ Err (halt.Stopped stop.Empty) → ⊥
   pub deep : tried ≡ Err halt.Deep → IsFullSince z adds m'.0.upper
   pub lost : HasNext tried → budget ≤ total now
-  pub paid : HasSpentInAll now m m'
+  pub paid : (why : Halt) → tried ≡ Err why → HasSpentInAll now m m'
   pub worn : tried ≡ Err (halt.Stopped stop.Worn) → m'.0.worn ≡ m.0.worn + 1
 
 -- A call that is refused for the turns that it spent.
@@ -89,7 +89,7 @@ caused : {T : Type 0} (z : Sizes) (number budget : ℕ) (adds : Option (List ℕ
     → IfErr (refused_as tried now levels) (λ why. IsCaused z number budget adds why m kept m' kept')
 caused z number budget adds (Ok x) now levels m m' kept kept' same e = tt
 caused z number budget adds (Err (halt.Stopped (stop.Lost x))) now levels m m' kept kept' same e =
-    busy budget now m m' (e.lost tt) e.paid
+    busy budget now m m' (e.lost tt) (e.paid _ refl)
 caused z number budget adds (Err (halt.Stopped stop.Empty)) now levels m m' kept kept' same e =
     absurd (e.full refl)
 caused z number budget adds (Err (halt.Stopped stop.Worn)) now levels m m' kept kept' same e =
@@ -97,9 +97,9 @@ caused z number budget adds (Err (halt.Stopped stop.Worn)) now levels m m' kept 
 caused z number budget adds (Err halt.Deep) now levels m m' kept kept' same e =
     (same, e.deep refl)
 caused z number budget adds (Err halt.Split) now levels m m' kept kept' same e =
-    busy budget now m m' (e.lost tt) e.paid
+    busy budget now m m' (e.lost tt) (e.paid _ refl)
 caused z number budget adds (Err halt.Helped) now levels m m' kept kept' same e =
-    busy budget now m m' (e.lost tt) e.paid
+    busy budget now m m' (e.lost tt) (e.paid _ refl)
 
 -- So the call is refused, given what was spent, and how many levels there are.
 abbrev pub HasRefused : {T : Type 0} → Sizes → Result T Halt → Spent → Result T Cause → Type 0

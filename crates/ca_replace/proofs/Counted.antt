@@ -1,16 +1,17 @@
 -- What calls count, from one attempt to the next.
-use Rattle.std.proofs.Common.{◌≡◌, ◌⊎◌, ℕ, ◌+◌, ◌-◌, ◌<◌, ◌≤◌, min, Result, Ok, Err, ap, inl, inr, ⊎_elim, arith}
+use Rattle.std.proofs.Common.{◌≡◌, ◌⊎◌, ℕ, ◌+◌, ◌-◌, ◌<◌, ◌≤◌, min, Result, Ok, Err, ap, subst, inl, inr, ⊎_elim, arith}
 use Rattle.ca_base.specs.declared.stop.Stop.TheVariants as stop
 use Rattle.ca_replace.specs.declared.attempting.Halt.{Halt}
 use Rattle.ca_replace.specs.declared.attempting.Halt.TheVariants as halt
 use Rattle.ca_model.specs.declared.outcome.Spent.{Spent}
 use Rattle.ca_base.specs.Counting.{losses, HasMet, IsSpent}
 use Rattle.ca_base.proofs.Counts.{met_both}
+use Rattle.ca_base.specs.Spending.{RisesBy}
 use Rattle.ca_model.specs.Event.{Event}
 use Rattle.ca_node.specs.Told.{MyTree, IsEntered}
 use Rattle.ca_node.specs.TreeView.{TreeView, Turns}
 use Rattle.ca_range.specs.Clearing.{turns_at}
-use Rattle.ca_replace.specs.Attempting.{helps, passes, total, HasHalted, HasNext, HasStopped, IsPaid, IsQuiet, MayFollow}
+use Rattle.ca_replace.specs.Attempting.{helps, passes, total, HasHalted, HasNext, HasStopped, IsPaid, IsPaidBut, IsPaidTo, IsQuiet, MayFollow}
 
 -- Nothing was met.
 pub none_met : (m : MyTree) → HasMet 0 0 m m
@@ -63,6 +64,47 @@ paid_both a b c k m n x y = let more = x.more in let more' = y.more in
       more_passed = omega arith;
       passed = λ fits. let one = x.passed fits in let two = y.passed (omega arith) in omega arith;
     }
+
+-- Of what was paid, what isn't help.
+pub paid_but : (a b : Spent) (m m' : MyTree) → IsPaid a b m m' → IsPaidBut a b m m'
+paid_but a b m m' x = record {
+  lost = record { more = x.more; now_is = x.lost };
+  passed = record { more = x.more_passed; now_is = x.passed };
+}
+
+-- So it is in two parts.
+rises_both : (a b c k m n : ℕ) → RisesBy a b k m → RisesBy b c m n → RisesBy a c k n
+rises_both a b c k m n x y = let up = x.more in let up' = y.more in record {
+  more = omega arith;
+  now_is = λ fits. let one = x.now_is fits in let two = y.now_is (omega arith) in omega arith;
+}
+
+but_both : (a b c : Spent) (k m n : MyTree) → IsPaidBut a b k m → IsPaidBut b c m n → IsPaidBut a c k n
+but_both a b c k m n x y = record {
+  lost = rises_both a.lost b.lost c.lost (losses k) (losses m) (losses n) x.lost y.lost;
+  passed = rises_both a.passed b.passed c.passed (passes k) (passes m) (passes n) x.passed y.passed;
+}
+
+-- So it is by what an attempt comes to: with what was paid before it, or behind it.
+pub paid_to : {T E : Type 0} (r : Result T E) (a b : Spent) (m m' : MyTree) → IsPaid a b m m' → IsPaidTo r a b m m'
+paid_to (Ok x) a b m m' h = paid_but a b m m' h
+paid_to (Err why) a b m m' h = h
+
+pub paid_before : {T E : Type 0} (r : Result T E) (a b c : Spent) (k m n : MyTree) → IsPaid a b k m → IsPaidTo r b c m n → IsPaidTo r a c k n
+paid_before (Ok x) a b c k m n h t = but_both a b c k m n (paid_but a b k m h) t
+paid_before (Err why) a b c k m n h t = paid_both a b c k m n h t
+
+pub paid_after : {T E : Type 0} (r : Result T E) (a b c : Spent) (k m n : MyTree) → IsPaidTo r a b k m → IsPaid b c m n → IsPaidTo r a c k n
+paid_after (Ok x) a b c k m n t h = but_both a b c k m n t (paid_but b c m n h)
+paid_after (Err why) a b c k m n t h = paid_both a b c k m n t h
+
+pub paid_stopped : {T E : Type 0} (r : Result T E) (why : E) (a b : Spent) (m m' : MyTree) → r ≡ Err why → IsPaidTo r a b m m' → IsPaid a b m m'
+paid_stopped {T} {E} r why a b m m' e h = subst (λ (x : Result T E). IsPaidTo x a b m m') e h
+
+-- An attempt behind which another one may follow did not do the call.
+pub paid_turn : {T : Type 0} (r : Result T Halt) (a b : Spent) (m m' : MyTree) → HasNext r → IsPaidTo r a b m m' → IsPaid a b m m'
+paid_turn (Ok x) a b m m' next h = absurd next
+paid_turn (Err why) a b m m' next h = h
 
 -- Nothing was paid.
 pub none_paid : (a : Spent) (m m' : MyTree) → losses m' ≡ losses m

@@ -56,7 +56,7 @@ still_met m m' met lost e = subst
     (met_nothing m m met lost refl (none_met m) refl refl)
 
 -- As the pass had walked to the key of its update, nothing had been met since.
-walked_met : (z : Sizes) (key : Bor (List ℕ)) (placed : ℕ) (k m : MyTree) (cursor : Cursor)
+pub walked_met : (z : Sizes) (key : Bor (List ℕ)) (placed : ℕ) (k m : MyTree) (cursor : Cursor)
     → IsNew placed key.now (met_of k) k.0.upper → IsWalked z (spot.At key) k cursor m
     → (met_of m ≡ m.0.upper.renewal.met) × (m.0.upper.lost ≡ m.0.upper.renewal.lost)
 walked_met z key placed k m cursor new w = (
@@ -102,11 +102,11 @@ split_met z key placed note adapted.Split k m m' cursor new w h once = let e = h
     met_nothing m m' (walked_met z key placed k m cursor new w).0
     (walked_met z key placed k m cursor new w).1
     (ap (λ (u : TreeView). u.renewal) e) h.1 (ap (λ (u : TreeView). u.lost) e) (once refl)
-split_met z key placed note adapted.Joined k m m' cursor new w h once = tt
+split_met z key placed note adapted.Joined k m m' cursor new w h once = absurd h
 split_met z key placed note (adapted.NotSplit r) k m m' cursor new w h once =
     split_met_by z note r m m' (walked_met z key placed k m cursor new w).0
     (walked_met z key placed k m cursor new w).1 h
-split_met z key placed note (adapted.NotJoined r) k m m' cursor new w h once = tt
+split_met z key placed note (adapted.NotJoined r) k m m' cursor new w h once = absurd h
 
 -- Where nothing was tried nothing was met since the update: neither as it was carried out, nor behind
 -- the walk to its key.

@@ -36,10 +36,10 @@ use Rattle.ca_model.specs.declared.outcome.Outcome.{Outcome}
 use Rattle.ca_model.specs.declared.outcome.Cause.{Cause}
 use Rattle.ca_model.specs.declared.outcome.Cause.TheVariants as cause
 use Rattle.ca_replace.specs.Refusals.{outcome_by}
-use Rattle.ca_replace.specs.Adapting.{Adapts, Goes, HasGoneOn, HasLookedAgain, HasLostSince, IsCauseMetInCall, HasSettled, HasTriedOnce, IsAdapted, IsMoved, IsNew, IsReason, Leaves, LeavesInCall, Waits, noted}
-use Rattle.ca_replace.specs.Attempting.{HasNext, HasStopped, HasTriedTo, IsPaid, IsQuiet, come_to, refused_as}
+use Rattle.ca_replace.specs.Adapting.{Adapts, Goes, HasGoneOn, HasLookedAgain, HasLostSince, IsCauseMetInCall, HasSettled, HasTriedOnce, HasWalkedThere, IsAdapted, IsMoved, IsNew, IsReason, Leaves, LeavesInCall, Waits, noted}
+use Rattle.ca_replace.specs.Attempting.{HasNext, HasStopped, HasTriedTo, IsPaid, IsPaidTo, IsQuiet, come_to, refused_as}
 use Rattle.ca_replace.proofs.Settling.{IsSettling}
-use Rattle.ca_replace.proofs.Counted.{none_paid, paid_both, paid_of}
+use Rattle.ca_replace.proofs.Counted.{none_paid, paid_before, paid_both, paid_of}
 use Rattle.ca_replace.proofs.Meeting.{further_on}
 use Rattle.ca_replace.proofs.Showing.{looking, stopped_by, stopped_same, tried_by, walked_further}
 use Rattle.ca_replace.proofs.Turns.{tried_known}
@@ -110,6 +110,11 @@ pub paid_behind : (a b : Spent) (m m' m'' : MyTree) → IsQuiet m m' → IsPaid 
 paid_behind a b m m' m'' quiet paid =
     paid_both a a b m m' m'' (none_paid a m m' quiet.lost quiet.same_turns) paid
 
+pub paid_looked : {T E : Type 0} (r : Result T E) (a b : Spent) (m m' m'' : MyTree) → IsQuiet m m' → IsPaidTo r a b m' m''
+    → IsPaidTo r a b m m''
+paid_looked r a b m m' m'' quiet paid =
+    paid_before r a a b m m' m'' (none_paid a m m' quiet.lost quiet.same_turns) paid
+
 -- A try that came to nothing and lost an exchange of a link, if one, waits.
 pub noted_waits : (why : Stop) (a : Adapting) (u : TreeView) → Waits a (noted why a) u (stopped why u)
 noted_waits (stop.Lost exchange.Link) a u = (refl, refl, inr (refl, omega arith))
@@ -176,6 +181,7 @@ is_new met z edit word placed (Ok x) u w about h row won = record {
   last = h.last ∙ ap (λ (r : Renewal). r.new) (sym h.renewal);
   key_is = ap (λ (r : Renewal). r.key) h.renewal;
   splits_are = h.same_splits ∙ ap (λ (r : Renewal). r.splits) (sym h.renewal);
+  joins_are = h.same_joins ∙ ap (λ (r : Renewal). r.joins) (sym h.renewal);
   lost_are = h.same_lost ∙ ap (λ (r : Renewal). r.lost) (sym h.renewal);
   loads_are = h.same_loads ∙ ap (λ (r : Renewal). r.loads) (sym h.renewal);
   met_are = ap (λ (r : Renewal). r.met) (sym h.renewal);
@@ -237,6 +243,7 @@ pub record HasComeOf (z : Sizes) (a : Adapted) (u v : TreeView) : Type 0 where
   pub last : v.last ≡ u.last
   pub shown : v.shown ≡ u.shown
   pub tried : u.splits ≡ u.renewal.splits → HasTriedOnce z v.last v.renewal.splits v.splits a
+  pub joins_are : v.joins ≡ u.joins
   pub further_is : IsFurther u v
   pub known : IsKnown z u → IsKnown z v
 
@@ -251,6 +258,7 @@ not_split z w u v reason e = ⊎_elim
       last = refl;
       shown = refl;
       tried = λ same. (reason, same);
+      joins_are = refl;
       further_is = record { number = refl; seen = starts_whole u.seen; log = refl; counts = refl };
       known = λ k. k;
     })
@@ -260,6 +268,7 @@ not_split z w u v reason e = ⊎_elim
       last = refl;
       shown = refl;
       tried = λ same. (reason, same);
+      joins_are = refl;
       further_is = record { number = refl; seen = starts_whole u.seen; log = refl; counts = refl };
       known = λ k.
           record {
@@ -302,6 +311,7 @@ come_of z note adapted.Split m m' last h = subst
       last = refl;
       shown = refl;
       tried = λ same. (subst (MayBeSplit z) (sym last) h.0, ap (λ n. n + 1) same);
+      joins_are = refl;
       further_is =
           record { number = refl; seen = starts_whole m.0.upper.seen; log = refl; counts = refl };
       known = λ k.
@@ -345,16 +355,16 @@ come_turns z note (adapted.NotJoined w) m m' h = absurd h
 -- After an update the pass walked to its key again, and came to another base than the new one.
 pub led_elsewhere : (z : Sizes) (key : Bor (List ℕ)) (placed : ℕ) (m m' : MyTree) (cursor : Cursor)
     → IsNew placed key.now (met_of m) m.0.upper
-    → IsWalked z (spot.At key) m cursor m' → cursor.base ≢ placed
-    → HasLookedAgain z adapted.Stay m.0.upper m'.0.upper
-led_elsewhere z key placed m m' cursor new w other = subst
-    (λ (x : MyTree). HasLookedAgain z adapted.Stay m.0.upper x.0.upper) (sym w.now) (
+    → IsWalked z (spot.At key) m cursor m' → cursor.base ≢ placed → (Tried : Type 0)
+    → (m'.0.upper.renewal ≡ m.0.upper.renewal) × HasWalkedThere m'.0.upper adapted.Stay Tried
+led_elsewhere z key placed m m' cursor new w other Tried = subst
+    (λ (x : MyTree). (x.0.upper.renewal ≡ m.0.upper.renewal) × HasWalkedThere x.0.upper adapted.Stay Tried) (sym w.now) (
       refl,
       (
         let at = new.loads_are in let some = w.some in
             omega arith,
         subst (HasKey w.note.place.span) (sym new.key_is) w.sought,
-        inl ((λ e. other (sym w.cursor_is.base ∙ (e ∙ sym new.row))), (refl, new.splits_are)),
+        inl ((λ e. other (sym w.cursor_is.base ∙ (e ∙ sym new.row))), (refl, new.splits_are, new.joins_are)),
       ),
     )
 
@@ -387,8 +397,12 @@ led_there z key placed m m' m'' cursor a new w most same h =
             ap (λ (n : Note). n.row) (come.last ∙ last)
                 ∙ (w.cursor_is.base ∙ (same ∙ (new.row ∙ ap (λ (r : Renewal). r.new.row)
                 (sym (come.renewal ∙ renewed))))),
-            come.tried (ap (λ (u : TreeView). u.splits) up
-                ∙ (new.splits_are ∙ ap (λ (r : Renewal). r.splits) (sym renewed))),
+            (
+              come.tried (ap (λ (u : TreeView). u.splits) up
+                  ∙ (new.splits_are ∙ ap (λ (r : Renewal). r.splits) (sym renewed))),
+              come.joins_are ∙ (ap (λ (u : TreeView). u.joins) up
+                  ∙ (new.joins_are ∙ ap (λ (r : Renewal). r.joins) (sym (come.renewal ∙ renewed)))),
+            ),
           ),
         ),
       ),
@@ -501,9 +515,12 @@ settled_on {z} {t} {tried} {r} {a} {b} {k} {m} {m'} {m''} s moved word_is = let 
         (noted_waits why a m.0.upper)
 
 pub settled_paid : (a b c : Spent) (k m m' m'' : MyTree) → m ≡ k
-    → m'.0.upper.turns ≡ m.0.upper.turns → IsSpent a b m m' → IsPaid b c m' m'' → IsPaid a c k m''
-settled_paid a b c k m m' m'' same still spent paid = subst (λ (x : MyTree). IsPaid a c x m'') same
-    (paid_both a b c m m' m'' (paid_of a b m m' spent still) paid)
+    → m'.0.upper.turns ≡ m.0.upper.turns → IsSpent a b m m' → (tried : Result (Unit {0}) Stop) (r : Result (Unit {0}) Halt)
+    → r ≡ come_to tried → IsPaidTo (come_to tried) b c m' m'' → IsPaidTo r a c k m''
+settled_paid a b c k m m' m'' same still spent tried r is paid =
+    subst (λ (x : Result (Unit {0}) Halt). IsPaidTo x a c k m'') (sym is)
+    (subst (λ (x : MyTree). IsPaidTo (come_to tried) a c x m'') same
+    (paid_before (come_to tried) a b c m m' m'' (paid_of a b m m' spent still) paid))
 
 pub settled_found : (z : Sizes) (t : Tuning) (statistic : ℤ) (tried : Result (Unit {0}) Stop)
     (r : Result (Unit {0}) Halt) (a b : Adapting) (k m m' m'' : MyTree)

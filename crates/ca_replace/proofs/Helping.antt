@@ -1,4 +1,4 @@
--- What an attempt comes to that helped another pass's range in place of its edit, or gave up an attempt to join.
+-- What an attempt comes to that helped another pass's range in place of its edit, or gave up or carried out an attempt to join.
 use Rattle.std.proofs.Common.{◌≡◌, ◌≢◌, ℕ, ◌+◌, true, false, List, Option, Err, refl, ap, inl, inr, arith}
 use Rattle.ca_adapt.specs.declared.tuning.Tuning.{Tuning}
 use Rattle.ca_base.specs.declared.stop.Exchange.TheVariants as exchange
@@ -10,7 +10,7 @@ use Rattle.ca_node.specs.Told.{MyTree, IsKnown}
 use Rattle.ca_node.specs.TreeView.{TreeView}
 use Rattle.ca_range.specs.Clearing.{HasGone, HasHelpedWith, none_spent}
 use Rattle.ca_range.specs.Filling.{links_lost}
-use Rattle.ca_range.specs.Spending.{IsSpentOn}
+use Rattle.ca_base.specs.Spending.{IsSpentOn}
 use Rattle.ca_range.specs.declared.helped.Helped.{Helped}
 use Rattle.ca_range.specs.declared.helped.Helped.TheVariants as helped
 use Rattle.ca_replace.specs.declared.adapting.Adapting.{Adapting}

@@ -6,6 +6,7 @@ pub mod Causing
 pub mod Counted
 pub mod Cutting
 pub mod DueCauses
+pub mod DueJoins
 pub mod Ends
 pub mod Entries
 pub mod Fresh
@@ -24,6 +25,7 @@ pub mod OneHand
 pub mod OpenRuns
 pub mod OpenStores
 pub mod Opening
+pub mod Pasts
 pub mod Pinning
 pub mod Ready
 pub mod Reclaiming

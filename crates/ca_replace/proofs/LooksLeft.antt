@@ -53,17 +53,20 @@ steps_passed {z} u = record {
   known = known_same z u (passed_on u) refl refl refl;
   helped = omega arith;
   unfinished = λ x i. inl i;
+  joins = omega arith;
+  joined = omega arith;
 }
 
 -- Nothing was looked at.
 pub left_none : (z : Sizes) (a : Spent) (m : MyTree) → HasLookedLeft z a a m m
-left_none z a m = record { raised = refl; steps = steps_none m.0.upper; unfinished = refl; paid = none_paid a m m refl refl }
+left_none z a m = record { raised = refl; steps = steps_none m.0.upper; no_join = refl; unfinished = refl; paid = none_paid a m m refl refl }
 
 -- A walk is no turn.
 pub left_walked : (z : Sizes) (a : Spent) (place : Spot) (m m' : MyTree) (cursor : Cursor) → IsWalked z place m cursor m' → HasLookedLeft z a a m m'
 left_walked z a place m m' cursor w = record {
   raised = w.now ∙ sym (ap (λ (x : MyTree). with_upper m x.0.upper) w.now);
   steps = steps_by_walk place m m' cursor w;
+  no_join = ap (λ (x : MyTree). x.0.upper.joins) w.now;
   unfinished = ap (λ (x : MyTree). x.0.upper.ranges.unfinished) w.now;
   paid = none_paid a m m' (ap losses w.now) (ap (λ (x : MyTree). x.0.upper.turns) w.now);
 }
@@ -73,6 +76,7 @@ pub left_both : (z : Sizes) (a b c : Spent) (k m n : MyTree) → HasLookedLeft z
 left_both z a b c k m n x y = record {
   raised = y.raised ∙ ap (λ (t : MyTree). with_upper t n.0.upper) x.raised;
   steps = steps_both k.0.upper m.0.upper n.0.upper x.steps y.steps;
+  no_join = y.no_join ∙ x.no_join;
   unfinished = y.unfinished ∙ x.unfinished;
   paid = paid_both a b c k m n x.paid y.paid;
 }
@@ -97,6 +101,7 @@ module _ (z : Sizes) (route : ℕ) (cursor : Cursor) (m m' : MyTree) (h : HasLoo
       let l = others.0 in let p = others.1 in record {
         raised = h.walked.now ∙ sym (ap (λ (x : MyTree). with_upper m x.0.upper) h.walked.now);
         steps = steps_both m.0.upper mid.0.upper m'.0.upper (steps_passed m.0.upper) (steps_by_walk (spot.Below h.key) mid m' cursor h.walked);
+        no_join = ap (λ (x : MyTree). x.0.upper.joins) h.walked.now;
         unfinished = ap (λ (x : MyTree). x.0.upper.ranges.unfinished) h.walked.now;
         paid = record {
           more = omega arith;
@@ -197,7 +202,7 @@ module _ {R : Type 0} {space : Space R TreeView} {pass new : Pass R TreeView} {a
     same = k.same;
     number = k.number;
     tally = tallied_still pass.tally new.tally pass.seat.me.0.upper new.seat.me.0.upper k.tally (ap (λ (u : TreeView). u.splits) s.only)
-        (ap (λ (u : TreeView). u.joins) s.only);
+        h.no_join;
     pin = (ap (λ (x : MyTree). x.0.sizes) h.raised, ap (λ (x : MyTree). x.0.pin) h.raised);
     own_range = ap (λ (u : TreeView). u.ranges.own) s.only;
     none = held_upper space.table.shared.key.rows pass.kept new.kept pass.seat.me new.seat.me new.seat.me.0.upper [] r.none h.raised

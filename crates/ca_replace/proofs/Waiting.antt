@@ -22,7 +22,7 @@ use Rattle.ca_replace.specs.Cutting.{HasCutFull}
 use Rattle.ca_replace.specs.Growing.{HasWaited}
 use Rattle.ca_replace.specs.Turning.{AreTurns, IsTurn}
 use Rattle.ca_replace.proofs.Again.{since_unpinned}
-use Rattle.ca_replace.proofs.Counted.{met_turn, none_met, none_paid, paid_both}
+use Rattle.ca_replace.proofs.Counted.{met_turn, none_met, none_paid, paid_both, paid_after, paid_turn}
 use Rattle.ca_replace.proofs.Cutting.{cut_unpinned, full_both, none_full, one_more_cut, turn_cut}
 use Rattle.ca_replace.proofs.GoingOn.{gone_on, gone_unpinned, idle_waits, turn_waits, waits_on}
 use Rattle.ca_replace.proofs.Growing.{alone_on, grown_unpinned, one_more_attempt, turn_waited, waited_on}
@@ -126,7 +126,7 @@ module _ {T : Type 0} (tells : T → Event → Type 0) (edits : T → Bool) (z :
   pub waits_more : HasNext r → IsWaiting z adds a c k n
   waits_more next = record {
     further = further_on u w v x.further (turn_further tells z r w v next tried);
-    counted = paid_both a.spent b.spent c.spent k m n x.counted i.counted;
+    counted = paid_both a.spent b.spent c.spent k m n x.counted (paid_turn r b.spent c.spent m n next i.counted);
     met = met_both 0 0 0 0 k m n x.met (met_turn r m n next i.found).0;
     waits = waits_on a.adapting b.adapting c.adapting u w v x.waits
         (turn_waits edits z t b.adapting c.adapting r w v next i.gone_on);
@@ -179,7 +179,7 @@ turn_unpinned edits z adds t a b r k m n i is = let u = k.0.upper in let w = m.0
       met_as = subst (λ (x : MyTree).
           IsCauseMetInAttempts edits b.adapting.last r x.0.pin.left x.0.upper) (sym is) i.met_as;
       gone_on = gone_unpinned edits z t a.adapting b.adapting r u w v same i.gone_on;
-      counted = paid_both a.spent b.spent b.spent k m n i.counted
+      counted = paid_after r a.spent b.spent b.spent k m n i.counted
           (none_paid b.spent m n q.lost q.same_turns);
       found = stopped_left r k m n q.lost q.met (ap passes is) (ap helps is) i.found;
       grown = λ alone. grown_unpinned z adds r u w v same (i.grown alone);

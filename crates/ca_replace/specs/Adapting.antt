@@ -11,20 +11,23 @@ use Rattle.ca_adapt.specs.declared.statistic.Due.{Due}
 use Rattle.ca_adapt.specs.declared.statistic.Due.TheVariants as due
 use Rattle.ca_adapt.specs.declared.tuning.Tuning.{Tuning}
 use Rattle.ca_adapt.specs.Splits.{MayBeSplit}
+use Rattle.ca_adapt.specs.Trying.{IsJoinOutcome}
 use Rattle.ca_adapt.specs.Statistics.{IsAfter, IsDue, IsStatisticOf, IsWordOf}
 use Rattle.ca_model.specs.declared.outcome.Changed.{Changed}
 use Rattle.ca_model.specs.declared.outcome.Changed.TheVariants as changed
 use Rattle.ca_model.specs.declared.outcome.Outcome.{Outcome}
 use Rattle.ca_model.specs.declared.outcome.Outcome.TheVariants as outcome
+use Rattle.ca_node.specs.declared.link.Link.{Link}
 use Rattle.ca_node.specs.Links.{IsIn}
 use Rattle.ca_node.specs.Place.{HasKey, Place}
 use Rattle.ca_node.specs.Row.{IsUnmarked}
-use Rattle.ca_node.specs.Told.{MyTree}
+use Rattle.ca_node.specs.Told.{MyTree, link_word}
 use Rattle.ca_node.specs.TreeView.{Note, Renewal, TreeView}
 use Rattle.ca_replace.specs.declared.adapting.Adapting.{Adapting}
 use Rattle.ca_replace.specs.declared.adapting.Last.{Last}
 use Rattle.ca_rows.specs.declared.sizes.Sizes.{Sizes}
 use Rattle.ca_rows.specs.declared.view.Met.{Met}
+use Rattle.ca_rows.specs.Told.{met_of}
 
 -- Of a base with this word for its statistic, an update makes one with this statistic: it depends on whether the call lost an exchange of a link.
 abbrev pub IsMoved : Tuning → ℕ → Bool → ℤ → Type 0
@@ -34,13 +37,14 @@ IsMoved t word lost statistic = (old : ℤ) × IsStatisticOf word old × IsAfter
 abbrev pub HasLostSince : Bool → Bool → ℕ → ℕ → Type 0
 HasLostSince before now few many = ((now ≡ before) × (many ≡ few)) ⊎ ((now ≡ true) × (few < many))
 
--- The base with this row was just put in place, by an update that is about this key; it was shown last. So many splits and losses were counted as it
--- was, and are now; and so many links were loaded. No range marked it.
+-- The base with this row was just put in place, by an update that is about this key; it was shown last. So many splits, joins and losses were counted as it
+-- was, and are now; and so many links were loaded. No range marked it, and no join.
 pub record IsNew (placed : ℕ) (key : List ℕ) (met : Met) (u : TreeView) : Type 0 where
   pub row : placed ≡ u.renewal.new.row
   pub last : u.last ≡ u.renewal.new
   pub key_is : u.renewal.key ≡ key
   pub splits_are : u.splits ≡ u.renewal.splits
+  pub joins_are : u.joins ≡ u.renewal.joins
   pub lost_are : u.lost ≡ u.renewal.lost
   pub loads_are : u.loads ≡ u.renewal.loads
   pub met_are : met ≡ u.renewal.met
@@ -49,9 +53,9 @@ pub record IsNew (placed : ℕ) (key : List ℕ) (met : Met) (u : TreeView) : Ty
   -- It is listed at a place to which the key is led.
   pub listed : (place : Place) × IsIn (u.renewal.new.row, place) u.inventory.bases × (placed ≡ u.renewal.new.row) × HasKey place.span key
 
--- Nothing was done about the new base: no base was split, given how many there were as it was put in place, and now.
-abbrev pub IsLeft : ℕ → ℕ → Adapted → Type 0
-IsLeft before now a = (a ≡ adapted.Stay) × (now ≡ before)
+-- Nothing was done about the new base: since it was put in place no base was split, and none was joined.
+abbrev pub IsLeft : TreeView → Adapted → Type 0
+IsLeft v a = (a ≡ adapted.Stay) × (v.splits ≡ v.renewal.splits) × (v.joins ≡ v.renewal.joins)
 
 -- The base was not split, for this reason.
 abbrev pub IsReason : Sizes → Note → Why → Type 0
@@ -73,29 +77,55 @@ HasTriedOnce z note before now adapted.Joined = ⊥
 HasTriedOnce z note before now (adapted.NotSplit why) = IsReason z note why × (now ≡ before)
 HasTriedOnce z note before now (adapted.NotJoined why) = ⊥
 
+-- This was known as the new base had been walked to again: it was shown last, and nothing was split or joined since it was put in place. No link was loaded
+-- behind the one that showed it.
+abbrev pub IsKnownThere : Sizes → MyTree → TreeView → Type 0
+IsKnownThere z m v = (m.0.sizes ≡ z) × (m.0.upper.last ≡ v.last) × (m.0.upper.loads ≡ v.shown) × (m.0.upper.renewal ≡ v.renewal) × (m.0.upper.since ≡ v.since)
+    × (m.0.upper.joins ≡ v.renewal.joins) × (m.0.upper.lost ≡ v.renewal.lost) × (met_of m ≡ v.renewal.met)
+
+-- This is known now: nothing was seen, loaded, joined or lost since.
+abbrev pub IsKnownNow : MyTree → TreeView → Type 0
+IsKnownNow m v = (m.0.upper.seen ≡ v.seen) × (m.0.upper.loads ≡ v.loads) × (m.0.upper.joins ≡ v.joins) × (m.0.upper.lost ≡ v.lost)
+    × (m.0.upper.turns ≡ v.turns)
+
+-- It was tried once to join the base that was shown last, between these two moments: that base hangs on this link. No base was split.
+abbrev pub HasTriedToJoin : Sizes → TreeView → Adapted → Type 0
+HasTriedToJoin z v a = (link : Link) × (m : MyTree) × (m' : MyTree) × (v.last.place.link ≡ link_word link) × IsKnownThere z m v × IsKnownNow m' v
+    × IsJoinOutcome z link v.last a m m' × (v.splits ≡ v.renewal.splits)
+
 -- The pass walked to the key of its last update anew: the base that it was shown last was shown since, by a link, and has the key. Where it is another
--- one than the new one, nothing was tried; where it is that one, it was tried once to split it.
+-- one than the new one, nothing was tried; where it is that one, this was.
+abbrev pub HasWalkedThere : TreeView → Adapted → Type 0 → Type 0
+HasWalkedThere v a Tried = (v.renewal.loads < v.shown) × HasKey v.last.place.span v.renewal.key × (((v.last.row ≢ v.renewal.new.row) × IsLeft v a)
+    ⊎ ((v.last.row ≡ v.renewal.new.row) × Tried))
+
+-- It was tried once to split it, and none was joined; or it was tried once to join it, and none was split.
 abbrev pub HasTriedThere : Sizes → TreeView → Adapted → Type 0
-HasTriedThere z v a = (v.renewal.loads < v.shown) × HasKey v.last.place.span v.renewal.key × (((v.last.row ≢ v.renewal.new.row)
-    × IsLeft v.renewal.splits v.splits a) ⊎ ((v.last.row ≡ v.renewal.new.row) × HasTriedOnce z v.last v.renewal.splits v.splits a))
+HasTriedThere z v a = HasWalkedThere v a (HasTriedOnce z v.last v.renewal.splits v.splits a × (v.joins ≡ v.renewal.joins))
+
+abbrev pub HasJoinedThere : Sizes → TreeView → Adapted → Type 0
+HasJoinedThere z v a = HasWalkedThere v a (HasTriedToJoin z v a)
 
 -- Nothing was tried: no link was loaded since.
 abbrev pub HasTriedNothing : TreeView → Adapted → Type 0
-HasTriedNothing v a = IsLeft v.renewal.splits v.splits a × (v.last ≡ v.renewal.new) × (v.loads ≡ v.renewal.loads)
+HasTriedNothing v a = IsLeft v a × (v.last ≡ v.renewal.new) × (v.loads ≡ v.renewal.loads)
 
--- So it did where a split was due. Where nothing was due nothing was tried; nor was it where a join was, for joins aren't tried as yet.
-abbrev pub IsDoneAbout : Due → Type 0 → Type 0 → Type 0
-IsDoneAbout due.Nothing Nothing There = Nothing
-IsDoneAbout due.Split Nothing There = There
-IsDoneAbout due.Join Nothing There = Nothing
+-- The one where nothing was due, the other ones where a split was and where a join was.
+abbrev pub IsDoneAbout : Due → Type 0 → Type 0 → Type 0 → Type 0
+IsDoneAbout due.Nothing Nothing Split Join = Nothing
+IsDoneAbout due.Split Nothing Split Join = Split
+IsDoneAbout due.Join Nothing Split Join = Join
 
 -- What was due to the new base of the last update by its statistic was done about it.
 abbrev pub IsAdapted : Sizes → Tuning → ℤ → TreeView → Adapted → Type 0
-IsAdapted z t statistic v a = (what : Due) × IsDue t statistic what × IsDoneAbout what (HasTriedNothing v a) (HasTriedThere z v a)
+IsAdapted z t statistic v a = (what : Due) × IsDue t statistic what × IsDoneAbout what (HasTriedNothing v a) (HasTriedThere z v a) (HasJoinedThere z v a)
 
--- The same, where nothing was updated in between.
+-- The same of a split and of a join that were due, where nothing was updated in between.
 abbrev pub HasLookedAgain : Sizes → Adapted → TreeView → TreeView → Type 0
 HasLookedAgain z a u v = (v.renewal ≡ u.renewal) × HasTriedThere z v a
+
+abbrev pub HasLookedToJoin : Sizes → Adapted → TreeView → TreeView → Type 0
+HasLookedToJoin z a u v = (v.renewal ≡ u.renewal) × HasJoinedThere z v a
 
 abbrev pub HasAdapted : Sizes → Tuning → ℤ → Adapted → TreeView → TreeView → Type 0
 HasAdapted z t statistic a u v = (v.renewal ≡ u.renewal) × IsAdapted z t statistic v a
@@ -109,13 +139,33 @@ HasMetMore empty worn links r now lost = (now.empty ≡ r.met.empty + empty) × 
 abbrev pub HasMetNothing : Renewal → Met → ℕ → Type 0
 HasMetNothing r now lost = HasMetMore 0 0 0 r now lost × (now.lost ≡ r.met.lost)
 
+-- So often the pool's head was found empty since then, and with its tag at the last value.
+abbrev pub HasMetPool : ℕ → ℕ → Renewal → Met → Type 0
+HasMetPool empty worn r now = (now.empty ≡ r.met.empty + empty) × (now.worn ≡ r.met.worn + worn)
+
+-- No exchange was lost, of a link or of the head.
+abbrev pub HasLostNothing : Renewal → Met → ℕ → Type 0
+HasLostNothing r now lost = now.lost + lost ≡ r.met.lost + r.lost
+
+-- By why the base was not joined this was met since then. An exchange that is lost with a join may be that of a join word, which isn't counted.
+abbrev pub IsMetUnjoined : Why → Renewal → Met → ℕ → Type 0
+IsMetUnjoined why.Root r now lost = HasMetNothing r now lost
+IsMetUnjoined why.OneObject r now lost = Unit {0}
+IsMetUnjoined why.AtLevel r now lost = Unit {0}
+IsMetUnjoined why.SiblingRoute r now lost = HasMetNothing r now lost
+IsMetUnjoined why.TooMany r now lost = HasMetNothing r now lost
+IsMetUnjoined why.Taken r now lost = HasMetNothing r now lost
+IsMetUnjoined why.Lost r now lost = HasMetPool 0 0 r now
+IsMetUnjoined why.NoRow r now lost = HasMetPool 1 0 r now
+IsMetUnjoined why.Worn r now lost = HasMetPool 0 1 r now ⊎ HasMetNothing r now lost
+
 -- By what the answer says of the new base this was met since then: where nothing was tried, or the base was split by the one try, nothing. Where the try
 -- came to nothing the pass met what the answer says, an empty head or a worn tag once, and nothing else but exchanges of the head that were lost as rows
 -- were put back.
 abbrev pub IsMetSince : Adapted → Renewal → Met → ℕ → Type 0
 IsMetSince adapted.Stay r now lost = HasMetNothing r now lost
 IsMetSince adapted.Split r now lost = HasMetNothing r now lost
-IsMetSince adapted.Joined r now lost = Unit {0}
+IsMetSince adapted.Joined r now lost = HasMetPool 0 0 r now × HasLostNothing r now lost
 IsMetSince (adapted.NotSplit why.Root) r now lost = Unit {0}
 IsMetSince (adapted.NotSplit why.OneObject) r now lost = HasMetNothing r now lost
 IsMetSince (adapted.NotSplit why.AtLevel) r now lost = HasMetNothing r now lost
@@ -125,7 +175,7 @@ IsMetSince (adapted.NotSplit why.Taken) r now lost = Unit {0}
 IsMetSince (adapted.NotSplit why.Lost) r now lost = (HasMetMore 0 0 0 r now lost × (r.met.lost < now.lost)) ⊎ HasMetMore 0 0 1 r now lost
 IsMetSince (adapted.NotSplit why.NoRow) r now lost = HasMetMore 1 0 0 r now lost
 IsMetSince (adapted.NotSplit why.Worn) r now lost = HasMetMore 0 1 0 r now lost
-IsMetSince (adapted.NotJoined why) r now lost = Unit {0}
+IsMetSince (adapted.NotJoined why) r now lost = IsMetUnjoined why r now lost
 
 -- So it did since its last update.
 abbrev pub IsCauseMet : Adapted → Met → TreeView → Type 0

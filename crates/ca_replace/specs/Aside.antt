@@ -29,6 +29,7 @@ pub record HasLookedAside (z : Sizes) (route : ℕ) (cursor : Cursor) (m m' : My
 pub record HasLookedLeft (z : Sizes) (before now : Spent) (m m' : MyTree) : Type 0 where
   pub raised : m' ≡ with_upper m m'.0.upper
   pub steps : OnlySteps z 0 m.0.upper m'.0.upper
+  pub no_join : m'.0.upper.joins ≡ m.0.upper.joins
   pub unfinished : m'.0.upper.ranges.unfinished ≡ m.0.upper.ranges.unfinished
   pub paid : IsPaid before now m m'
 

@@ -16,6 +16,7 @@ use Rattle.ca_node.specs.Place.{Span, HasKey}
 use Rattle.ca_node.specs.Tree.{StartsWith}
 use Rattle.ca_node.specs.Walking.{IsBegin}
 use Rattle.ca_base.specs.Counting.{losses, HasMet, HasStoppedBy}
+use Rattle.ca_base.specs.Spending.{RisesBy}
 use Rattle.ca_node.specs.Told.{IsKnown, MyTree}
 use Rattle.ca_node.specs.States.{HasState, IsAlone, IsUnanswered, OfSomeState}
 use Rattle.ca_node.specs.TreeView.{Quiet, TreeView}
@@ -164,6 +165,16 @@ pub record IsPaid (before now : Spent) (m m' : MyTree) : Type 0 where
   pub helped : before.helped ≤ 4294967295 → now.helped ≡ min 4294967295 (before.helped + (helps m' - helps m))
   pub more_passed : passes m ≤ passes m'
   pub passed : before.passed ≤ 4294967295 → now.passed ≡ min 4294967295 (before.passed + (passes m' - passes m))
+
+-- So it was, but what was helped isn't told.
+pub record IsPaidBut (before now : Spent) (m m' : MyTree) : Type 0 where
+  pub lost : RisesBy before.lost now.lost (losses m) (losses m')
+  pub passed : RisesBy before.passed now.passed (passes m) (passes m')
+
+-- By what an attempt comes to: where it did the call, whose budget binds it no more then, what it helped isn't told.
+abbrev pub IsPaidTo : {T E : Type 0} → Result T E → Spent → Spent → MyTree → MyTree → Type 0
+IsPaidTo (Ok x) before now m m' = IsPaidBut before now m m'
+IsPaidTo (Err why) before now m m' = IsPaid before now m m'
 
 -- how many turns were spent in all
 abbrev pub total : Spent → ℕ

@@ -10,6 +10,8 @@ pub mod Growing
 pub mod Leaving
 pub mod Looking
 pub mod Made
+pub mod Past
+pub mod PastSeen
 pub mod Ranging
 pub mod Reads
 pub mod Refusals

@@ -17,7 +17,7 @@ use Rattle.ca_node.specs.States.{IsAlone}
 use Rattle.ca_node.specs.TreeView.{TreeView}
 use Rattle.ca_replace.specs.declared.adapting.Course.{Course}
 use Rattle.ca_replace.specs.Adapting.{HasGoneOn, IsCauseMetInAttempts, noted}
-use Rattle.ca_replace.specs.Attempting.{HasStopped, HasTriedTo, IsPaid, StaysAt}
+use Rattle.ca_replace.specs.Attempting.{HasStopped, HasTriedTo, IsPaidTo, StaysAt}
 use Rattle.ca_replace.specs.Cutting.{HasCut, HasCutInAttempts}
 use Rattle.ca_replace.specs.Growing.{HasGrown, HasGrownInAttempts}
 use Rattle.ca_replace.specs.Winning.{HasWonInAttempts}
@@ -33,7 +33,7 @@ pub record IsTurn {T : Type 0} (edits : T → Bool) (adds : Option (List ℕ)) (
     (m m' : MyTree) : Type 0 where
   pub met_as : IsCauseMetInAttempts edits b.adapting.last r now m'.0.upper
   pub gone_on : HasGoneOn edits z t a.adapting b.adapting r m.0.upper m'.0.upper
-  pub counted : IsPaid a.spent b.spent m m'
+  pub counted : IsPaidTo r a.spent b.spent m m'
   pub found : HasStopped r m m'
   pub grown : IsAlone z m.0.upper → HasGrown z adds r m.0.upper m'.0.upper
   pub won : IsAlone z m.0.upper → HasWonInAttempts edits r m.0.upper m'.0.upper

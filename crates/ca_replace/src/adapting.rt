@@ -5,12 +5,12 @@ ghost use Rattle.ca_base.specs.Finding.{IsReadable};
 ghost use Rattle.ca_base.specs.Progress.{IsFurther};
 ghost use Rattle.ca_node.specs.Told.{IsKnown};
 ghost use Rattle.ca_node.specs.States.{IsAlone};
-ghost use Rattle.ca_node.specs.TreeView.{Note};
-ghost use Rattle.ca_replace.specs.Adapting.{HasAdapted, HasLookedAgain, HasSettled, IsCauseMet, IsMoved, IsNew, noted};
+ghost use Rattle.ca_node.specs.TreeView.{Note, Quiet};
+ghost use Rattle.ca_replace.specs.Adapting.{HasAdapted, HasLookedAgain, HasLookedToJoin, HasSettled, IsCauseMet, IsMoved, IsNew, noted};
 ghost use Rattle.ca_replace.specs.Growing.{Grows};
 ghost use Rattle.ca_replace.specs.Cutting.{HasCutDue};
 ghost use Rattle.ca_replace.specs.declared.attempting.Halt.TheVariants.{Deep as IsDeep};
-ghost use Rattle.ca_replace.specs.Attempting.{IsPaid, come_to};
+ghost use Rattle.ca_replace.specs.Attempting.{IsPaid, IsPaidBut, IsPaidTo, come_to};
 ghost use Rattle.ca_rows.specs.Told.{met_of};
 ghost use Rattle.ca_rows.specs.Passes.{OnlyReads, IsReading, sizes, known};
 ghost use Rattle.ca_node.specs.TreePasses.{tree_of};
@@ -18,7 +18,7 @@ ghost use Rattle.ca_base.specs.Readiness.{IsReady, StaysReady};
 
 use crate::attempting::Halt;
 use crate::tree::Tree;
-use ca_adapt::{Adapted, Due, statistic_of, try_split};
+use ca_adapt::{Adapted, Due, statistic_of, try_join, try_split};
 use ca_base::{Exchange, Stop, statistic_word};
 use ca_model::Spent;
 use ca_node::{Cursor, Spot, TreePass, walk};
@@ -81,6 +81,7 @@ pub(crate) fn settle(
 ) -> Result<(), Halt>
     requires ready { IsReady tree.now.space pass.old }
     requires known { IsKnown (sizes tree.now.space) (tree_of pass.old) }
+    requires quiet { (tree_of pass.old).ranges.own ≡ Quiet }
     requires placed { IsOk tried → IsNew placed.now.row placed.now.key.now (met_of (known pass.old)) (tree_of pass.old) }
     ensures frame { StaysReady tree.now.space pass.old pass.new }
     ensures come { result ≡ come_to tried }
@@ -88,7 +89,7 @@ pub(crate) fn settle(
     ensures further { IsFurther (tree_of pass.old) (tree_of pass.new) × IsKnown (sizes tree.now.space) (tree_of pass.new) }
     ensures met { IsOk tried → IsCauseMet course.new.adapting.last.adapted (met_of (known pass.new)) (tree_of pass.new) }
     ensures settled { HasSettled (sizes tree.now.space) tree.now.tuning statistic tried course.old.adapting course.new.adapting (known pass.old) (known pass.new) }
-    ensures counted { IsPaid course.old.spent course.new.spent (known pass.old) (known pass.new) }
+    ensures counted { IsPaidTo (come_to tried) course.old.spent course.new.spent (known pass.old) (known pass.new) }
     ensures again { course.new.again ≡ course.old.again }
     ensures grows { IsAlone (sizes tree.now.space) (tree_of pass.old) → Grows 1 2 1 (tree_of pass.old) (tree_of pass.new) }
     ensures won { IsAlone (sizes tree.now.space) (tree_of pass.old) → IsOk tried → ((tree_of pass.new).lost ≡ (tree_of pass.old).lost)
@@ -114,8 +115,8 @@ pub(crate) fn note_stop(adapting: &mut Adapting, why: Stop)
     }
 }
 
-// Does what is due to a base that was just put in place, which has this statistic. A due join isn't tried as yet.
-#[tactic(auto, using(crate::proofs::DueCauses::new_met))]
+// Does what is due to a base that was just put in place, which has this statistic.
+#[tactic(auto, using(crate::proofs::DueCauses::new_met, crate::proofs::Counted::paid_but))]
 fn adapt(
     tree: &Tree,
     pass: &mut TreePass,
@@ -125,12 +126,13 @@ fn adapt(
 ) -> Adapted
     requires ready { IsReady tree.now.space pass.old }
     requires known { IsKnown (sizes tree.now.space) (tree_of pass.old) }
+    requires quiet { (tree_of pass.old).ranges.own ≡ Quiet }
     requires placed { IsNew placed.now.row placed.now.key.now (met_of (known pass.old)) (tree_of pass.old) }
     ensures frame { StaysReady tree.now.space pass.old pass.new }
     ensures further { IsFurther (tree_of pass.old) (tree_of pass.new) × IsKnown (sizes tree.now.space) (tree_of pass.new) }
     ensures met { IsCauseMet result (met_of (known pass.new)) (tree_of pass.new) }
     ensures adapted { HasAdapted (sizes tree.now.space) tree.now.tuning statistic result (tree_of pass.old) (tree_of pass.new) }
-    ensures counted { IsPaid spent.old spent.new (known pass.old) (known pass.new) }
+    ensures counted { IsPaidBut spent.old spent.new (known pass.old) (known pass.new) }
     ensures grows { IsAlone (sizes tree.now.space) (tree_of pass.old) → Grows 1 2 1 (tree_of pass.old) (tree_of pass.new) }
     ensures won { IsAlone (sizes tree.now.space) (tree_of pass.old) → ((tree_of pass.new).lost ≡ (tree_of pass.old).lost)
         × ((tree_of pass.new).last.row ≡ (tree_of pass.new).renewal.new.row) }
@@ -138,7 +140,8 @@ fn adapt(
 {
     match tree.tuning.due(statistic) {
         Due::Split => split_again(tree, pass, placed, spent),
-        Due::Nothing | Due::Join => Adapted::Stay,
+        Due::Join => join_again(tree, pass, placed, spent),
+        Due::Nothing => Adapted::Stay,
     }
 }
 
@@ -166,6 +169,29 @@ fn split_again(tree: &Tree, pass: &mut TreePass, placed: &NewBase<'_>, spent: &m
         spent.passed = spent.passed.saturating_add(1);
     }
     adapted
+}
+
+// Walks to the key anew, and tries to join the base that it comes to with its sibling, where that base is the one which was just put in place.
+fn join_again(tree: &Tree, pass: &mut TreePass, placed: &NewBase<'_>, spent: &mut Spent) -> Adapted
+    requires ready { IsReady tree.now.space pass.old }
+    requires quiet { (tree_of pass.old).ranges.own ≡ Quiet }
+    requires placed { IsNew placed.now.row placed.now.key.now (met_of (known pass.old)) (tree_of pass.old) }
+    ensures frame { StaysReady tree.now.space pass.old pass.new }
+    ensures further { IsFurther (tree_of pass.old) (tree_of pass.new) × IsKnown (sizes tree.now.space) (tree_of pass.new) }
+    ensures met { IsCauseMet result (met_of (known pass.new)) (tree_of pass.new) }
+    ensures tried { HasLookedToJoin (sizes tree.now.space) result (tree_of pass.old) (tree_of pass.new) }
+    ensures counted { IsPaidBut spent.old spent.new (known pass.old) (known pass.new) }
+    ensures grows { IsAlone (sizes tree.now.space) (tree_of pass.old) → Grows 1 2 1 (tree_of pass.old) (tree_of pass.new) }
+    ensures won { IsAlone (sizes tree.now.space) (tree_of pass.old) → ((tree_of pass.new).lost ≡ (tree_of pass.old).lost)
+        × ((tree_of pass.new).last.row ≡ (tree_of pass.new).renewal.new.row) }
+    ensures cut { HasCutDue (sizes tree.now.space) (tree_of pass.old).cuts (tree_of pass.new) }
+{
+    let space = &tree.space;
+    let cursor = walk(space, pass, Spot::At(placed.key));
+    if cursor.base != placed.row {
+        return Adapted::Stay;
+    }
+    try_join(space, pass, cursor, &tree.tuning, spent)
 }
 
 // Whether the base was split.

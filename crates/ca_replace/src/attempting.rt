@@ -21,6 +21,7 @@ ghost use Rattle.ca_replace.specs.Looking.{HasLooked};
 ghost use Rattle.ca_replace.specs.Turning.{HasEdited, IsTurn, course_after, course_helped, helped_to, paid};
 ghost use Rattle.ca_rows.specs.Passes.{IsReading, KeepsList, sizes, known};
 ghost use Rattle.ca_node.specs.TreePasses.{tree_of};
+ghost use Rattle.ca_node.specs.TreeView.{Quiet};
 ghost use Rattle.ca_base.specs.Readiness.{IsReady, StaysReady, shown_last};
 
 use crate::adapting::{Course, NewBase, next_statistic, note_stop, settle};
@@ -42,7 +43,7 @@ pub(crate) enum Halt {
     Deep,
     /// That base was split, and so there may be room now.
     Split,
-    /// A range of another pass has the base, and was helped; or an attempt to join had it, and was given up.
+    /// A range of another pass has the base, and was helped; or an attempt to join had it, and was given up or carried out.
     Helped,
 }
 
@@ -156,7 +157,8 @@ pub(crate) fn fetch(
 }
 
 /// Puts an object at its key's place in the base that was shown last, where there is room; else it splits the base, if that isn't at the last level.
-/// Before that it looks at the base's mark: where a range of another pass has the base, that range is helped instead, and an attempt to join is given up.
+/// Before that it looks at the base's mark: where a range of another pass has the base, that range is helped instead, and an attempt to join is given up
+/// or carried out.
 pub(crate) fn put_there(
     tree: &Tree,
     pass: &mut TreePass,
@@ -198,6 +200,7 @@ fn put_settled(
     requires ready { IsReady tree.now.space pass.old }
     requires looking { IsLooking (sizes tree.now.space) (tree_of pass.old) (key_in insertion.now.keyed) cursor }
     requires settled { IsSettled (tree_of pass.old) (shown_last pass.old).its }
+    requires quiet { (tree_of pass.old).ranges.own ≡ Quiet }
     requires keyed { IsKeyed (sizes tree.now.space).keypos insertion.now.keyed }
     requires place { IsPlace (map pair (shown_last pass.old).objects) (key_in insertion.now.keyed) insertion.now.place }
     requires call { IsFor insertion.now.why insertion.now.place }
@@ -322,7 +325,7 @@ fn halt_of(split: Result<(), Stop>) -> Halt
 }
 
 /// Removes the object at its key's place in the base that was shown last. Where a range of another pass has the base, that range is helped instead, and an
-/// attempt to join is given up.
+/// attempt to join is given up or carried out.
 pub(crate) fn remove_there(
     tree: &Tree,
     pass: &mut TreePass,
@@ -361,6 +364,7 @@ fn remove_settled(
     requires ready { IsReady tree.now.space pass.old }
     requires looking { IsLooking (sizes tree.now.space) (tree_of pass.old) removal.now.key.now cursor }
     requires settled { IsSettled (tree_of pass.old) (shown_last pass.old).its }
+    requires quiet { (tree_of pass.old).ranges.own ≡ Quiet }
     requires place { IsPlace (map pair (shown_last pass.old).objects) removal.now.key.now (Ok removal.now.at) }
     ensures edited { HasEdited tree.now.space tree.now.tuning
         (λ event. event ≡ Remove removal.now.key.now (Some (object_at (Ok removal.now.at) (shown_last pass.old).objects))) removal.now.key.now None

@@ -4,7 +4,7 @@ ghost use Rattle.ca_model.specs.Answer.{IfBusy, IfDone, IfRefused};
 ghost use Rattle.ca_base.specs.declared.stop.Stop.TheVariants.{Empty as IsEmpty};
 ghost use Rattle.ca_replace.specs.declared.attempting.Halt.TheVariants.{Deep as IsDeep, Stopped as IsStopped};
 ghost use Rattle.ca_node.specs.Told.{with_upper};
-ghost use Rattle.ca_replace.specs.Attempting.{IsPaid, total, HasAttempted, HasDoneSuch, HasNext, HasStopped, HasTriedTo, IfDeep, refused_as};
+ghost use Rattle.ca_replace.specs.Attempting.{IsPaidTo, total, HasAttempted, HasDoneSuch, HasNext, HasStopped, HasTriedTo, IfDeep, refused_as};
 ghost use Rattle.ca_replace.specs.Called.{HasTold};
 ghost use Rattle.ca_replace.specs.Causes.{EndsAtLag, HasPinned, IsCaused, IsFullSince, KeepsFew};
 ghost use Rattle.ca_replace.specs.Seen.{store_of};
@@ -174,7 +174,7 @@ fn turns<A: Attempt>(
     ensures frame { StaysAtRest tree.now.space pass.old pass.new }
     ensures tried { HasTriedTo (λ answer. A.tells order.now.what.now answer left.new) (sizes tree.now.space) result (tree_of pass.old) (tree_of pass.new) }
     ensures deep { result ≡ Err IsDeep → IsFullSince (sizes tree.now.space) (A.adds order.now.what.now) (tree_of pass.new) }
-    ensures counted { IsPaid course.old.spent course.new.spent (known pass.old) (known pass.new) }
+    ensures counted { IsPaidTo result course.old.spent course.new.spent (known pass.old) (known pass.new) }
     ensures found { HasStopped result (known pass.old) (known pass.new) }
     ensures pinned { HasPinned (known pass.old) (known pass.new) }
     ensures lost { HasNext result → order.now.budget ≤ total course.new.spent }

@@ -1,11 +1,12 @@
 //! Trees are closed.
-ghost use Rattle.std.specs.Prelude.{◌≡◌, ◌↔◌, ◌<◌, ◌≤◌, IfErr, IfOk, MatchResult, map, vec_len};
+ghost use Rattle.std.specs.Prelude.{◌≡◌, ◌↔◌, ◌<◌, ◌≤◌, IfErr, IfOk, MatchResult, vec_len};
 ghost use Rattle.std.specs.List.{All};
-ghost use Rattle.ca_node.specs.TreePasses.{tree_of};
 ghost use Rattle.ca_replace.specs.Closing.{IsClosed};
+ghost use Rattle.ca_replace.specs.Past.{past_of};
 ghost use Rattle.ca_replace.specs.declared.closing.CloseFault.TheVariants.{Missing as IsMissing};
 ghost use Rattle.ca_rows.specs.Closed.{IsClosable};
 
+use crate::past::Past;
 use crate::tree::Tree;
 use ca_close::Objects;
 use ca_node::{TreePass, close_words};
@@ -24,6 +25,8 @@ pub enum CloseFault {
 pub struct Closed {
     /// The last state of the tree's history.
     pub objects: Objects,
+    /// What the tree was, and what its passes did.
+    pub past: Past,
 }
 
 impl Tree {
@@ -35,7 +38,8 @@ impl Tree {
         passes: Vec<TreePass>,
     ) -> Result<Closed, (Tree, Vec<TreePass>, CloseFault)>
         requires { All (λ pass. IsClosable self.space.table.shared.table_id pass.seat) passes.items }
-        ensures closed { IfOk result (λ closed. IsClosed self.space.sizes.keypos self.space.made (map tree_of passes.items) closed.objects) }
+        ensures past { IfOk result (λ closed. closed.past ≡ past_of self passes.items) }
+        ensures closed { IfOk result (λ closed. IsClosed closed.past closed.objects) }
         ensures missing { MatchResult result (λ closed. self.space.made ≤ vec_len passes) (λ refused.
             (refused.2 ≡ IsMissing) ↔ (vec_len passes < self.space.made)) }
         ensures untouched { IfErr result (λ refused. (refused.0 ≡ self) × (refused.1 ≡ passes)) }
@@ -46,9 +50,10 @@ impl Tree {
         let Ok(room) = Vec::with_capacity(alloc, self.space.rows() as usize) else {
             return Err((self, passes, CloseFault::NoMemory));
         };
+        let past = Past::of(&self, &passes);
         let (space, tuning) = self.into_parts();
         let words = close_words(space, passes);
         let objects = Objects::list(words, tuning.levels, room);
-        Ok(Closed { objects })
+        Ok(Closed { objects, past })
     }
 }

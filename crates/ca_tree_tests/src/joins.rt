@@ -1,6 +1,6 @@
 //! Attempts to join that are in the way of a store's calls: another pass began one, marked a base for it, and stopped there. Whoever is to exchange that base
 //! gives the attempt up, which counts as one operation that was helped.
-ghost use Rattle.std.specs.Prelude.{◌≡◌, ◌<◌, ◌≤◌, None};
+ghost use Rattle.std.specs.Prelude.{◌≡◌, ◌≤◌, None};
 ghost use Rattle.std.specs.Option.{ForSome};
 ghost use Rattle.ca_node.specs.Joining.{IsRemembered};
 ghost use Rattle.ca_node.specs.Place.{IsLinkOf};
@@ -30,13 +30,12 @@ fn route_of(link: Link) -> Option<u32>
     }
 }
 
-// Begins an attempt to join the base to which a key is led with its neighbour, and marks the base for it. The pass stays pinned.
+// Begins an attempt to join the base to which a key is led with its neighbour, and marks the base for it. The pass stays pinned, and has the attempt under way.
 fn prepare(space: &TreeSpace, pass: &mut TreePass, key: u8) -> Option<Attempt>
     requires rests { IsAtRest space.now pass.old }
     requires leaf { (sizes space.now).leaf ≤ 120 }
-    requires several { 1 < (sizes space.now).passes }
-    ensures number { IsNumbered pass.new.number (view pass.new).pin }
-    ensures reading { IsReading space.now pass.new }
+    ensures number { ForSome result (λ _x. IsNumbered pass.new.number (view pass.new).pin) }
+    ensures reading { ForSome result (λ _x. IsReading space.now pass.new) }
     ensures remembered { ForSome result (λ x. IsRemembered (view_of pass.new).ways x.route × (x.route ≤ (sizes space.now).rows)) }
 {
     space.pin(pass);
@@ -142,7 +141,6 @@ fn is_given_up(
     requires sizes { store.old.store.z.keypos ≡ 1 }
     requires closed { (knows store.old).run ≡ None }
     requires rests { IsAtRest tree.now.space other.old }
-    requires several { 1 < (sizes tree.now.space).passes }
 {
     let space = tree.space();
     let attempt = prepare(space, other, case.key)?;

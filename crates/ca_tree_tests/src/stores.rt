@@ -1,8 +1,11 @@
 //! One client's calls on a store, alone and beside a pass that reads all the while.
+ghost use Rattle.std.specs.Prelude.{◌≡◌, None};
+ghost use Rattle.ca_replace.specs.Resting.{knows};
+
 use crate::scripts::Answer::{Fills, Finds, Has, Is, Many, Number, Puts};
 use crate::scripts::Call::{
     Adapt, Count, Get, Last, Put, PutFalling, PutNew, PutOften, PutRising, PutSparing, Raise,
-    Remove, RemoveEven, RemoveIf, Splits,
+    Remove, RemoveEven, RemoveIf, RemoveRising, Splits,
 };
 use crate::scripts::{Row, wrong_row};
 use crate::trees::{Few, LAST, ZERO, tree_of, tuning_of};
@@ -48,7 +51,7 @@ fn beside(alloc: Global, script: &[Row], then: &[Row]) -> Option<(Option<usize>,
 }
 
 // A tree on 384 rows whose counters begin with 0, each base of which has at most so many objects.
-const FEW: [(&str, Few, &[Row]); 11] = [
+const FEW: [(&str, Few, &[Row]); 14] = [
     ("a thousand puts find their rows again", CALM, &SPARING),
     (
         "a new key finds no place in a full base",
@@ -79,6 +82,21 @@ const FEW: [(&str, Few, &[Row]); 11] = [
         "a hot base at the last level stays",
         (120, 0, 250, 600),
         &LAST_LEVEL,
+    ),
+    (
+        "a calm base is joined with its sibling",
+        (2, 64, 250, -600),
+        &COLD,
+    ),
+    (
+        "a calm base stays where both have too many objects",
+        (2, 64, 250, -600),
+        &TOO_MANY,
+    ),
+    (
+        "a calm base stays beside a route",
+        (2, 64, 250, -600),
+        &BESIDE_ROUTE,
     ),
 ];
 
@@ -241,6 +259,36 @@ const LAST_LEVEL: [Row; 7] = [
     (Last, Is(1_200, Adapted::NotSplit(Why::AtLevel))),
 ];
 
+// Bases that are to be joined: {2} with {1}, once 3 is removed.
+const COLD: [Row; 8] = [
+    (Adapt(1), Is(-600, Adapted::Stay)),
+    (Adapt(2), Is(-1_200, Adapted::NotJoined(Why::Root))),
+    (PutRising(3, 4), Many(1, Outcome::Done(()))),
+    (Last, Is(-600, Adapted::Stay)),
+    (Remove(3), Finds(PUT, Some(0))),
+    (Last, Is(-1_200, Adapted::Joined)),
+    (Splits, Has(1, 1)),
+    (Count(4), Number(2)),
+];
+
+// {1} beside {2, 3}.
+const TOO_MANY: [Row; 5] = [
+    (PutRising(1, 4), Many(3, Outcome::Done(()))),
+    (Adapt(1), Is(-600, Adapted::Stay)),
+    (Adapt(1), Is(-1_200, Adapted::NotJoined(Why::TooMany))),
+    (Splits, Has(1, 0)),
+    (Count(4), Number(3)),
+];
+
+// {1} beside a route with {2} and {3, 4}.
+const BESIDE_ROUTE: [Row; 5] = [
+    (PutRising(1, 5), Many(4, Outcome::Done(()))),
+    (Adapt(1), Is(-600, Adapted::Stay)),
+    (Adapt(1), Is(-1_200, Adapted::NotJoined(Why::SiblingRoute))),
+    (Splits, Has(2, 0)),
+    (Count(5), Number(4)),
+];
+
 #[test]
 fn calls_come_to_what_scripts_say(rt: HostRuntime) {
     let epoch = Starts {
@@ -279,6 +327,58 @@ fn calls_come_to_what_scripts_say(rt: HostRuntime) {
             "{name}"
         );
     }
+}
+
+// How often of so many times a store grows to so many objects, put in falling order, and shrinks to none, removed in rising order.
+fn waves(store: &mut TreeStore<'_>, count: u32, often: u32) -> u32
+    requires sizes { store.old.store.z.keypos ≡ 1 }
+    requires closed { (knows store.old).run ≡ None }
+    ensures sizes { store.new.store.z ≡ store.old.store.z }
+    ensures closed { (knows store.new).run ≡ None }
+{
+    let script = [
+        (PutFalling(count), Number(count)),
+        (RemoveRising(count), Number(count)),
+        (Count(count), Number(0)),
+    ];
+    for wave in 0..often {
+        if wrong_row(store, &script).is_some() {
+            return wave;
+        }
+    }
+    often
+}
+
+// The same of a new tree, and how many bases were split and joined by it.
+fn waves_of(
+    alloc: Global,
+    rows: u32,
+    few: Few,
+    count: u32,
+    often: u32,
+) -> Option<(u32, (u64, u64))> {
+    let Ok(mut tree) = tree_of(alloc, rows, 1, tuning_of(few), ZERO) else {
+        return None;
+    };
+    let Ok(pass) = tree.enroll(alloc) else {
+        return None;
+    };
+    let mut store = TreeStore::new(&tree, pass);
+    let done = waves(&mut store, count, often);
+    Some((done, store.adapted()))
+}
+
+// At most 599 rows are linked, and 2,997; about a hundred more are enough, however often the tree grows.
+#[test]
+fn trees_grow_and_shrink_in_few_rows(rt: HostRuntime) {
+    assert_eq!(rt;
+        waves_of(rt.alloc(), 700, (3, 200, 250, -600), 300, 40),
+        Some((40, (5_960, 5_960)))
+    );
+    assert_eq!(rt;
+        waves_of(rt.alloc(), 3_100, (8, 600, 250, -600), 2_000, 3),
+        Some((3, (1_494, 1_494)))
+    );
 }
 
 #[test]

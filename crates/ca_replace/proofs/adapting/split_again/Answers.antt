@@ -1,6 +1,8 @@
 use Rattle.std.proofs.Common.{[], ◌≡◌, sym, subst, ◌∙◌, ap, refl, inl, arith, rules}
 use Rattle.ca_base.specs.Putting.{first_note}
 use Rattle.ca_node.specs.declared.cursor.Spot.TheVariants as spot
+use Rattle.ca_adapt.specs.declared.adapted.Adapted.TheVariants as adapted
+use Rattle.ca_replace.specs.Adapting.{HasTriedOnce}
 use Rattle.ca_replace.proofs.Tuning.{tuned_on}
 use Rattle.ca_replace.proofs.Counted.{none_paid}
 use Rattle.ca_replace.proofs.Entries.{held_upper}
@@ -77,6 +79,9 @@ returns-then-cursor-placed-clause-tried c =
     c.args.pass.now.seat.me
     c.walk-cursor.new.pass.seat.me c.walk-cursor.result c.requires.placed
     c.walk-cursor.ensures.walked c.if-cursor-placed.true
+    (HasTriedOnce c.args.tree.now.space.table.shared.key c.walk-cursor.new.pass.seat.me.0.upper.last
+    c.walk-cursor.new.pass.seat.me.0.upper.renewal.splits c.walk-cursor.new.pass.seat.me.0.upper.splits adapted.Stay
+    × (c.walk-cursor.new.pass.seat.me.0.upper.joins ≡ c.walk-cursor.new.pass.seat.me.0.upper.renewal.joins))
 
 pub returns-then-cursor-placed-clause-counted : goal.returns-then-cursor-placed-clause-counted
 returns-then-cursor-placed-clause-counted c =

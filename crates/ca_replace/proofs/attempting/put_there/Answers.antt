@@ -1,4 +1,4 @@
-use Rattle.std.proofs.Common.{◌≡◌, Some, Err, true, false, sym, refl, subst}
+use Rattle.std.proofs.Common.{◌≡◌, Some, Err, true, false, sym, refl, subst, ◌∙◌}
 use Rattle.ca_base.proofs.Fronted.{first_noted}
 use Rattle.ca_base.specs.Putting.{first_note}
 use Rattle.ca_base.specs.Targets.{event_of, key_in}
@@ -32,6 +32,7 @@ pub clear-requires-clause-at : goal.clear-requires-clause-at
 clear-requires-clause-at c = let l = c.requires.looking in record {
   shown = record { noted = first_noted _ _ _ l.readable; here = l.readable.here; is_base = l.readable.is_base };
   at = l.at;
+  above = l.begins.placed.above;
   high = l.begins.placed.high;
 }
 
@@ -48,6 +49,11 @@ put_settled-done-requires-clause-looking c =
 
 pub put_settled-done-requires-clause-settled : goal.put_settled-done-requires-clause-settled
 put_settled-done-requires-clause-settled c = c.in-Free.ensures.cleared.1
+
+pub put_settled-done-requires-clause-quiet : goal.put_settled-done-requires-clause-quiet
+put_settled-done-requires-clause-quiet c =
+    (marked_look c.in-Free.ensures.cleared.0 c.in-Free.ensures.cleared.2 c.args.tree.now.space (key_in c.args.insertion.now.keyed) c.args.cursor
+    c.args.insertion.now.place c.requires.looking c.requires.place c.requires.unanswered).own_range ∙ c.requires.idle.quiet
 
 pub put_settled-done-requires-clause-place : goal.put_settled-done-requires-clause-place
 put_settled-done-requires-clause-place c =

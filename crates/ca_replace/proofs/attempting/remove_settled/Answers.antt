@@ -38,6 +38,11 @@ next_statistic-statistic-requires-clause-readable c = (
       (sym c.count-many.ensures.frame.still) c.requires.looking.readable,
 )
 
+pub settle-requires-clause-quiet : goal.settle-requires-clause-quiet
+settle-requires-clause-quiet c = c.remove_at-tried.ensures.frame.own_range
+    ∙ (ap (λ (m : MyTree). m.0.upper.ranges.own) (c.next_statistic-statistic.ensures.frame.still
+    ∙ c.count-many.ensures.frame.still) ∙ c.requires.quiet)
+
 pub settle-requires-clause-known : goal.settle-requires-clause-known
 settle-requires-clause-known c = known_then c.args.tree.now.space.table.shared.key
     (λ (u : TreeView).
@@ -182,7 +187,7 @@ returns-clause-edited c = record {
         c.remove_at-tried.result
         c.next_statistic-statistic.new.pass.seat.me.0.upper c.remove_at-tried.new.pass.seat.me.0.upper
         c.remove_at-tried.ensures.removed c.remove_at-tried.ensures.renewed)
-        c.remove_at-tried.ensures.counted c.settle.ensures.counted;
+        c.remove_at-tried.ensures.counted c.remove_at-tried.result c.settle.result c.settle.ensures.come c.settle.ensures.counted;
     found = settled_found c.args.tree.now.space.table.shared.key c.args.tree.now.tuning
         (to_z w32 (of_z w32 c.next_statistic-statistic.result))
         c.remove_at-tried.result

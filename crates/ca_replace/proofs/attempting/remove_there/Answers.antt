@@ -1,4 +1,4 @@
-use Rattle.std.proofs.Common.{◌≡◌, None, Some, Ok, Err, true, false, sym, refl, subst}
+use Rattle.std.proofs.Common.{◌≡◌, None, Some, Ok, Err, true, false, sym, refl, subst, ◌∙◌}
 use Rattle.ca_base.proofs.Fronted.{first_noted}
 use Rattle.ca_base.specs.Putting.{first_note}
 use Rattle.ca_base.specs.Putting.{object_at}
@@ -32,6 +32,7 @@ pub clear-requires-clause-at : goal.clear-requires-clause-at
 clear-requires-clause-at c = let l = c.requires.looking in record {
   shown = record { noted = first_noted _ _ _ l.readable; here = l.readable.here; is_base = l.readable.is_base };
   at = l.at;
+  above = l.begins.placed.above;
   high = l.begins.placed.high;
 }
 
@@ -48,6 +49,11 @@ remove_settled-done-requires-clause-looking c =
 
 pub remove_settled-done-requires-clause-settled : goal.remove_settled-done-requires-clause-settled
 remove_settled-done-requires-clause-settled c = c.in-Free.ensures.cleared.1
+
+pub remove_settled-done-requires-clause-quiet : goal.remove_settled-done-requires-clause-quiet
+remove_settled-done-requires-clause-quiet c =
+    (marked_look c.in-Free.ensures.cleared.0 c.in-Free.ensures.cleared.2 c.args.tree.now.space c.args.removal.now.key.now c.args.cursor
+    (Ok c.args.removal.now.at) c.requires.looking c.requires.place c.requires.unanswered).own_range ∙ c.requires.idle.quiet
 
 pub remove_settled-done-requires-clause-place : goal.remove_settled-done-requires-clause-place
 remove_settled-done-requires-clause-place c =

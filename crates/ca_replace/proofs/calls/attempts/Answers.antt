@@ -10,7 +10,7 @@ use Rattle.ca_replace.specs.Attempting.{HasStopped, total}
 use Rattle.ca_replace.specs.Growing.{HasWaited}
 use Rattle.ca_replace.proofs.Causing.{caused_as, few_from, nearer, refill_caused}
 use Rattle.ca_replace.proofs.Pinning.{begun_with, empty_before}
-use Rattle.ca_replace.proofs.Counted.{none_paid, paid_both, paid_given, spends_more}
+use Rattle.ca_replace.proofs.Counted.{none_paid, paid_both, paid_given, spends_more, paid_stopped}
 use Rattle.ca_replace.proofs.GoingOn.{gone_on, idle_waits, refused_gone, stopped_waits, waits_on}
 use Rattle.ca_replace.proofs.Meeting.{further_on}
 use Rattle.ca_replace.proofs.Showing.{tried_on}
@@ -58,7 +58,8 @@ turns-come-requires-clause-resting g c = c.loop-come.invariant.resting
 
 pub loop-come-smaller : goal.loop-come-smaller
 loop-come-smaller g c = let again = c.in_default.ensures.again refl in
-    let i = c.loop-come.invariant in let turns = c.turns-come.ensures.counted in
+    let i = c.loop-come.invariant in let turns = paid_stopped c.turns-come.result empty_halt c.loop-come.course.spent c.turns-come.new.course.spent
+    c.loop-come.pass.seat.me c.turns-come.new.pass.seat.me (c.if-is_empty.ensures.0 refl) c.turns-come.ensures.counted in
     let so_far =
     paid_both c.args.course.now.spent c.loop-come.course.spent c.turns-come.new.course.spent
     c.args.pass.now.seat.me c.loop-come.pass.seat.me
@@ -95,7 +96,8 @@ loop-come-preserved g c = let i = c.loop-come.invariant in
       counted = paid_both c.args.course.now.spent c.turns-come.new.course.spent c.refill.new.spent
           start behind last
           (paid_both c.args.course.now.spent c.loop-come.course.spent c.turns-come.new.course.spent
-          start before behind i.counted c.turns-come.ensures.counted)
+          start before behind i.counted (paid_stopped c.turns-come.result empty_halt c.loop-come.course.spent c.turns-come.new.course.spent
+          c.loop-come.pass.seat.me c.turns-come.new.pass.seat.me (c.if-is_empty.ensures.0 refl) c.turns-come.ensures.counted))
           c.refill.ensures.counted;
       looks = let before = i.looks in let same = c.turns-come.ensures.pinned.looks in
           let more = c.refill.ensures.looked in omega arith;
@@ -141,7 +143,8 @@ loop-come-preserved g c = let i = c.loop-come.invariant in
       first = inr (empty_before (vec_len c.loop-come.pass.kept.rows) c.kept-kept.result
           (vec_len c.refill.new.pass.kept.rows) start before behind last
           c.args.pass.now.kept.rows c.kept-kept.ensures (c.in_default.ensures.again refl).some
-          (let one = i.counted.more in let two = c.turns-come.ensures.counted.more in
+          (let one = i.counted.more in let two = (paid_stopped c.turns-come.result empty_halt c.loop-come.course.spent c.turns-come.new.course.spent
+          c.loop-come.pass.seat.me c.turns-come.new.pass.seat.me (c.if-is_empty.ensures.0 refl) c.turns-come.ensures.counted).more in
           omega arith)
           (c.in_default.ensures.again refl).begins i.first met given
           c.turns-come.ensures.pinned c.refill.ensures.gave.lags c.refill.ensures.looked);
@@ -201,12 +204,14 @@ returns-in-Err-clause-caused g c = let i = c.loop-come.invariant in
           start behind last
           (paid_both c.args.course.now.spent c.loop-come.course.spent c.turns-come.new.course.spent
           start before behind i.counted
-          c.turns-come.ensures.counted) c.refill.ensures.counted;
+          (paid_stopped c.turns-come.result empty_halt c.loop-come.course.spent c.turns-come.new.course.spent
+          c.loop-come.pass.seat.me c.turns-come.new.pass.seat.me (c.if-is_empty.ensures.0 refl) c.turns-come.ensures.counted)) c.refill.ensures.counted;
     }
     (begun_with z.rows c.kept-kept.result start before behind last
     c.args.pass.now.kept.rows c.loop-come.pass.kept.rows c.kept-kept.ensures i.resting.are_kept
     i.first
-    (let two = c.turns-come.ensures.counted.more in let three = c.refill.ensures.counted.more in
+    (let two = (paid_stopped c.turns-come.result empty_halt c.loop-come.course.spent c.turns-come.new.course.spent
+    c.loop-come.pass.seat.me c.turns-come.new.pass.seat.me (c.if-is_empty.ensures.0 refl) c.turns-come.ensures.counted).more in let three = c.refill.ensures.counted.more in
     omega arith) met c.refill.ensures.gave.met c.turns-come.ensures.pinned
     c.refill.ensures.gave.lags)
     (let more = i.looks in let same = c.turns-come.ensures.pinned.looks in omega arith)
@@ -238,14 +243,15 @@ returns-else-is_empty-clause-caused g c = let i = c.loop-come.invariant in
           (c.turns-come.ensures.deep e);
       lost = λ e. let most = c.turns-come.ensures.lost e in let more = c.add-course.ensures.more in
           omega arith;
-      paid = record {
+      paid = λ why e. record {
         spent = c.args.course.now.spent;
         none = c.requires.none;
         counted = paid_both c.args.course.now.spent c.turns-come.new.course.spent _ start behind
             last
             (paid_both c.args.course.now.spent c.loop-come.course.spent
             c.turns-come.new.course.spent start before behind i.counted
-            c.turns-come.ensures.counted)
+            (paid_stopped c.turns-come.result why c.loop-come.course.spent c.turns-come.new.course.spent before behind e
+            c.turns-come.ensures.counted))
             (paid_given c.turns-come.new.course.spent c.keep_few.result c.add-course.result behind
             last c.add-course.ensures.sum
             c.keep_few.ensures.lost upper);

@@ -5,7 +5,7 @@ use Rattle.ca_replace.specs.Attempting.{at_pin, total}
 use Rattle.ca_replace.specs.Causes.{IsFullSince}
 use Rattle.ca_replace.proofs.Again.{known_since, may_follow, next_since, tried_since}
 use Rattle.ca_replace.proofs.Between.{announced, first_since, may_first}
-use Rattle.ca_replace.proofs.Counted.{met_then, met_turn, one_turn_less, paid_both}
+use Rattle.ca_replace.proofs.Counted.{met_then, met_turn, one_turn_less, paid_before, paid_turn}
 use Rattle.ca_replace.proofs.Meeting.{further_on}
 use Rattle.ca_replace.proofs.Pinning.{pinned_as, pinned_once, pinned_still}
 use Rattle.ca_replace.proofs.Turns.{rests_again, rests_as, tried_unpinned, turn_further}
@@ -108,7 +108,9 @@ loop-course-smaller g c = let most = c.budget-budget.type_inv in
     let same = ap total c.go_on.ensures.course.1 in
     let less = one_turn_less c.loop-course.course.spent c.attempt-tried.new.course.spent
     c.budget-budget.result c.loop-course.pass.seat.me c.attempt-tried.new.pass.seat.me
-    (omega arith) (omega arith) c.attempt-tried.ensures.turn.counted
+    (omega arith) (omega arith)
+    (paid_turn c.attempt-tried.result c.loop-course.course.spent c.attempt-tried.new.course.spent c.loop-course.pass.seat.me
+    c.attempt-tried.new.pass.seat.me (c.if-not-has_next.ensures.0 refl) c.attempt-tried.ensures.turn.counted)
     (met_turn c.attempt-tried.result c.loop-course.pass.seat.me
     c.attempt-tried.new.pass.seat.me (c.if-not-has_next.ensures.0 refl)
     c.attempt-tried.ensures.turn.found).1 in omega arith
@@ -158,7 +160,7 @@ returns-then-not-has_next-clause-counted g c = let i = turn_unpinned (λ (x : _)
     c.args.tree.now.tuning c.loop-course.course c.attempt-tried.new.course c.attempt-tried.result
     c.loop-course.pass.seat.me c.attempt-tried.new.pass.seat.me c.unpin.new.pass.seat.me
     c.attempt-tried.ensures.turn c.unpin.ensures.unpinned in
-    paid_both c.args.course.now.spent c.loop-course.course.spent
+    paid_before c.attempt-tried.result c.args.course.now.spent c.loop-course.course.spent
     c.attempt-tried.new.course.spent c.args.pass.now.seat.me c.loop-course.pass.seat.me
     c.unpin.new.pass.seat.me c.loop-course.invariant.waiting.counted i.counted
 
