@@ -3,3 +3,4 @@ pub mod Bounded
 pub mod Explained
 pub mod Firsts
 pub mod Made
+pub mod Openings

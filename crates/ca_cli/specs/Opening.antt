@@ -5,6 +5,7 @@ use Rattle.ca_adapt.specs.declared.tuning.Tuning.{Tuning}
 use Rattle.ca_ets.specs.Command.{Command}
 use Rattle.ca_ets.specs.declared.command.Cmd.TheVariants.{Insert, InsertNew}
 use Rattle.ca_replace.specs.Made.{sizes_with}
+use Rattle.ca_replace.specs.Past.{TreePast}
 use Rattle.ca_replace.specs.declared.tree.Tree.{Tree}
 use Rattle.ca_rows.specs.declared.sizes.Starts.{Starts}
 use Rattle.ca_words.specs.declared.tree.TreeOptions.{TreeOptions}
@@ -52,3 +53,8 @@ pub record IsOpened (keypos : ℕ) (options : TreeOptions) (all : List (List Com
   pub sizes : tree.space.sizes ≡ sizes_with (rows_of options all) (length all) keypos (tuning_of options) from_zero
   pub tuning : tree.tuning ≡ tuning_of options
   pub unused : tree.space.made ≡ 0
+
+-- The tree that was closed was made for these clients' commands, as these options ask, with a pass for each client.
+pub record IsMadeFor (keypos : ℕ) (options : TreeOptions) (all : List (List Command)) (past : TreePast) : Type 0 where
+  pub sizes : past.sizes ≡ sizes_with (rows_of options all) (length all) keypos (tuning_of options) from_zero
+  pub tuning : past.tuning ≡ tuning_of options

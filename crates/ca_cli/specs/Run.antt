@@ -7,19 +7,17 @@ use Rattle.ca_cli.specs.Call.{Call}
 use Rattle.ca_cli.specs.Accepted.{IsAccepted}
 use Rattle.ca_cli.specs.Printed.{keypos_of, shape_text, text_of}
 use Rattle.ca_client.specs.Ran.{HasRun, all_answers_of}
-use Rattle.ca_cli.specs.Opening.{IsOpened}
+use Rattle.ca_cli.specs.Opening.{IsMadeFor}
 use Rattle.ca_client.specs.declared.running.Ran.{Ran}
-use Rattle.ca_replace.specs.declared.tree.Tree.{Tree}
 
 -- these bytes tell of the run: of its answers and its table, and of the shape that it left, where that is asked for
 abbrev pub text_of_ran : Request → TreeOptions → List (List Numbered) → Ran → List ℕ
 text_of_ran request options lines ran =
     text_of request lines (all_answers_of ran.answers.items) ran.objects.items ++ shape_text options ran.splits ran.joins
 
--- Clients with these lines played on a tree that was opened for them with these options, and this is their run.
+-- Clients with these lines played on a tree that was made for them as these options ask, and this is their run.
 pub record IsRunOf (request : Request) (options : TreeOptions) (lines : List (List Numbered)) (ran : Ran) : Type 0 where
-  pub tree : Tree
-  pub opened : IsOpened (keypos_of request) options (map commands_in lines) tree
+  pub made : IsMadeFor (keypos_of request) options (map commands_in lines) ran.past
   pub played : HasRun (keypos_of request) (map commands_in lines) ran
 
 -- What the words ask for was accepted and played. This is its run, and these bytes tell of it.

@@ -29,7 +29,7 @@ TREE, what is said of the tree that the clients share:
   --levels N   at which level no base is split any more: 0 to 4096, and 4096 without it
   --leaf N     how many objects a base has at most: 2 to 120, and 64 without it
   --high N     above which statistic a base is split: 0 to 1000000, and 1000 without it
-  --low N      below which one, minus N, it is joined: 0 to 1000000, and 1000 without it
+  --low N      below which one, minus N, it is due to be joined: 0 to 1000000, and 1000 without it
   --calm N     what an update takes from the statistic: 0 to 1000000, and 1 without it
   --heat N     what it adds: 0 to 1000000, and 0 without it
   --shape      print how many bases were split and joined

@@ -1,6 +1,7 @@
 pub mod Commands
 pub mod Crossing
 pub mod Logs
+pub mod OneHistory
 pub mod Refusals
 pub mod Shares
 pub mod Sharing

@@ -1,7 +1,7 @@
 -- What clients that shared a tree come to, once the tree is closed.
 use Rattle.std.proofs.Common.{◌≡◌, ℕ, zero, suc, ◌+◌, ◌≤◌, ◌<◌, List, [], ◌∷◌, ◌++◌, length, map, take, get_or, drop, refl, sym, ◌∙◌, ap, subst, arith}
 use Rattle.std.specs.Prelude.{All}
-use Rattle.std.proofs.lemmas.List.{take_all}
+use Rattle.std.proofs.lemmas.List.{length-map, take_all}
 use Rattle.std.proofs.lemmas.List.Elements.{All-cons}
 use Rattle.std.proofs.Math.Seq.{take-append_seam}
 use Rattle.atomic_table.specs.Seated.{TableId}
@@ -14,15 +14,16 @@ use Rattle.ca_cmd.specs.Lines.{numbered}
 use Rattle.ca_cmd.specs.declared.answer.Answer.{Answer}
 use Rattle.ca_cmd.specs.declared.line.Line.{Line}
 use Rattle.ca_model.specs.Event.{Entry}
-use Rattle.ca_model.specs.History.{History, state, after, AreByPasses}
+use Rattle.ca_model.specs.History.{History, after, AreByPasses}
 use Rattle.ca_model.specs.Known.{Known}
 use Rattle.ca_model.specs.Lawful.{IsLawful}
 use Rattle.ca_model.specs.StoreMap.{StoreMap, IsStoreMap}
 use Rattle.ca_model.proofs.Edits.{map_after}
 use Rattle.ca_node.specs.Links.{IsIn}
 use Rattle.ca_node.specs.TreePasses.{tree_of}
-use Rattle.ca_node.specs.TreeView.{TreeView, no_refusals}
+use Rattle.ca_node.specs.TreeView.{Ended, TreeView, no_refusals}
 use Rattle.ca_replace.specs.Closing.{IsClosed}
+use Rattle.ca_replace.specs.Past.{TreePast, left_by}
 use Rattle.ca_replace.specs.Resting.{numbers_of}
 use Rattle.ca_rows.specs.Closed.{IsClosable}
 use Rattle.ca_rows.specs.declared.sizes.Sizes.{Sizes}
@@ -56,7 +57,7 @@ one_table a b e = λ i. record {
 pub record IsShare {R : Type 0} (table : TableId) (z : Sizes) (number : ℕ) (file : List Line) (answers : List Answer) (pass : Pass R TreeView) : Type 0 where
   pub parts : List Part
   pub plays : Plays z.keypos Never (commands_in (numbered file)) (answers_of answers) parts
-  pub played : IsPlayedBy number (record { commands = commands_in (numbered file); answers = answers_of answers; parts = parts }) (tree_of pass)
+  pub played : IsPlayedBy number (record { commands = commands_in (numbered file); answers = answers_of answers; parts = parts }) (left_by pass)
   pub closable : IsClosable table pass.seat
 
 module _ {R : Type 0} (table : TableId) (z : Sizes) where
@@ -122,12 +123,12 @@ shares_left table z files n olds lent news parts many same all ready played left
     (subst (λ cs. AreParts cs parts.answers.items parts.passes.items) whole left.each)
 
 -- What a closed tree has is a map.
-pub closed_map : (keypos made : ℕ) (passes : List TreeView) (objects : StoreMap) → IsClosed keypos made passes objects → IsStoreMap keypos objects
-closed_map keypos made passes objects closed =
+pub closed_map : (past : TreePast) (objects : StoreMap) → IsClosed past objects → IsStoreMap past.sizes.keypos objects
+closed_map past objects closed = let keypos = past.sizes.keypos in
     subst (λ (m : StoreMap). IsStoreMap keypos m) (sym closed.has) (map_after keypos closed.history [] closed.edits tt)
 
 -- Clients that played these files by these passes, with these answers.
-pub record ArePlayers (keypos first : ℕ) (files : List (List Line)) (all : List (List Answer)) (passes : List TreeView) : Type 0 where
+pub record ArePlayers (keypos first : ℕ) (files : List (List Line)) (all : List (List Answer)) (passes : List Ended) : Type 0 where
   pub clients : List Player
   pub count : length clients ≡ length files
   pub commands_are : map (λ (c : Player). c.commands) clients ≡ map commands_in (map numbered files)
@@ -148,7 +149,7 @@ module _ {R : Type 0} (table : TableId) (z : Sizes) where
       All-cons (λ (pass : Pass R TreeView). IsClosable table pass.seat) p passes shares.0.closable (closable (suc first) files all passes shares.1)
 
   pub players : (first : ℕ) (files : List (List Line)) (all : List (List Answer)) (passes : List (Pass R TreeView))
-      → AreShares table z first files all passes → ArePlayers z.keypos first files all (map tree_of passes)
+      → AreShares table z first files all passes → ArePlayers z.keypos first files all (map left_by passes)
   players first [] [] [] shares =
       record { clients = []; count = refl; commands_are = refl; answers_are = refl; played = tt; plays = λ k d l. absurd (omega (arith, l)) }
   players first [] [] (p ∷ passes) shares = absurd shares
@@ -168,8 +169,8 @@ module _ {R : Type 0} (table : TableId) (z : Sizes) where
       }
 
 -- The log of each client is lawful, where those of the passes are.
-lawful_at : (first : ℕ) (clients : List Player) (passes : List TreeView) (history : History) → 0 < first → ArePlayedBy first clients passes
-    → ((pass : TreeView) → IsIn pass passes → 0 < pass.number → IsLawful pass.number history pass.log)
+lawful_at : (first : ℕ) (clients : List Player) (passes : List Ended) (history : History) → 0 < first → ArePlayedBy first clients passes
+    → ((pass : Ended) → IsIn pass passes → 0 < pass.number → IsLawful pass.number history pass.log)
     → (i : ℕ) → i < length clients → IsLawful (first + i) history (log_of (get_or clients i nobody).parts)
 lawful_at first [] passes history low played lawful i l = absurd (omega (arith, l))
 lawful_at first (c ∷ clients) [] history low played lawful i l = absurd played
@@ -190,38 +191,43 @@ by_number P clients at zero low high = absurd (omega (arith, low))
 by_number P clients at (suc i) low high =
     let same : 1 + i ≡ suc i = omega arith in subst (λ (n : ℕ). P n (get_or clients i nobody)) same (at i (omega (arith, high)))
 
-have_logs : (keypos made : ℕ) (clients : List Player) (passes : List TreeView) (objects : StoreMap) (table : List Tree)
-    (closed : IsClosed keypos made passes objects) → made ≡ length clients → ArePlayedBy 1 clients passes
-    → All (λ (c : Player). Plays keypos Never c.commands c.answers c.parts) clients → Stands keypos objects table
-    → HaveLogs keypos closed.history clients table
-have_logs keypos made clients passes objects table closed e played plays stands = let h = closed.history in record {
+have_logs : (keypos : ℕ) (past : TreePast) (clients : List Player) (objects : StoreMap) (table : List Tree) (closed : IsClosed past objects)
+    → past.made ≡ length clients → ArePlayedBy 1 clients past.passes → All (λ (c : Player). Plays keypos Never c.commands c.answers c.parts) clients
+    → Stands keypos objects table → HaveLogs keypos closed.history clients table
+have_logs keypos past clients objects table closed e played plays stands = let h = closed.history in record {
   enrolled = subst (λ (n : ℕ). AreByPasses n h) e closed.by_passes;
   plays = by_number (λ i c. Plays keypos Never c.commands c.answers c.parts) clients (λ i l. plays i nobody l);
-  lawful = by_number (λ i c. IsLawful i h (log_of c.parts)) clients (lawful_at 1 clients passes h (omega arith) played closed.lawful);
+  lawful = by_number (λ i c. IsLawful i h (log_of c.parts)) clients (lawful_at 1 clients past.passes h (omega arith) played closed.lawful);
   ends = subst (λ (m : StoreMap). Stands keypos m table)
       (closed.has ∙ ap (λ (steps : History). after steps []) (sym (take_all (length h) h (omega arith)))) stands;
 }
 
 -- Clients that shared a tree have run, once it is closed.
-pub has_run : {R : Type 0} (table : TableId) (z : Sizes) (made : ℕ) (files : List (List Line)) (passes : List (Pass R TreeView)) (objects : StoreMap)
-    (ran : Ran) → AreShares table z 1 files ran.answers.items passes → made ≡ length files → IsClosed z.keypos made (map tree_of passes) objects
-    → Stands z.keypos objects ran.objects.items → ran.splits ≡ splits_of (map tree_of passes) → ran.joins ≡ joins_of (map tree_of passes)
-    → HasRun z.keypos (map commands_in (map numbered files)) ran
-has_run table z made files passes objects ran shares e closed stands splits joins =
-    let p = players table z 1 files ran.answers.items passes shares in
-    let logs = have_logs z.keypos made p.clients (map tree_of passes) objects ran.objects.items closed (e ∙ sym p.count) p.played p.plays stands in
-    let merge = merge_of closed.history p.clients in
-    record {
-      history = closed.history;
-      clients = p.clients;
-      commands_are = p.commands_are;
-      answers_are = p.answers_are;
-      logs = logs;
-      passes = map tree_of passes;
-      played = p.played;
-      splits_are = splits;
-      joins_are = joins;
-      explained = subst (λ (cs : List (List Command)). ExplainedBy z.keypos cs (all_answers_of ran.answers.items) merge ran.objects.items) p.commands_are
-          (subst (λ (xs : List (List PlainAnswer)). ExplainedBy z.keypos (map (λ (c : Player). c.commands) p.clients) xs merge ran.objects.items) p.answers_are
-          (explains z.keypos closed.history p.clients ran.objects.items logs));
-    }
+module _ {R : Type 0} (table : TableId) (z : Sizes) (files : List (List Line)) (passes : List (Pass R TreeView)) (objects : StoreMap) (ran : Ran)
+    (shares : AreShares table z 1 files ran.answers.items passes) (left : ran.past.passes ≡ map left_by passes) (made : ran.past.made ≡ length files)
+    (closed : IsClosed ran.past objects) (stands : Stands z.keypos objects ran.objects.items) where
+  players_are : ArePlayers z.keypos 1 files ran.answers.items ran.past.passes
+  players_are = subst (λ (xs : List Ended). ArePlayers z.keypos 1 files ran.answers.items xs) (sym left)
+      (players table z 1 files ran.answers.items passes shares)
+
+  pub has_run : ran.splits ≡ splits_of (map left_by passes) → ran.joins ≡ joins_of (map left_by passes)
+      → HasRun z.keypos (map commands_in (map numbered files)) ran
+  has_run splits joins =
+      let p = players_are in
+      let logs = have_logs z.keypos ran.past p.clients objects ran.objects.items closed (made ∙ sym p.count) p.played p.plays stands in
+      let merge = merge_of closed.history p.clients in
+      let terms = ran.objects.items in
+      record {
+        made = made ∙ sym p.count ∙ sym (length-map p.clients (λ (c : Player). c.commands)) ∙ ap (λ (cs : List (List Command)). length cs) p.commands_are;
+        history = closed.history;
+        clients = p.clients;
+        commands_are = p.commands_are;
+        answers_are = p.answers_are;
+        logs = logs;
+        played = p.played;
+        splits_are = splits ∙ ap (λ (xs : List Ended). splits_of xs) (sym left);
+        joins_are = joins ∙ ap (λ (xs : List Ended). joins_of xs) (sym left);
+        explained = subst (λ (cs : List (List Command)). ExplainedBy z.keypos cs (all_answers_of ran.answers.items) merge terms) p.commands_are
+            (subst (λ (xs : List (List PlainAnswer)). ExplainedBy z.keypos (map (λ (c : Player). c.commands) p.clients) xs merge terms) p.answers_are
+            (explains z.keypos closed.history p.clients terms logs));
+      }

@@ -7,7 +7,8 @@ use Rattle.atomic_table.specs.Seated.{TableId}
 use Rattle.ca_cmd.specs.declared.answer.Answer.{Answer}
 use Rattle.ca_cmd.specs.declared.line.Line.{Line}
 use Rattle.ca_node.specs.TreePasses.{tree_of}
-use Rattle.ca_node.specs.TreeView.{TreeView}
+use Rattle.ca_node.specs.TreeView.{Ended, TreeView}
+use Rattle.ca_replace.specs.Past.{left_by}
 use Rattle.ca_rows.specs.declared.sizes.Sizes.{Sizes}
 use Rattle.ca_rows.specs.declared.space.Pass.{Pass}
 use Rattle.ca_client.specs.Ran.{splits_of, joins_of}
@@ -48,12 +49,12 @@ capped_more : {A : Type 0} (f : A → ℕ) (xs : List A) (x : A) (sum one most :
 capped_more f xs x sum one most e g = let more = sum_by_push f xs x in omega (arith, e, g, more)
 
 module _ {R : Type 0} (passes : List (Pass R TreeView)) (pass : Pass R TreeView) (sum one : ℕ) where
-  pub splits_more : sum ≡ splits_of (map tree_of passes) → one ≡ min 18446744073709551615 (tree_of pass).splits
-      → min (sum + one) 18446744073709551615 ≡ splits_of (map tree_of (passes ++ pass ∷ []))
-  splits_more e g = rw (map-append tree_of passes (pass ∷ []))
-      (capped_more (λ (u : TreeView). u.splits) (map tree_of passes) (tree_of pass) sum one 18446744073709551615 e g)
+  pub splits_more : sum ≡ splits_of (map left_by passes) → one ≡ min 18446744073709551615 (tree_of pass).splits
+      → min (sum + one) 18446744073709551615 ≡ splits_of (map left_by (passes ++ pass ∷ []))
+  splits_more e g = rw (map-append left_by passes (pass ∷ []))
+      (capped_more (λ (x : Ended). x.splits) (map left_by passes) (left_by pass) sum one 18446744073709551615 e g)
 
-  pub joins_more : sum ≡ joins_of (map tree_of passes) → one ≡ min 18446744073709551615 (tree_of pass).joins
-      → min (sum + one) 18446744073709551615 ≡ joins_of (map tree_of (passes ++ pass ∷ []))
-  joins_more e g = rw (map-append tree_of passes (pass ∷ []))
-      (capped_more (λ (u : TreeView). u.joins) (map tree_of passes) (tree_of pass) sum one 18446744073709551615 e g)
+  pub joins_more : sum ≡ joins_of (map left_by passes) → one ≡ min 18446744073709551615 (tree_of pass).joins
+      → min (sum + one) 18446744073709551615 ≡ joins_of (map left_by (passes ++ pass ∷ []))
+  joins_more e g = rw (map-append left_by passes (pass ∷ []))
+      (capped_more (λ (x : Ended). x.joins) (map left_by passes) (left_by pass) sum one 18446744073709551615 e g)

@@ -1,14 +1,16 @@
 -- What a run of clients on one tree comes to.
-use Rattle.std.specs.Prelude.{◌≡◌, ℕ, suc, min, List, [], ◌∷◌, map, sum_by}
-use Rattle.ca_term.specs.Tree.{Tree}
+use Rattle.std.specs.Prelude.{◌≡◌, ℕ, suc, min, List, [], ◌∷◌, length, map, sum_by}
 use Rattle.ca_ets.specs.Command.{Command, Answer as PlainAnswer}
 use Rattle.ca_ets.specs.Explained.{ExplainedBy}
 use Rattle.ca_model.specs.History.{History}
-use Rattle.ca_node.specs.TreeView.{TreeView, no_refusals}
+use Rattle.ca_node.specs.TreeView.{Ended, no_refusals}
 use Rattle.ca_cmd.specs.Answers.{answers_of}
 use Rattle.ca_cmd.specs.declared.answer.Answer.{Answer}
 use Rattle.ca_explain.specs.Clients.{Client, log_of}
 use Rattle.ca_explain.specs.Explaining.{HaveLogs, merge_of}
+use Rattle.ca_replace.specs.Past.{TreePast}
+use Rattle.ca_replace.specs.Resting.{numbers_of}
+use Rattle.ca_replace.specs.declared.tree.Tree.{Tree}
 use Rattle.ca_client.specs.Played.{AreCounted}
 use Rattle.ca_client.specs.declared.running.Ran.{Ran}
 
@@ -17,35 +19,45 @@ abbrev pub all_answers_of : List (List Answer) → List (List PlainAnswer)
 all_answers_of all = map answers_of all
 
 -- how many splits and how many joins these passes carried out together, each up to the last number that 64 bits hold
-abbrev pub splits_of : List TreeView → ℕ
+abbrev pub splits_of : List Ended → ℕ
 splits_of passes = min 18446744073709551615 (sum_by (λ pass. pass.splits) passes)
 
-abbrev pub joins_of : List TreeView → ℕ
+abbrev pub joins_of : List Ended → ℕ
 joins_of passes = min 18446744073709551615 (sum_by (λ pass. pass.joins) passes)
 
 -- The client of this number played by this pass: the pass has the client's number, its log is that of the client's parts, and for each kind of refusal
 -- it counted no fewer than the client's answers tell.
-pub record IsPlayedBy (number : ℕ) (client : Client) (pass : TreeView) : Type 0 where
+pub record IsPlayedBy (number : ℕ) (client : Client) (pass : Ended) : Type 0 where
   pub number_is : pass.number ≡ number
   pub log : pass.log ≡ log_of client.parts
   pub counted : AreCounted no_refusals pass.counts client.answers
 
 -- The clients, of which the first has this number, played by these passes, one each.
-abbrev pub ArePlayedBy : ℕ → List Client → List TreeView → Type 0
+abbrev pub ArePlayedBy : ℕ → List Client → List Ended → Type 0
 ArePlayedBy first [] [] = Unit {0}
 ArePlayedBy first (client ∷ clients) (pass ∷ passes) = IsPlayedBy first client pass × ArePlayedBy (suc first) clients passes
 ArePlayedBy first clients passes = ⊥
 
--- There is one history for which the logs of the clients' passes are lawful, and whose last state stands for the table; so the merge by places explains
--- the answers and the table. Splits and joins are those of the passes, as they were when the tree was closed.
+-- It is the past of this tree: the table is its own, and so are what it was made with and how it adapts.
+pub record IsPastOf (tree : Tree) (past : TreePast) : Type 0 where
+  pub table : past.table ≡ numbers_of tree.space.table.shared.table_id
+  pub sizes : past.sizes ≡ tree.space.sizes
+  pub tuning : past.tuning ≡ tree.tuning
+
+-- The clients played by the passes of the closed tree, which made one for each, and no other. There is one history for which the passes' logs are lawful,
+-- and whose last state stands for the table; so the merge by places explains the answers and the table. Splits and joins are those of the passes.
 pub record HasRun (keypos : ℕ) (commands : List (List Command)) (ran : Ran) : Type 0 where
+  pub made : ran.past.made ≡ length commands
   pub history : History
   pub clients : List Client
   pub commands_are : map (λ client. client.commands) clients ≡ commands
   pub answers_are : map (λ client. client.answers) clients ≡ all_answers_of ran.answers.items
   pub logs : HaveLogs keypos history clients ran.objects.items
-  pub passes : List TreeView
-  pub played : ArePlayedBy 1 clients passes
-  pub splits_are : ran.splits ≡ splits_of passes
-  pub joins_are : ran.joins ≡ joins_of passes
+  pub played : ArePlayedBy 1 clients ran.past.passes
+  pub splits_are : ran.splits ≡ splits_of ran.past.passes
+  pub joins_are : ran.joins ≡ joins_of ran.past.passes
   pub explained : ExplainedBy keypos commands (all_answers_of ran.answers.items) (merge_of history clients) ran.objects.items
+
+-- The history of a run is told by the logs of its passes: there is no other one.
+abbrev pub HaveOneHistory : Type 0
+HaveOneHistory = (keypos : ℕ) (commands : List (List Command)) (ran : Ran) (one other : HasRun keypos commands ran) → one.history ≡ other.history

@@ -5,6 +5,7 @@ use Rattle.ca_cmd.specs.declared.answer.Answer.{Answer}
 use Rattle.ca_cmd.specs.declared.line.Line.{Line}
 use Rattle.ca_node.specs.TreePasses.{tree_of}
 use Rattle.ca_node.specs.TreeView.{TreeView, blank}
+use Rattle.ca_replace.specs.Past.{left_by}
 use Rattle.ca_replace.specs.Resting.{IsResting, known_of}
 use Rattle.ca_rows.specs.declared.sizes.Sizes.{Sizes}
 use Rattle.ca_rows.specs.declared.space.Pass.{Pass}
@@ -53,5 +54,5 @@ module _ {S R : Type 0} where
 -- These are the clients' answers and passes, and what all passes together did to the tree.
 pub record AreLeft {S : Type 0} (clients : List (Client S)) (parts : Parts) : Type 0 where
   pub each : AreParts clients parts.answers.items parts.passes.items
-  pub splits_are : parts.splits ≡ splits_of (map tree_of parts.passes.items)
-  pub joins_are : parts.joins ≡ joins_of (map tree_of parts.passes.items)
+  pub splits_are : parts.splits ≡ splits_of (map left_by parts.passes.items)
+  pub joins_are : parts.joins ≡ joins_of (map left_by parts.passes.items)

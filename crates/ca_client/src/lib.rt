@@ -11,7 +11,7 @@ mod running;
 
 pub use clients::{Client, play_all};
 pub use gate::{Gate, OpenGate};
-pub use laws::{lines_are_shared, logs_are_parts};
+pub use laws::{lines_are_shared, logs_are_parts, runs_have_one_history};
 pub use playing::play;
 pub use rendezvous::Rendezvous;
 pub use running::{Ran, run_clients};

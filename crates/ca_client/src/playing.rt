@@ -33,9 +33,13 @@ fn is_worth_a_wait(why: FullCause, waits: u32) -> bool
     }
 }
 
-// Lets other threads run, the longer the more waits there were.
+// How often other threads are let run in one wait at most.
+const MOST_YIELDS: u32 = 2_000;
+
+// Lets other threads run: in the k-th wait k * k times, up to the most. Where other programs have taken all processors, a yield often comes back before
+// the thread whose pass lags ran again, and a thousand waits of a few yields each are over while it stands still. So waits grow fast.
 fn pause(waits: u32) {
-    for _ in 0..waits {
+    for _ in 0..waits.saturating_mul(waits).min(MOST_YIELDS) {
         yield_now();
     }
 }

@@ -2,7 +2,7 @@
 ghost use Rattle.std.specs.Prelude.{◌≡◌, ℕ, ◌≤◌, IfOk, IfSome, OnOk, length, map, vec_len};
 ghost use Rattle.ca_cmd.specs.File.{commands_in};
 ghost use Rattle.ca_cmd.specs.Lines.{numbered};
-ghost use Rattle.ca_client.specs.Ran.{HasRun};
+ghost use Rattle.ca_client.specs.Ran.{HasRun, IsPastOf};
 ghost use Rattle.ca_node.specs.Tallied.{IsTallied};
 ghost use Rattle.ca_node.specs.TreePasses.{tree_of};
 ghost use Rattle.ca_client.specs.Sharing.{AreLeft, AreNew, AreReady, IsNew, IsPart, IsReady};
@@ -12,7 +12,7 @@ use crate::gate::Gate;
 use crate::listing::terms_of;
 use ca_cmd::{Answers, Lines};
 use ca_node::{TreePass, adapted};
-use ca_replace::{Tree, TreeStore};
+use ca_replace::{Past, Tree, TreeStore};
 use ca_table::Table;
 use ca_term::Terms;
 use std::alloc::{AllocError, Global};
@@ -29,6 +29,8 @@ pub struct Ran {
     /// How many splits and how many joins the passes carried out, each up to the last number that 64 bits hold.
     pub splits: u64,
     pub joins: u64,
+    /// Which tree they played on, what it was made with, and what each of its passes did, as contracts see it.
+    pub past: Past,
 }
 
 // What clients that played leave: their answers and their passes, in order, and what the passes did to the tree, as `Ran` says it.
@@ -44,7 +46,8 @@ struct Parts {
 fn enroll_all(alloc: Global, tree: &mut Tree, count: usize) -> Result<Vec<TreePass>, AllocError>
     requires fresh { tree.old.space.made ≡ 0 }
     requires few { count ≤ tree.old.space.sizes.passes }
-    ensures same { (tree.new.space.table.shared ≡ tree.old.space.table.shared) × (tree.new.space.sizes ≡ tree.old.space.sizes) }
+    ensures same { (tree.new.space.table.shared ≡ tree.old.space.table.shared) × (tree.new.space.sizes ≡ tree.old.space.sizes)
+        × (tree.new.tuning ≡ tree.old.tuning) }
     ensures made { OnOk result (tree.new.space.made ≡ count) }
     ensures passes { IfOk result (λ passes. (vec_len passes ≡ count)
         × AreNew tree.new.space.table.shared.table_id tree.new.space.table.shared.key 1 passes.items) }
@@ -151,6 +154,7 @@ pub fn run_clients<R: Threads + Wait + Sync, G: Gate + Sync>(
     requires few { length files.now ≤ tree.space.sizes.passes }
     requires keypos { (keypos ≡ tree.space.sizes.keypos) × (1 ≤ keypos) }
     ensures ran { IfOk result (λ ran. HasRun keypos (map commands_in (map numbered files.now)) ran) }
+    ensures past { IfOk result (λ ran. IsPastOf tree ran.past) }
 {
     let mut tree = tree;
     let passes = enroll_all(alloc, &mut tree, files.len())?;
@@ -166,5 +170,6 @@ pub fn run_clients<R: Threads + Wait + Sync, G: Gate + Sync>(
         objects,
         splits: parts.splits,
         joins: parts.joins,
+        past: closed.past,
     })
 }

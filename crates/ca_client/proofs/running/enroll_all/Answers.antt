@@ -27,6 +27,7 @@ loop-alloc-preserved c =
     } in record {
       shared = now.same.0 ∙ kept.shared;
       sizes = now.same.1 ∙ kept.sizes;
+      tuning = now.same.2 ∙ kept.tuning;
       made = counted ∙ ap (λ (n : ℕ). n + 1) kept.made ∙ sym c.push_reserved.ensures.len;
       few = let len = c.push_reserved.ensures.len in let is = c.len.ensures in omega (arith, len, is, test);
       room = subst (λ (n : ℕ). c.args.count ≤ n) (sym c.push_reserved.ensures.capacity) kept.room;

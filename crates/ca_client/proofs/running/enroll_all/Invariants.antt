@@ -6,6 +6,7 @@ abbrev pub invariant-loop-alloc : goal.invariant-loop-alloc
 invariant-loop-alloc l = record {
   shared : l.tree.space.table.shared ≡ l.initial.tree.space.table.shared;
   sizes : l.tree.space.sizes ≡ l.initial.tree.space.sizes;
+  tuning : l.tree.tuning ≡ l.initial.tree.tuning;
   made : l.tree.space.made ≡ vec_len l.made;
   few : vec_len l.made ≤ l.count;
   room : l.count ≤ vec_capacity l.made;

@@ -1,7 +1,7 @@
 use Rattle.std.proofs.Common.{◌≡◌, ◌+◌, ◌≤◌, ℕ, suc, [], ◌∷◌, ◌++◌, length, map, sym, ◌∙◌, ap, subst, arith, append_assoc}
 use Rattle.std.proofs.lemmas.List.{length_push}
 use Rattle.std.specs.Vec.Iter.{into_iter_items}
-use Rattle.ca_node.specs.TreePasses.{tree_of}
+use Rattle.ca_replace.specs.Past.{left_by}
 use Rattle.ca_client.specs.Ran.{splits_of, joins_of}
 use Rattle.ca_client.specs.Sharing.{AreParts}
 use Rattle.ca_client.proofs.Sharing.{parts_more, splits_more, joins_more}
@@ -34,8 +34,8 @@ loop-client-preserved c =
       room_too = subst (λ (n : ℕ). length c.args.clients.items ≤ n) (sym taken.capacity) kept.room_too;
       splits = c.saturating_add-splits.ensures
           ∙ splits_more passes.items pass c.loop-client.splits c.adapted-splits_more.result.0 kept.splits (told.splits ∙ part.1.0)
-          ∙ ap (λ ps. splits_of (map tree_of ps)) (sym taken.items);
+          ∙ ap (λ ps. splits_of (map left_by ps)) (sym taken.items);
       joins = c.saturating_add-joins.ensures
           ∙ joins_more passes.items pass c.loop-client.joins c.adapted-splits_more.result.1 kept.joins (told.joins ∙ part.1.1)
-          ∙ ap (λ ps. joins_of (map tree_of ps)) (sym taken.items);
+          ∙ ap (λ ps. joins_of (map left_by ps)) (sym taken.items);
     }

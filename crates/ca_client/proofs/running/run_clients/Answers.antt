@@ -1,9 +1,9 @@
-use Rattle.std.proofs.Common.{◌≡◌, ℕ, List, length, map, sym, ◌∙◌, ap, subst}
+use Rattle.std.proofs.Common.{◌≡◌, ℕ, map, sym, ◌∙◌, ap, subst}
 use Rattle.ca_cmd.specs.File.{commands_in}
 use Rattle.ca_cmd.specs.Lines.{numbered}
 use Rattle.ca_model.specs.StoreMap.{IsStoreMap}
-use Rattle.ca_node.specs.TreePasses.{tree_of}
-use Rattle.ca_replace.specs.Closing.{IsClosed}
+use Rattle.ca_replace.specs.Past.{TreePast, past_of}
+use Rattle.ca_replace.specs.Resting.{numbers_of}
 use Rattle.ca_rows.specs.declared.sizes.Sizes.{Sizes}
 use Rattle.ca_client.specs.Ran.{HasRun}
 use Rattle.ca_client.specs.declared.running.Ran.{Ran}
@@ -20,30 +20,36 @@ close-requires g c =
     c.as_mut_slice.ensures.value c.play_all.ensures.same c.in_ok-clients.ensures.ready c.play_all.ensures.played c.in_ok-parts.ensures)
 
 pub terms_of-requires : goal.terms_of-requires
-terms_of-requires g c =
-    let space = c.enroll_all.new.tree.space in
-    let passes = map tree_of c.in_ok-parts.parts.passes.items in
-    (space.sizes.keypos, closed_map space.sizes.keypos space.made passes c.in-Ok.closed.objects c.in-Ok.ensures.closed)
+terms_of-requires g c = let closed = c.in-Ok.closed in (closed.past.sizes.keypos, closed_map closed.past closed.objects c.in-Ok.ensures.closed)
 
 pub returns : goal.returns
 returns g c =
     let space = c.enroll_all.new.tree.space in
     let shared = space.table.shared in
+    let same = c.in_ok-passes.ensures.same in
     let clients = c.in_ok-clients.clients in
     let parts = c.in_ok-parts.parts in
+    let past = c.in-Ok.closed.past in
     let objects = c.in-Ok.closed.objects in
     let files = c.args.files.now in
-    let passes = map tree_of parts.passes.items in
-    let ran : Ran = record { answers = parts.answers; objects = c.in_ok-objects.objects; splits = parts.splits; joins = parts.joins } in
+    let told : past ≡ past_of c.enroll_all.new.tree parts.passes.items = c.in-Ok.ensures.past in
+    let ran : Ran = record { answers = parts.answers; objects = c.in_ok-objects.objects; splits = parts.splits; joins = parts.joins; past = past } in
     let shares = shares_left shared.table_id shared.key files clients.len clients.items c.as_mut_slice.result.now c.play_all.new.clients parts clients.ok.0
     c.as_mut_slice.ensures.value c.play_all.ensures.same c.in_ok-clients.ensures.ready c.play_all.ensures.played c.in_ok-parts.ensures in
-    let closed : IsClosed shared.key.keypos space.made passes objects =
-    subst (λ (z : Sizes). IsClosed z.keypos space.made passes objects) space.same c.in-Ok.ensures.closed in
+    let past_keypos : past.sizes.keypos ≡ shared.key.keypos =
+    ap (λ (p : TreePast). p.sizes.keypos) told ∙ ap (λ (z : Sizes). z.keypos) space.same in
     let keypos : shared.key.keypos ≡ c.args.keypos =
-    ap (λ (z : Sizes). z.keypos) (sym space.same ∙ c.in_ok-passes.ensures.same.1) ∙ sym c.requires.keypos.0 in
-    let stands = c.in_ok-objects.ensures shared.key.keypos (closed_map shared.key.keypos space.made passes objects closed) in
+    ap (λ (z : Sizes). z.keypos) (sym space.same ∙ same.1) ∙ sym c.requires.keypos.0 in
+    let stands = c.in_ok-objects.ensures shared.key.keypos
+    (subst (λ (k : ℕ). IsStoreMap k objects) past_keypos (closed_map past objects c.in-Ok.ensures.closed)) in
     record {
       ran = subst (λ (k : ℕ). HasRun k (map commands_in (map numbered files)) ran) keypos
-          (has_run shared.table_id shared.key space.made files parts.passes.items objects ran shares c.in_ok-passes.ensures.made closed stands
+          (has_run shared.table_id shared.key files parts.passes.items objects ran shares (ap (λ (p : TreePast). p.passes) told)
+          (ap (λ (p : TreePast). p.made) told ∙ c.in_ok-passes.ensures.made) c.in-Ok.ensures.closed stands
           c.in_ok-parts.ensures.splits_are c.in_ok-parts.ensures.joins_are);
+      past = record {
+        table = ap (λ (p : TreePast). p.table) told ∙ ap (λ s. numbers_of s.table_id) same.0;
+        sizes = ap (λ (p : TreePast). p.sizes) told ∙ same.1;
+        tuning = ap (λ (p : TreePast). p.tuning) told ∙ same.2;
+      };
     }
