@@ -19,7 +19,7 @@ use Rattle.ca_rows.proofs.OwnWords.{own_is}
 use Rattle.ca_runs.specs.Runs.{range_of}
 use Rattle.ca_runs.proofs.Keeping.{of_run}
 use Rattle.ca_node.specs.LoneStays.{same_kept}
-use Rattle.ca_node.specs.Endings.{active_word, decided_word, IsHelping, over_up_to, without, helped, too_late, Helps, HasHelped}
+use Rattle.ca_node.specs.Endings.{active_word, decided_word, IsHelping, over_up_to, without, helped, too_late, IsHelpStep, Helps, HasHelped}
 use Rattle.ca_node.specs.Laws.{noted_alike}
 use Rattle.ca_node.specs.Layout.{sequence_unit}
 use Rattle.ca_node.specs.Links.{IsIn, IsActive, HasBegun, IsDecided, IsOnChain, IsOfOwnRun, IsNoted, by_border}
@@ -291,11 +291,13 @@ module _ (z : Sizes) (s : State (Unit {0}) (View TreeView)) (r : R z s) (id : �
 module _ (z : Sizes) where
   -- The exchange of the word of another pass's range, which decides it.
   pub helps : (slots id : ℕ) (me : MyTree) (pass number : ℕ) (last : Note) (border : Border) (word_at : ℕ) → 0 < pass
-      → word_at ≡ status_word z pass → IsHelping me pass number last border
+      → word_at ≡ status_word z pass → me.0.sizes ≡ z → IsHelping me pass number last border
       → Allows (R z) slots id me word_at
       (λ n. either (eqb n (active_word number)) (decided_word number last.row) n)
       (Relinks MaySwap (Helps pass number (mark_bound last.its)) (step slots word_at (active_word number) (decided_word number last.row) none) me)
-  helps slots id me pass number last border word_at lo here k s r _ at _ = let n : ℕ = get_or s.words word_at 0 in
+  helps slots id me pass number last border word_at lo here sized k s r _ at _ = let n : ℕ = get_or s.words word_at 0 in
+      let tied : IsHelpStep pass number (step slots word_at (active_word number) (decided_word number last.row) none) me =
+      (here ∙ ap (λ (y : Sizes). status_word y pass) (sym sized), refl, k.met) in
       let far = own_is z.rows pass s.words r.above.shape.wide lo in
       let there : own_word s.words pass + 1 ≡ word_at = omega arith in
       let same : result_of s.words pass ≡ n = ap (λ (i : ℕ). get_or s.words i 0) there in
@@ -311,7 +313,7 @@ module _ (z : Sizes) where
             (sym (ap (λ b. either b (decided_word number last.row) n) (eq-eqb n (active_word number) hit)))
             (subst (λ (i : ℕ). R z record { words = set s.words i (decided_word number last.row); homes = s.homes; views = set s.views id d' }) there
             (help_step z s r id me at pass number last border k (same ∙ hit))),
-        ((λ _. refl), (λ miss. absurd (miss hit)), inr (inr (inr (inl (pass, number, mark_bound last.its, won)))), won),
+        ((λ _. refl), (λ miss. absurd (miss hit)), inr (inr (inr (inl (pass, number, mark_bound last.its, tied, won)))), won),
       ))
       (λ miss. let late' : View TreeView = record me.0 { upper = too_late pass number me.0.upper } in
       let missed : Helps pass number (mark_bound last.its) (step slots word_at (active_word number) (decided_word number last.row) none) me n (late', me.1) =
@@ -322,7 +324,7 @@ module _ (z : Sizes) where
         subst (λ (y : ℕ). R z (stepped s word_at y id me.1 late' keeps))
             (sym (ap (λ b. either b (decided_word number last.row) n) (ne_eqb n (active_word number) miss)))
             (late_step z s r id me at pass number last border k (λ e. miss (sym same ∙ e)) word_at),
-        ((λ hit. absurd (miss hit)), (λ _. refl), inr (inr (inr (inl (pass, number, mark_bound last.its, missed)))), missed),
+        ((λ hit. absurd (miss hit)), (λ _. refl), inr (inr (inr (inl (pass, number, mark_bound last.its, tied, missed)))), missed),
       ))
 
 -- The two ways that the exchange goes.

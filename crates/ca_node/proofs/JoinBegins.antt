@@ -6,7 +6,7 @@ use native.Mathlib.Decide.{ℕ_discrete}
 use lib.ListN.{get_elem?}
 use prog.Atomic.{either}
 use Rattle.atomic_table.specs.Table.{State, step, keeps, stepped, Allows}
-use Rattle.atomic_table.proofs.Lists.{at_map, set_again}
+use Rattle.atomic_table.proofs.Lists.{at_map}
 use Rattle.ca_rows.specs.Calls.{Relinks}
 use Rattle.ca_rows.specs.Claims.{held_count}
 use Rattle.ca_rows.specs.Rule.{upper_of}
@@ -16,7 +16,8 @@ use Rattle.ca_rows.specs.declared.view.View.{View}
 use Rattle.ca_node.specs.Attempts.{join_of, HasAttempt, IsPrepared, JoinGoesOn}
 use Rattle.ca_node.specs.Joining.{AreJoining, IsRemembered, AreFinished, IsJoining}
 use Rattle.ca_node.specs.JoinsStay.{joined_still}
-use Rattle.ca_node.specs.JoinSteps.{join_place, attempt_of, before, beginning, joins_begun, IsBeginning, IsNext, BeginsJoin, HasBegunJoin, BeginsSome}
+use Rattle.ca_node.specs.JoinSteps.{join_place, attempt_of, before, beginning, joins_begun, one_begin_lost, IsBeginning, IsNext, BeginsJoin, HasBegunJoin, BeginsSome}
+use Rattle.ca_node.specs.Laws.{noted_alike, numbered, relisted, seat_changed}
 use Rattle.ca_node.specs.Links.{IsIn}
 use Rattle.ca_node.specs.May.{MaySwap}
 use Rattle.ca_node.specs.Place.{Place}
@@ -26,7 +27,6 @@ use Rattle.ca_node.specs.States.{IsAlone}
 use Rattle.ca_node.specs.LoneStays.{none_by_quiet}
 use Rattle.ca_node.specs.Shape.{Route}
 use Rattle.ca_node.specs.Told.{MyTree}
-use Rattle.ca_node.specs.Tree.{IsTree}
 use Rattle.ca_node.specs.TreeView.{Note, Way, Attempt, Finished, KnownJoins, Joining, TreeView}
 use Rattle.ca_node.proofs.JoinEnds.{is_route, same_joining}
 use Rattle.ca_node.proofs.JoinTurns.{begun_goes_on}
@@ -147,6 +147,45 @@ module _ (z : Sizes) where
       ⊎_elim (λ (e : join_of s.words x.route ≡ 4 * is_next.last). miss (omega (arith, e, next, before_it)))
       (λ (m : 4 * is_next.last + 4 ≤ join_of s.words x.route). omega (arith, m, late)) over
 
+  -- An exchange of a join word after which the seat counts one more that was lost, and may begin none.
+  begin_lost : (s : State (Unit {0}) (View TreeView)) (r : R z s) (i id : ℕ) (d : View TreeView) → get_elem? s.views id ≡ some d → R z record {
+    words = set s.words i (get_or s.words i 0);
+    homes = s.homes;
+    views = set s.views id (record d { upper = one_begin_lost d.upper });
+  }
+  begin_lost s r i id d at = let f = r.above in let us : List TreeView = map upper_of s.views in let first = at_map upper_of s.views id d at in
+      let u' : TreeView = one_begin_lost d.upper in
+      let k = relisted z r.made s.words f.role us (set us id u') f.history id d.upper (numbered us id d.upper u' first (λ _. refl)) (knows_upper z s r id d at) in
+      looked z s r i id d u' at (λ row n. inl (noted_alike s.words d.upper u' (λ x m. m) (λ x m. m) (λ x m. m) (λ x m. m) (λ x m. m) row n))
+      (seat_changed z r.made s.words us id d.upper u' f first (λ _. refl) (λ _. refl) (λ _ _ l. l) record {
+        made_before = k.made_before;
+        alone = k.alone;
+        seen_first = k.seen_first;
+        since_first = k.since_first;
+        lawful = k.lawful;
+        past = k.past;
+        notes = k.notes;
+        links = k.links;
+        ways = k.ways;
+        way_links = k.way_links;
+        one_place = k.one_place;
+        joining = record {
+          hung = k.joining.hung;
+          begun = k.joining.begun;
+          finished = k.joining.finished;
+          secured = k.joining.secured;
+          decided = k.joining.decided;
+        };
+        ended = k.ended;
+      }
+      (let ranging = f.ranged.each id d.upper first in record {
+        over = ranging.over;
+        borders = ranging.borders;
+        own = ranging.own;
+        sequence = ranging.sequence;
+        run = ranging.run;
+      }))
+
   -- The exchange that begins an attempt.
   begins_join : (slots id : ℕ) (me : MyTree) (x : Attempt) (last : ℕ) → x.number ≡ last + 1 → me.0.sizes ≡ z → IsBeginning me x
       → Allows (R z) slots id me (row_words * x.route + 3) (λ n. either (eqb n (4 * last)) (4 * x.number + 1) n)
@@ -156,7 +195,7 @@ module _ (z : Sizes) where
       dite (ℕ_discrete n (4 * last))
       (λ (hit : n ≡ 4 * last). let d' : View TreeView = (relinked me me.0.claims (beginning x me.0.upper)).0 in
       let told : BeginsSome (step slots (row_words * x.route + 3) (4 * last) (4 * x.number + 1) none) me n (d', me.1) =
-      (x, (refl, first), ((λ _. refl), λ miss. absurd (miss hit))) in (
+      (x, (refl, first), k.next, ((λ _. refl), λ miss. absurd (miss hit))) in (
         d',
         keeps,
         tt,
@@ -165,15 +204,15 @@ module _ (z : Sizes) where
             (begin_step z s r id me at x k.remembered last next hit k),
         ((λ _. refl), (λ miss. absurd (miss hit)), inr (inr (inr (inr (inr (inl told))))), told),
       ))
-      (λ miss. let told : BeginsSome (step slots (row_words * x.route + 3) (4 * last) (4 * x.number + 1) none) me n me =
-      (x, (refl, first), ((λ hit. absurd (miss hit)), λ _. (refl, λ is_next. not_alone s r id me at x last next sized is_next miss))) in (
-        me.0,
+      (λ miss. let lost : View TreeView = record me.0 { upper = one_begin_lost me.0.upper } in
+      let told : BeginsSome (step slots (row_words * x.route + 3) (4 * last) (4 * x.number + 1) none) me n (lost, me.1) =
+      (x, (refl, first), k.next, ((λ hit. absurd (miss hit)), λ _. (refl, not_alone s r id me at x last next sized k.next miss))) in (
+        lost,
         keeps,
         tt,
-        subst (λ (y : ℕ). R z (stepped s (row_words * x.route + 3) y id me.1 me.0 keeps))
+        subst (λ (y : ℕ). R z (stepped s (row_words * x.route + 3) y id me.1 lost keeps))
             (sym (ap (λ b. either b (4 * x.number + 1) n) (ne_eqb n (4 * last) miss)))
-            (looked z s r (row_words * x.route + 3) id me.0 me.0.upper at (λ row m. inl m)
-            (subst (IsTree z r.made s.words) (sym (set_again (map upper_of s.views) id me.0.upper (at_map upper_of s.views id me.0 at))) r.above)),
+            (begin_lost s r (row_words * x.route + 3) id me.0 at),
         ((λ hit. absurd (miss hit)), (λ _. refl), inr (inr (inr (inr (inr (inl told))))), told),
       ))
 
@@ -191,17 +230,12 @@ pub has_begun_join : (n slots word route number last : ℕ) (m m' : MyTree) → 
 has_begun_join n slots word route number last m m' at next t = let there : word ≡ join_place t.0.route = t.1.0 in
     let here : 4 * last + 4 ≡ 4 * t.0.number = t.1.1 in let r : t.0.route ≡ route = omega (arith, there, at) in
     let i : t.0.number ≡ number = omega (arith, here, next) in
-    let told = subst (λ (x : Attempt). BeginsJoin x (step slots word (4 * last) (4 * number + 1) none) m n m') (λ k. attempt_of (r k) (i k)) t.2 in
+    let told = subst (λ (x : Attempt). BeginsJoin x (step slots word (4 * last) (4 * number + 1) none) m n m') (λ k. attempt_of (r k) (i k)) t.3 in
     dite (ℕ_discrete n (4 * last))
     (λ hit. subst (λ (b : Bool). HasBegunJoin b (attempt_of route number) m m') (sym (eq-eqb n (4 * last) hit)) (told.0 hit))
     (λ miss. subst (λ (b : Bool). HasBegunJoin b (attempt_of route number) m m') (sym (ne_eqb n (4 * last) miss)) (told.1 miss).0)
 
 -- The pass isn't the only one, where another one began an attempt since.
-pub lost_beginning : (n slots word route number last : ℕ) (m m' : MyTree) → word ≡ join_place route → number ≡ last + 1
-    → BeginsSome (step slots word (4 * last) (4 * number + 1) none) m n m' → eqb n (4 * last) ≡ false
-    → IsNext (attempt_of route number) m.0.upper.ranges.joins → ¬ IsAlone m.0.sizes m.0.upper
-lost_beginning n slots word route number last m m' at next t lost is_next = let there : word ≡ join_place t.0.route = t.1.0 in
-    let here : 4 * last + 4 ≡ 4 * t.0.number = t.1.1 in let r : route ≡ t.0.route = omega (arith, there, at) in
-    let i : number ≡ t.0.number = omega (arith, here, next) in
-    (t.2.1 (λ hit. let e : true ≡ false = sym (eq-eqb n (4 * last) hit) ∙ lost in absurd cc)).1
-    (subst (λ (x : Attempt). IsNext x m.0.upper.ranges.joins) (λ k. attempt_of (r k) (i k)) is_next)
+pub lost_beginning : (n slots word last new : ℕ) (m m' : MyTree) → BeginsSome (step slots word (4 * last) new none) m n m' → eqb n (4 * last) ≡ false
+    → ¬ IsAlone m.0.sizes m.0.upper
+lost_beginning n slots word last new m m' t lost = (t.3.1 (λ hit. let e : true ≡ false = sym (eq-eqb n (4 * last) hit) ∙ lost in absurd cc)).1

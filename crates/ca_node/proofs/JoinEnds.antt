@@ -351,7 +351,7 @@ module _ (z : Sizes) where
       dite (ℕ_discrete n (4 * x.number + 1))
       (λ (hit : n ≡ 4 * x.number + 1). let d' : View TreeView = (relinked me me.0.claims (aborted x me.0.upper)).0 in
       let told : AbortsSome (step slots (row_words * x.route + 3) (4 * x.number + 1) (4 * x.number) none) me n (d', me.1) =
-      (x, (refl, refl), ((λ _. refl), λ miss. absurd (miss hit))) in (
+      (x, (refl, refl), k.found, ((λ _. refl), λ miss. absurd (miss hit))) in (
         d',
         keeps,
         tt,
@@ -362,7 +362,7 @@ module _ (z : Sizes) where
       ))
       (λ miss. let late : View TreeView = record me.0 { upper = too_late x me.0.upper } in
       let told : AbortsSome (step slots (row_words * x.route + 3) (4 * x.number + 1) (4 * x.number) none) me n (late, me.1) =
-      (x, (refl, refl), ((λ hit. absurd (miss hit)), λ _. refl)) in (
+      (x, (refl, refl), k.found, ((λ hit. absurd (miss hit)), λ _. refl)) in (
         late,
         keeps,
         tt,
@@ -430,7 +430,7 @@ pub has_aborted_join : (n slots word route number : ℕ) (m m' : MyTree) → wor
     → HasAbortedJoin (eqb n (4 * number + 1)) (attempt_of route number) m m'
 has_aborted_join n slots word route number m m' at t = let told = subst
     (λ (x : Attempt). AbortsJoin x (step slots word (4 * number + 1) (4 * number) none) m n m')
-    (same_attempt t.0 slots word route number (4 * number) at t.1) t.2 in dite (ℕ_discrete n (4 * number + 1))
+    (same_attempt t.0 slots word route number (4 * number) at t.1) t.3 in dite (ℕ_discrete n (4 * number + 1))
     (λ hit. subst (λ (b : Bool). HasAbortedJoin b (attempt_of route number) m m') (sym (eq-eqb n (4 * number + 1) hit)) (told.0 hit))
     (λ miss. subst (λ (b : Bool). HasAbortedJoin b (attempt_of route number) m m') (sym (ne_eqb n (4 * number + 1) miss)) (told.1 miss))
 

@@ -1,5 +1,6 @@
 -- What a load of a join word tells the pass that is the only one: no attempt is under way but its own; and which attempt is the next one.
-use Rattle.std.proofs.Common.{◌≡◌, ◌≢◌, ℕ, ◌+◌, ◌/◌, ◌%◌, ◌<◌, ◌≤◌, cond, sym, refl, ap, subst, ⊎_elim, arith, eq-eqb, Bool}
+use Rattle.std.proofs.Common.{◌≡◌, ◌≢◌, ℕ, ◌+◌, ◌/◌, ◌%◌, ◌<◌, ◌≤◌, cond, [], ◌∷◌, sym, refl, ap, subst, ⊎_elim, arith, eq-eqb, Bool}
+use lib.ListN.{get_elem?}
 use mathlib.Core.Logic.{dite}
 use mathlib.Core.Option.{some}
 use native.Mathlib.Decide.{ℕ_discrete}
@@ -22,6 +23,7 @@ idle_by_load route n m m' h few pass none = dite (ℕ_discrete (n % 4) 0) (λ ze
 pub next_by_load : (route n : ℕ) (m m' : MyTree) → HasLoadedJoin route m n m' → n % 4 ≡ 0
     → IsNext (attempt_of route (n / 4 + 1)) m'.0.upper.ranges.joins
 next_by_load route n m m' h zero = subst (λ (y : MyTree). IsNext (attempt_of route (n / 4 + 1)) y.0.upper.ranges.joins) (sym h.now) record {
+  loaded = (0, ap (λ (b : Bool). get_elem? (cond b (attempt_of route (n / 4 + 1) ∷ []) []) 0) (eq-eqb (n % 4) 0 zero));
   last = n / 4;
   next = refl;
   begun = (0, refl);

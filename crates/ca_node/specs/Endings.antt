@@ -8,7 +8,7 @@ use Rattle.ca_node.specs.Layout.{sequence_unit}
 use Rattle.ca_node.specs.Links.{IsIn}
 use Rattle.ca_node.specs.Ranging.{Reaches}
 use Rattle.ca_node.specs.Row.{mark_bound, IsMarkedBy}
-use Rattle.ca_node.specs.Told.{MyTree, with_upper, but_of}
+use Rattle.ca_node.specs.Told.{MyTree, with_upper, but_of, status_word}
 use Rattle.ca_node.specs.TreeView.{Note, Over, Unfinished, Border, Inventory, KnownRanges, TreeView, one_helped}
 
 -- the word of an active range, and that of one that was decided with this base
@@ -62,6 +62,11 @@ too_late pass number u = record u { ranges = finished pass number u.ranges; turn
 abbrev pub Helps : ℕ → ℕ → ℕ → Step (Unit {0}) → MyTree → ℕ → MyTree → Type 0
 Helps pass number border st m n m' = (n ≡ st.first → m' ≡ relinked m m.0.claims (helped pass number border m.0.upper))
     × (n ≢ st.first → m' ≡ with_upper m (too_late pass number m.0.upper))
+
+-- The exchange is of the word of that range's pass, and expects the range active, which the seat found unfinished.
+abbrev pub IsHelpStep : ℕ → ℕ → Step (Unit {0}) → MyTree → Type 0
+IsHelpStep pass number st m = (st.word ≡ status_word m.0.sizes pass) × (st.first ≡ active_word number)
+    × IsIn {A = Unfinished} (record { pass = pass; number = number }) m.0.upper.ranges.unfinished
 
 abbrev pub HasHelped : Bool → ℕ → ℕ → ℕ → MyTree → MyTree → Type 0
 HasHelped true pass number border m m' = m' ≡ relinked m m.0.claims (helped pass number border m.0.upper)

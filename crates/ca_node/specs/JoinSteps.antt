@@ -37,6 +37,10 @@ secured_by route word = cond (word % 4 == 2) (attempt_of route (word / 4) ∷ []
 abbrev pub prepared_by : ℕ → ℕ → List Attempt
 prepared_by route word = cond (word % 4 == 1) (attempt_of route (word / 4) ∷ []) []
 
+-- the attempt that may be begun, by that word
+abbrev pub next_by : ℕ → ℕ → List Attempt
+next_by route word = cond (word % 4 == 0) (attempt_of route (word / 4 + 1) ∷ []) []
+
 abbrev pub with_joins : TreeView → KnownJoins → TreeView
 with_joins u joins = record u { ranges = record u.ranges { joins = joins } }
 
@@ -52,6 +56,7 @@ joins_loaded route word joins = record {
   secured = secured_by route word ++ joins.secured;
   decided = joins.decided;
   prepared = prepared_by route word ++ joins.prepared;
+  next = next_by route word;
 }
 
 -- The join word of a route was loaded. Each attempt of the route that marked a base which was shown, or is known to be begun, was begun; one that is known to
@@ -75,7 +80,17 @@ LoadsJoin st m n m' = (route : ℕ) × (st.word ≡ join_place route) × HasLoad
 
 -- what a seat knows of joins that began an attempt: those before are finished
 abbrev pub joins_begun : Attempt → KnownJoins → KnownJoins
-joins_begun x joins = record joins { begun = x ∷ joins.begun; finished = before x.route x.number ∷ joins.finished }
+joins_begun x joins = record joins { begun = x ∷ joins.begun; finished = before x.route x.number ∷ joins.finished; next = [] }
+
+-- The attempt is the one behind the last one that the seat knows of the route, which it knows to be finished. So its last load of a join word told, and it
+-- exchanged none since.
+pub record IsNext (x : Attempt) (joins : KnownJoins) : Type 0 where
+  pub loaded : IsIn x joins.next
+  pub last : ℕ
+  pub next : x.number ≡ last + 1
+  pub begun : IsIn (attempt_of x.route last) joins.begun
+  pub finished : IsIn (before x.route (last + 1)) joins.finished
+  pub none_later : (y : Attempt) → IsIn y joins.begun → y.route ≡ x.route → y.number ≤ last
 
 -- The seat may begin an attempt, the next one of the route behind one that is finished: it is pinned, remembers the route, and its last operation that others
 -- may meet is over.
@@ -84,40 +99,36 @@ pub record IsBeginning (m : MyTree) (x : Attempt) : Type 0 where
   pub is_pass : 0 < m.0.upper.number
   pub quiet : m.0.upper.ranges.own ≡ Quiet
   pub remembered : IsRemembered m.0.upper.ways x.route
-  pub later : 0 < x.number
+  pub next : IsNext x m.0.upper.ranges.joins
 
 -- what a seat knows that began an attempt: it is its own
 abbrev pub beginning : Attempt → TreeView → TreeView
 beginning x u = with_own u (Joining x) (joins_begun x u.ranges.joins)
 
--- The attempt is the one behind the last one that the seat knows of the route, which it knows to be finished.
-pub record IsNext (x : Attempt) (joins : KnownJoins) : Type 0 where
-  pub last : ℕ
-  pub next : x.number ≡ last + 1
-  pub begun : IsIn (attempt_of x.route last) joins.begun
-  pub finished : IsIn (before x.route (last + 1)) joins.finished
-  pub none_later : (y : Attempt) → IsIn y joins.begun → y.route ≡ x.route → y.number ≤ last
+-- what one knows that lost the exchange: it may begin none before it loads a join word again
+abbrev pub one_begin_lost : TreeView → TreeView
+one_begin_lost u = record (with_joins u (record u.ranges.joins { next = [] })) { lost = u.lost + 1 }
 
--- The join word was exchanged, from the attempt before finished to this one prepared; or the attempt before wasn't the last one, or wasn't finished, which isn't
--- so where it was as the seat knew, and the pass is the only one of the space.
+-- The join word was exchanged, from the attempt before finished to this one prepared; or the exchange was lost, which is counted, and the pass isn't the only one
+-- of the space.
 abbrev pub BeginsJoin : Attempt → Step (Unit {0}) → MyTree → ℕ → MyTree → Type 0
 BeginsJoin x st m n m' = (n ≡ st.first → m' ≡ relinked m m.0.claims (beginning x m.0.upper))
-    × (n ≢ st.first → (m' ≡ m) × (IsNext x m.0.upper.ranges.joins → ¬ IsAlone m.0.sizes m.0.upper))
+    × (n ≢ st.first → (m' ≡ with_upper m (one_begin_lost m.0.upper)) × ¬ IsAlone m.0.sizes m.0.upper)
 
 abbrev pub HasBegunJoin : Bool → Attempt → MyTree → MyTree → Type 0
 HasBegunJoin true x m m' = m' ≡ relinked m m.0.claims (beginning x m.0.upper)
-HasBegunJoin false x m m' = m' ≡ m
+HasBegunJoin false x m m' = m' ≡ with_upper m (one_begin_lost m.0.upper)
 
 -- What one knows that secured an attempt: it is decided, too, so that it is none that the pass found in its way.
 abbrev pub joins_secured : Attempt → KnownJoins → KnownJoins
-joins_secured x joins = record joins { secured = x ∷ joins.secured; decided = x ∷ joins.decided; prepared = [] }
+joins_secured x joins = record joins { secured = x ∷ joins.secured; decided = x ∷ joins.decided; prepared = []; next = [] }
 
 -- what one knows that gave one up, and what one knows that came too late to give it up, or to secure it
 abbrev pub joins_aborted : Attempt → KnownJoins → KnownJoins
-joins_aborted x joins = record joins { finished = before x.route (x.number + 1) ∷ joins.finished; prepared = [] }
+joins_aborted x joins = record joins { finished = before x.route (x.number + 1) ∷ joins.finished; prepared = []; next = [] }
 
 abbrev pub joins_too_late : Attempt → KnownJoins → KnownJoins
-joins_too_late x joins = record joins { decided = x ∷ joins.decided; prepared = [] }
+joins_too_late x joins = record joins { decided = x ∷ joins.decided; prepared = []; next = [] }
 
 -- Either way that counts as one operation more that it helped to its end.
 abbrev pub aborted : Attempt → TreeView → TreeView
@@ -206,12 +217,12 @@ IsJoinStep x st = (st.word ≡ join_place x.route) × (st.first ≡ 4 * x.number
 abbrev pub IsJoinBegin : Attempt → Step (Unit {0}) → Type 0
 IsJoinBegin x st = (st.word ≡ join_place x.route) × (st.first + 4 ≡ 4 * x.number)
 
--- It is about some attempt.
+-- It is about some attempt. That one begins which may be begun, by the last load of a join word: so a lost exchange expected what that load gave.
 abbrev pub BeginsSome : Step (Unit {0}) → MyTree → ℕ → MyTree → Type 0
-BeginsSome st m n m' = (x : Attempt) × IsJoinBegin x st × BeginsJoin x st m n m'
+BeginsSome st m n m' = (x : Attempt) × IsJoinBegin x st × IsNext x m.0.upper.ranges.joins × BeginsJoin x st m n m'
 
 abbrev pub AbortsSome : Step (Unit {0}) → MyTree → ℕ → MyTree → Type 0
-AbortsSome st m n m' = (x : Attempt) × IsJoinStep x st × AbortsJoin x st m n m'
+AbortsSome st m n m' = (x : Attempt) × IsJoinStep x st × IsIn x m.0.upper.ranges.joins.prepared × AbortsJoin x st m n m'
 
 abbrev pub SecuresSome : Step (Unit {0}) → MyTree → ℕ → MyTree → Type 0
 SecuresSome st m n m' = (x : Attempt) × IsJoinStep x st × SecuresJoin x st m n m'

@@ -4,7 +4,7 @@ use Rattle.atomic_table.specs.Table.{Step}
 use Rattle.ca_model.specs.Event.{Event}
 use Rattle.ca_model.specs.Known.{Counts}
 use Rattle.ca_node.specs.Copies.{Copy, Copies}
-use Rattle.ca_node.specs.Endings.{Helps}
+use Rattle.ca_node.specs.Endings.{IsHelpStep, Helps}
 use Rattle.ca_node.specs.JoinSteps.{LoadsJoin, SwapsJoin}
 use Rattle.ca_node.specs.Told.{MyTree, Leads, Reads, ReadsLast, IsRise, Refuses, PassesOn, Watches, IsLastThere, Update, Updates, Divides}
 use Rattle.ca_node.specs.OwnRanges.{Opens, WatchesOwn, DecidesOwn, Aborts, Leaves}
@@ -33,7 +33,7 @@ abbrev pub MaySwap : Step (Unit {0}) → MyTree → ℕ → MyTree → Type 0
 MaySwap st m n m' = ((x : Update) × IsShownLast m.0.upper st x.old × Updates x st m n m')
     ⊎ ((((x : Division) × IsShownLast m.0.upper st x.old × Divides x st m n m') ⊎ UnlinksSome st m n m')
     ⊎ (((x : Copy) × (served : List ℕ) × (ranges : KnownRanges) × IsShownLast m.0.upper st x.old × Copies served ranges x st m n m')
-    ⊎ (((pass : ℕ) × (number : ℕ) × (border : ℕ) × Helps pass number border st m n m')
+    ⊎ (((pass : ℕ) × (number : ℕ) × (border : ℕ) × IsHelpStep pass number st m × Helps pass number border st m n m')
     ⊎ (SwapsOwn st m n m' ⊎ SwapsJoin st m n m'))))
 
 -- All that a store may tell: the seat began a range.

@@ -119,13 +119,15 @@ pub record Finished : Type 0 where
   pub below : ℕ
 
 -- What a seat knows of the joins of routes that it remembers: attempts that were begun, some that are finished, some that are secured, and some that are
--- prepared no more, of which it doesn't know which of both they are; and those that it found prepared since it gave one up.
+-- prepared no more, of which it doesn't know which of both they are; those that it found prepared since it gave one up; and the one that it may begin, where its
+-- last load of a join word told so, and it exchanged none since.
 pub record KnownJoins : Type 0 where
   pub begun : List Attempt
   pub finished : List Finished
   pub secured : List Attempt
   pub decided : List Attempt
   pub prepared : List Attempt
+  pub next : List Attempt
 
 -- What a seat knows of ranges: some that are over, some rows that say up to where one goes, how far its own last one is, that one's number, where it knows
 -- it, the bases of a run of its own that it was shown, and those of other passes that it found unfinished since it was pinned, one a pass; and what it knows
@@ -184,7 +186,7 @@ abbrev pub no_turns : Turns
 no_turns = record { passed = 0; helped = 0 }
 
 abbrev pub no_joins : KnownJoins
-no_joins = record { begun = []; finished = []; secured = []; decided = []; prepared = [] }
+no_joins = record { begun = []; finished = []; secured = []; decided = []; prepared = []; next = [] }
 
 abbrev pub no_ranges : KnownRanges
 no_ranges = record { over = []; borders = []; own = Quiet; sequence = none; run = []; unfinished = []; joins = no_joins }

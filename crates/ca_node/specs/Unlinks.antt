@@ -1,5 +1,5 @@
 -- A route is unlinked, by which a join is carried out: a base that has the objects of both bases under the route takes its place. No object comes or goes.
-use Rattle.std.specs.Prelude.{◌≡◌, ◌≢◌, Bool, true, false, ℕ, ◌+◌, ◌*◌, ◌<◌, ◌≤◌, max, cond, List, [], ◌∷◌, ◌++◌, length}
+use Rattle.std.specs.Prelude.{◌≡◌, ◌≢◌, Bool, true, false, ℕ, ◌+◌, ◌*◌, ◌<◌, ◌≤◌, max, cond, List, [], ◌∷◌, ◌++◌, length, slice_index}
 use mathlib.Core.Option.{some, none}
 use Rattle.atomic_table.specs.Table.{Step}
 use Rattle.ca_rows.specs.Claims.{claim_of}
@@ -44,8 +44,8 @@ pub record IsMarkedBase (m : MyTree) (x : Unlinking) (link : ℕ) (note : Note) 
   pub here : note.place.link ≡ link
 
 -- The seat may put the new base in the place of the route: it is pinned, remembers the route, knows that the attempt is secured, was shown the two bases which
--- that attempt marked, and holds the new base, which has the objects of both, and no mark. The join counts as one that it helped, unless it knew already that
--- the attempt was decided, as where it secured it itself.
+-- that attempt marked, and holds the new base, which has the objects of both, no mark, and a statistic of 0. The join counts as one that it helped, unless it
+-- knew already that the attempt was decided, as where it secured it itself.
 pub record IsUnlinking (z : Sizes) (m : MyTree) (new : ℕ) (x : Unlinking) : Type 0 where
   pub is_pinned : m.0.pin.pinned ≡ true
   pub is_pass : 0 < m.0.upper.number
@@ -58,6 +58,7 @@ pub record IsUnlinking (z : Sizes) (m : MyTree) (new : ℕ) (x : Unlinking) : Ty
   pub level_is : level x.its ≡ x.way.place.level
   pub few : count x.its ≤ z.leaf
   pub unmarked : IsUnmarked x.its
+  pub calm : slice_index x.its 1 ≡ 4294967296
   pub items_are : items x.its ≡ items x.left.its ++ items x.right.its
   pub headed : IsHeaded x.its (x.left.objects ++ x.right.objects)
   pub counted : x.counts ≡ false → IsIn (attempt_of x.way.row x.attempt) m.0.upper.ranges.joins.decided

@@ -2,7 +2,7 @@
 ghost use Rattle.std.specs.Prelude.{◌≡◌, ◌≢◌, ℕ, ◌<◌, ◌≤◌, false};
 ghost use Rattle.ca_node.specs.Joining.{IsRemembered};
 ghost use Rattle.ca_node.specs.JoinSteps.{attempt_of, join_state, join_place, HasLoadedJoin, IsAborting, HasAbortedJoin};
-ghost use Rattle.ca_node.specs.JoinSteps.{IsBeginning, IsNext, HasBegunJoin, IsSecuring, HasSecuredJoin, IsLeavingJoin, HasLeftJoin};
+ghost use Rattle.ca_node.specs.JoinSteps.{IsBeginning, HasBegunJoin, IsSecuring, HasSecuredJoin, IsLeavingJoin, HasLeftJoin};
 ghost use Rattle.ca_node.specs.States.{IsAlone};
 ghost use Rattle.ca_node.specs.TreePasses.{tree_of};
 ghost use Rattle.ca_node.specs.TreeView.{Note};
@@ -30,8 +30,9 @@ pub fn load_join(space: &TreeSpace, pass: &mut TreePass, route: u32) -> JoinStat
 }
 
 /// One exchange by which a pass begins the attempt with this number, 1 or more, to join the bases under a route that it was shown: it is prepared then, and
-/// bases may be marked for it. False exactly where the attempt before wasn't the route's last one, or wasn't finished; then nothing changed. Else the
-/// attempt is the pass's own one, which it is to secure, or to leave. A pass that is the only one of the space comes first, where it knows how far the join was.
+/// bases may be marked for it. The pass's last load of a join word, since it exchanged one, told that the attempt before is the route's last one, and finished.
+/// False exactly where that is so no more: that exchange is lost, and counted. Else the attempt is the pass's own one, which it is to secure, or to leave. A pass
+/// that is the only one of the space loses none.
 pub fn begin_join(space: &TreeSpace, pass: &mut TreePass, route: u32, attempt: u64) -> bool
     requires own { IsOn space.now pass.old }
     requires inside { route ≤ (sizes space.now).rows }
@@ -39,8 +40,7 @@ pub fn begin_join(space: &TreeSpace, pass: &mut TreePass, route: u32, attempt: u
     requires attempt { attempt < 4611686018427387904 }
     ensures frame { KeepsList pass.old pass.new }
     ensures done { HasBegunJoin result (attempt_of route attempt) (known pass.old) (known pass.new) }
-    ensures several { result ≡ false → IsNext (attempt_of route attempt) (tree_of pass.old).ranges.joins
-        → ¬ IsAlone (sizes space.now) (tree_of pass.old) }
+    ensures several { result ≡ false → ¬ IsAlone (sizes space.now) (tree_of pass.old) }
 {
     let word = join_word(space, route);
     let last = 4 * (attempt - 1);

@@ -9,7 +9,7 @@ use Rattle.ca_rows.specs.declared.view.Pin.{Pin}
 use Rattle.ca_rows.specs.Claims.{claim_of, held_count}
 use Rattle.ca_rows.specs.Kept.{kept_of, AreKept}
 use Rattle.ca_rows.specs.Reclaiming.{Reclaims, IsLook, Moves, Rounds}
-use Rattle.ca_rows.specs.Told.{Mine, with_pin}
+use Rattle.ca_rows.specs.Told.{Mine, lost_epoch, with_pin}
 use Rattle.ca_rows.proofs.GivingBack.{reclaims_trans, was_kept}
 use Rattle.ca_rows.proofs.Keeping.{no_rows}
 use Rattle.ca_rows.proofs.Scanning.{less_or_not}
@@ -57,7 +57,7 @@ module _ {U : Type 0} where
         kept = λ r t e. inr (t, le_refl t, e, λ _. refl);
       }
 
-  lost_one : (m m' : Mine U) → m' ≡ (record m.0 { lost = m.0.lost + 1 }, m.1) → Reclaims m m'
+  lost_one : (m m' : Mine U) → m' ≡ lost_epoch m → Reclaims m m'
   lost_one m m' e = subst (λ x. Reclaims m x) (sym e) record {
     same_sizes = refl;
     same_made = refl;

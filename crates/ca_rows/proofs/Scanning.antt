@@ -293,7 +293,7 @@ module _ {U : Type 0} (linked lent : List ℕ → ℕ → Type 0) (noted : List 
   moves slots id me e is all room s r _ at _ = let d = me.0 in let within = r.within in
       let k = mine s r id d at in
       let w1 : View U = record d { pin = record d.pin { scan = e + 1; upto = 0; moved = d.pin.moved + 1 } } in
-      let w0 : View U = record d { lost = d.lost + 1 } in
+      let e0 : Pin = record d.pin { upto = 0 } in let w0 : View U = record d { pin = e0; lost = d.lost + 1 } in
       dite (ℕ_discrete (epoch s.words) e)
       (λ (hit : epoch s.words ≡ e). (
         w1,
@@ -315,9 +315,9 @@ module _ {U : Type 0} (linked lent : List ℕ → ℕ → Type 0) (noted : List 
         tt,
         subst (λ (x : ℕ). R (stepped s 1 x id me.1 w0 keeps))
             (sym (ap (λ b. either b (e + 1) (epoch s.words)) (ne_eqb (epoch s.words) e miss)))
-            (loaded s r id d at 1 d.pin (d.lost + 1)
-            (subst (ArePins r.made s.words)
-            (sym (set_again (map pin_of s.views) id d.pin (here s r id d at))) r.pins)
+            (loaded s r id d at 1 e0 (d.lost + 1)
+            (pins_step r.made s.words s.words (map pin_of s.views) r.pins id d.pin e0 (here s r id d at)
+            (may_see s r id d at d.pin.scan 0 d.pin.lag d.pin.looks d.pin.lags k.scan_past (λ _ i x there low p. nobody s r id d at i x there low p)))
             refl refl),
         (sym is, (λ hit. absurd (miss hit)), λ _. refl),
       ))

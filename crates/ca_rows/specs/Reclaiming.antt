@@ -1,5 +1,5 @@
 -- What giving kept rows back comes to.
-use Rattle.std.specs.Prelude.{◌≡◌, ◌≢◌, ◌⊎◌, ℕ, ◌+◌, ◌<◌, ◌≤◌, max, Bool, true, false, List, [], ◌∷◌, ◌++◌, length, slice_index_or, take, drop, Vec, vec_len}
+use Rattle.std.specs.Prelude.{◌≡◌, ◌≢◌, ◌⊎◌, ℕ, ◌+◌, ◌*◌, ◌<◌, ◌≤◌, max, Bool, true, false, List, [], ◌∷◌, ◌++◌, length, slice_index_or, take, drop, Vec, vec_len}
 use Rattle.std.specs.Global.{Global}
 use Rattle.std.specs.declared.option.Option.{Option as Answer}
 use Rattle.std.specs.declared.option.Option.TheVariants.{None, Some}
@@ -12,7 +12,7 @@ use Rattle.ca_rows.specs.declared.view.Claim.TheVariants.{Keeps}
 use Rattle.ca_rows.specs.declared.view.Pin.{Pin}
 use Rattle.ca_rows.specs.Claims.{claim_of, held_count}
 use Rattle.ca_rows.specs.Kept.{AreYoung, IsTakenOut, kept_of, nobody}
-use Rattle.ca_rows.specs.Told.{Mine, HoldsAgain, with_pin}
+use Rattle.ca_rows.specs.Told.{Mine, HoldsAgain, lost_epoch, with_pin}
 
 module _ {U : Type 0} where
   -- Kept rows were given back. Nothing else of the pass changed but what it saw of the pool and of the epoch.
@@ -90,15 +90,28 @@ IsLook passes (Some j) m m' = (0 < j) × (j ≤ passes) × (j ≢ m.0.pin.number
 -- The epoch moved by one, or the exchange lost.
 abbrev pub Moves : {U : Type 0} → Bool → ℕ → Mine U → Mine U → Type 0
 Moves true e m m' = m' ≡ with_pin m (record m.0.pin { scan = e + 1; upto = 0; moved = m.0.pin.moved + 1 })
-Moves false e m m' = m' ≡ (record m.0 { lost = m.0.lost + 1 }, m.1)
+Moves false e m m' = m' ≡ lost_epoch m
+
+-- The epoch isn't the last one, and the row that was kept first is less than two epochs older.
+abbrev pub MayMove : ℕ → List Kept → Type 0
+MayMove epoch ks = (epoch < 4611686018427387904) × (epoch < (slice_index_or ks 0 nobody).at + 2)
+
+-- So it was of the epoch before this one.
+abbrev pub HasMoved : ℕ → List Kept → Type 0
+HasMoved epoch ks = (epoch ≤ 4611686018427387904) × (epoch ≤ (slice_index_or ks 0 nobody).at + 2)
 
 -- A look at the others began, and so many exchanges were lost: the row that was kept first is two epochs older than the epoch; or that is at its last value; or
--- a pass lags; or the pass moved the epoch by one, having looked at all others; or the exchange that was to move it lost.
+-- a pass lags; or the pass moved the epoch by one, having looked at all others; or the exchange that was to move it lost. Each of the
+-- last three comes only where none before it holds.
 module _ {U : Type 0} where
   pub record EndsLook (losses : ℕ) (m m' : Mine U) (ks : List Kept) : Type 0 where
     pub looked : m'.0.pin.looks ≡ m.0.pin.looks + 1
     pub ends : ((slice_index_or ks 0 nobody).at + 2 ≤ m'.0.pin.scan) ⊎ (m'.0.pin.scan ≡ 4611686018427387904)
         ⊎ (m'.0.pin.lags ≡ m.0.pin.lags + 1) ⊎ (m'.0.pin.moved ≡ m.0.pin.moved + 1) ⊎ (losses ≡ 1)
+    pub at_most_one : losses ≤ 1
+    pub lagged : m'.0.pin.lags ≡ m.0.pin.lags ⊎ MayMove m'.0.pin.scan ks × (m'.0.pin.moved ≡ m.0.pin.moved) × (losses ≡ 0)
+    pub moved : m'.0.pin.moved ≡ m.0.pin.moved ⊎ HasMoved m'.0.pin.scan ks × (m'.0.pin.lags ≡ m.0.pin.lags) × (losses ≡ 0)
+    pub missed : losses ≡ 0 ⊎ MayMove m'.0.pin.scan ks × (m'.0.pin.lags ≡ m.0.pin.lags) × (m'.0.pin.moved ≡ m.0.pin.moved)
 
 -- One round, by its answer and by the lists of kept rows before and after.
 pub record Rounds {U : Type 0} (passes number : ℕ) (answer : Round) (m m' : Mine U) (ks ks' : List Kept) : Type 0 where
@@ -134,12 +147,16 @@ pub record Rounds {U : Type 0} (passes number : ℕ) (answer : Round) (m m' : Mi
 pub record MakesRounds {U : Type 0} (answer : Reclaimed) (m m' : Mine U)
     (ks ks' : List Kept) : Type 0 where
   pub most : m'.0.pin.looks ≤ m.0.pin.looks + 3
+  -- A round tries one exchange for each row and one for the epoch, at most.
+  pub tries : answer.losses ≤ 3 * length ks + 3
   -- Whatever was lost, there are three but where nothing is kept any more, a pass lags, or the epoch
   -- is at its last value.
   pub three : answer.lag ≡ None → m'.0.pin.scan < 4611686018427387904
       → (ks' ≡ []) ⊎ (m'.0.pin.looks ≡ m.0.pin.looks + 3)
   -- Whatever was lost, no row is kept still that was kept for more than two epochs.
   pub recent : (r t : ℕ) → kept_of ks' r ≡ some t → m'.0.pin.scan ≤ t + 2
+  -- Where a pass lags none is that was kept for two.
+  pub after_lag : answer.lag ≢ None → (r t : ℕ) → kept_of ks' r ≡ some t → m'.0.pin.scan < t + 2
   -- Where nothing was kept there is one, which looks at nobody and tries no exchange.
   pub idle : ks ≡ []
       → (m'.0.pin.looks ≡ m.0.pin.looks + 1) × (answer.lag ≡ None) × (answer.losses ≡ 0)

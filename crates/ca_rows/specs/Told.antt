@@ -88,6 +88,10 @@ module _ {U : Type 0} where
   abbrev pub with_pin : Mine U → Pin → Mine U
   with_pin m e = (record m.0 { pin = e }, m.1)
 
+  -- an exchange of the epoch was lost: another one needs another look at the others
+  abbrev pub lost_epoch : Mine U → Mine U
+  lost_epoch m = (record m.0 { pin = record m.0.pin { upto = 0 }; lost = m.0.lost + 1 }, m.1)
+
   -- what a seat has met of the pool
   abbrev pub met_of : Mine U → Met
   met_of m = record { lost = m.0.lost; empty = m.0.empty; worn = m.0.worn; lags = m.0.pin.lags }
@@ -139,10 +143,11 @@ module _ {U : Type 0} where
       × (0 < n → n ≤ m.0.pin.scan → (m.0.pin.pinned ≡ false → m.0.pin.upto + 1 ≢ m.0.pin.number)
       × (m' ≡ with_pin m (record m.0.pin { lag = m.0.pin.upto + 1; lags = m.0.pin.lags + 1 })))
 
-  -- The epoch moved by one, which is counted, or the exchange lost. It expected the epoch that the last look at the others began with.
+  -- The epoch moved by one, which is counted, or the exchange lost. It expected the epoch that the last look at the others began with; what that look saw
+  -- counts for one exchange.
   abbrev pub Moved : Step (Unit {0}) → Mine U → ℕ → Mine U → Type 0
   Moved st m n m' = (st.first ≡ m.0.pin.scan) × (n ≡ st.first → m' ≡ with_pin m (record m.0.pin { scan = st.second; upto = 0; moved = m.0.pin.moved + 1 }))
-      × (n ≢ st.first → m' ≡ (record m.0 { lost = m.0.lost + 1 }, m.1))
+      × (n ≢ st.first → m' ≡ lost_epoch m)
 
   -- The pass's own announcement was loaded: while it is pinned, that is one more than the epoch which it told.
   abbrev pub Reread : Step (Unit {0}) → Mine U → ℕ → Mine U → Type 0

@@ -28,7 +28,7 @@ swap-requires-clause-rule g c = let z = c.args.space.now.table.shared.key in
     (helps z slots id me g.K.Finishing.pass g.K.Finishing.number g.K.Finishing.last g.K.Finishing.border word
     (subst (λ p. 0 < p) (sym c.requires.owner.0) c.requires.owner.1)
     (c.status_word_of-word.ensures.word ∙ ap (λ (p : ℕ). status_word z p) (sym c.requires.owner.0))
-    c.requires.helping)
+    c.requires.own.1 c.requires.helping)
   where
     sums : (number last : ℕ) → decided_word number last ≡ active_word number + 16777216 + last
     sums number last = omega arith

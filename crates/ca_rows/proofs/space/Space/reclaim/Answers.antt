@@ -21,7 +21,7 @@ loop-left-preserved g c = let inv = c.loop-left.invariant in
     ∙ ap (λ b. cond b (left - 1) 0) e in
     let stop = λ (e : answer.more ≡ false). c.rounds_left-left.ensures
     ∙ ap (λ b. cond b (left - 1) 0) e in
-    let freed = inv.freed in let freed' = x.freed in record {
+    let freed = inv.freed in let freed' = x.freed in let long0 = c.args.pass.now.kept.rows.ok.0 in record {
       table = told.frame.same.0 ∙ inv.table;
       id = told.frame.same.1 ∙ inv.id;
       number = told.frame.number ∙ inv.number;
@@ -39,6 +39,9 @@ loop-left-preserved g c = let inv = c.loop-left.invariant in
           ⊎_elim (λ (more : answer.more ≡ true). let less = go_on more in inr (omega arith))
           (λ (more : answer.more ≡ false). inl (x.ends more lag room)) (true_or_false answer.more);
       recent = λ _ r t e. let young = x.young r t e in let near = x.near in omega arith;
+      after_lag = λ _ lags r t e. let young = x.young r t e in
+          ⊎_elim (λ (more : answer.more ≡ true). absurd (lags (x.unlagged more)))
+          (λ (more : answer.more ≡ false). let scan = x.stops more in omega arith) (true_or_false answer.more);
       fresh = λ many.
           let fewer_left = one_less answer.more left left' some_left c.rounds_left-left.ensures in
           let at_most = inv.few in absurd (omega arith);
@@ -58,6 +61,11 @@ loop-left-preserved g c = let inv = c.loop-left.invariant in
       bound = let bound = inv.bound in let more = x.few in
           let fewer_left = one_less answer.more left left' some_left c.rounds_left-left.ensures in
           omega arith;
+      tried = let before = inv.tried_twice some_left in let more = x.few in omega arith;
+      tried_twice = λ lo. let fewer_left = one_less answer.more left left' some_left c.rounds_left-left.ensures in
+          let before = inv.tried_once (omega arith) in let more = x.few in omega arith;
+      tried_once = λ lo. let fewer_left = one_less answer.more left left' some_left c.rounds_left-left.ensures in
+          let before = (inv.fresh (omega arith)).1 in let more = x.few in omega arith;
       epoch = λ _. x.epoch_is;
       lag = λ _. subst
           (λ (n : ℕ). IsLag c.args.self.now.table.shared.key.passes n answer.lag m2.0.pin)

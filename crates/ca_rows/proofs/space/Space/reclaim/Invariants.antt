@@ -1,4 +1,4 @@
-use Rattle.std.proofs.Common.{◌≡◌, ◌⊎◌, ℕ, ◌+◌, ◌*◌, ◌<◌, ◌≤◌, [], vec_len}
+use Rattle.std.proofs.Common.{◌≡◌, ◌≢◌, ◌⊎◌, ℕ, ◌+◌, ◌*◌, ◌<◌, ◌≤◌, [], length, vec_len}
 use Rattle.std.specs.declared.option.Option.TheVariants.{None}
 use mathlib.Core.Option.{some}
 use Rattle.ca_rows.specs.Kept.{AreKept, kept_of}
@@ -21,6 +21,8 @@ invariant-loop-left g l = record {
       ⊎ (l.pass.seat.me.0.pin.looks ≡ l.fn.pass.seat.me.0.pin.looks + 3);
   recent : l.left < 3 → (r t : ℕ) → kept_of l.pass.kept.rows.items r ≡ some t
       → l.pass.seat.me.0.pin.scan ≤ t + 2;
+  after_lag : l.left < 3 → l.lag ≢ None → (r t : ℕ) → kept_of l.pass.kept.rows.items r ≡ some t
+      → l.pass.seat.me.0.pin.scan < t + 2;
   fresh : 3 ≤ l.left → (l.pass.kept.rows.items ≡ l.fn.pass.kept.rows.items) × (l.losses ≡ 0);
   idle : l.fn.pass.kept.rows.items ≡ [] → l.left < 3
       → (l.left ≡ 0) × (l.pass.seat.me.0.pin.looks ≡ l.fn.pass.seat.me.0.pin.looks + 1)
@@ -30,6 +32,9 @@ invariant-loop-left g l = record {
   lost : l.pass.seat.me.0.lost ≡ l.fn.pass.seat.me.0.lost + l.losses;
   few : l.left ≤ 3;
   bound : l.losses + row_limit * l.left ≤ 3 * row_limit;
+  tried : l.losses ≤ 3 * length l.fn.pass.kept.rows.items + 3;
+  tried_twice : 0 < l.left → l.losses ≤ 2 * length l.fn.pass.kept.rows.items + 2;
+  tried_once : 1 < l.left → l.losses ≤ length l.fn.pass.kept.rows.items + 1;
   epoch : l.left < 3 → l.epoch ≡ l.pass.seat.me.0.pin.scan;
   lag : l.left < 3
       → IsLag l.self.table.shared.key.passes l.fn.pass.number l.lag l.pass.seat.me.0.pin;
