@@ -1,13 +1,13 @@
 -- An attempt that was begun behind a look at the sibling: what is known then, and that both bases may be marked for it.
-use Rattle.std.proofs.Common.{◌≡◌, ◌≢◌, ◌⊎◌, ℕ, suc, ◌+◌, ◌*◌, ◌/◌, ◌%◌, ◌<◌, ◌≤◌, List, [], ◌∷◌, ◌++◌, Ok, Some, sym, refl, ap, ◌∙◌, subst, inl, inr, ⊎_elim, arith}
+use Rattle.std.proofs.Common.{◌≡◌, ◌≢◌, ◌⊎◌, ℕ, suc, ◌+◌, ◌*◌, ◌/◌, ◌<◌, List, ◌∷◌, ◌++◌, Ok, Some, sym, refl, ap, ◌∙◌, subst, inl, inr, ⊎_elim, arith}
 use Rattle.ca_base.specs.Finding.{IsAtCursor, IsBaseShown}
 use Rattle.ca_node.specs.JoinSteps.{attempt_of, before, joins_begun, joins_loaded, with_own, HasLoadedJoin}
 use Rattle.ca_node.specs.Links.{IsIn}
 use Rattle.ca_node.specs.Marks.{IsMark, IsOfJoin, IsOfRange}
-use Rattle.ca_node.specs.Place.{IsLinkOf, Place}
+use Rattle.ca_node.specs.Place.{IsLinkOf}
 use Rattle.ca_node.specs.Row.{mark, mark_number, mark_owner, IsUnmarked}
-use Rattle.ca_node.specs.Told.{MyTree, IsSettled, IsUnjoined, IsUnranged, link_word, with_upper}
-use Rattle.ca_node.specs.TreeView.{Finished, Joining, KnownJoins, Note, Over, Turns, TreeView}
+use Rattle.ca_node.specs.Told.{MyTree, IsSettled, IsUnjoined, IsUnranged, link_word}
+use Rattle.ca_node.specs.TreeView.{Joining, KnownJoins, Note, TreeView}
 use Rattle.ca_node.specs.declared.cursor.Cursor.{Cursor}
 use Rattle.ca_node.specs.declared.link.Link.{Link}
 use Rattle.ca_node.specs.declared.link.Link.TheVariants as on

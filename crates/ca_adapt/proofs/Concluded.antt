@@ -1,15 +1,16 @@
 -- What an own attempt comes to behind both marks.
-use Rattle.std.proofs.Common.{◌≡◌, ℕ, ◌+◌, ◌<◌, ◌≤◌, true, false, List, [], ◌∷◌, Result, Ok, Err, sym, refl, ap, ◌∙◌, subst, inl, inr, arith, append-nil}
+use Rattle.std.proofs.Common.{◌≡◌, ℕ, ◌<◌, true, false, Ok, Err, refl, ap, ◌∙◌, subst, inl, inr, arith}
 use Rattle.ca_base.proofs.Counts.{met_both}
 use Rattle.ca_base.specs.Counting.{losses, HasMet}
-use Rattle.ca_node.specs.JoinSteps.{attempt_of, own_too_late, securing, leaving, with_own, with_joins, HasLeftJoin}
+use Rattle.ca_node.specs.JoinSteps.{attempt_of, own_too_late, securing, with_own}
 use Rattle.ca_node.specs.Told.{MyTree, with_upper}
 use Rattle.ca_node.specs.TreeView.{KnownJoins, Ranging, Turns, TreeView}
 use Rattle.ca_rows.specs.Told.{relinked}
 use Rattle.ca_rows.specs.declared.sizes.Sizes.{Sizes}
 use Rattle.ca_adapt.specs.Carrying.{HasConcluded, HasUnited}
-use Rattle.ca_adapt.specs.Trying.{HasBegunFrom, IsJoinSteps}
+use Rattle.ca_adapt.specs.Trying.{IsJoinSteps}
 use Rattle.ca_adapt.specs.declared.adapted.Why.TheVariants as why
+use Rattle.ca_adapt.specs.declared.joining.Attempt.{Attempt}
 use Rattle.ca_adapt.proofs.TrySteps.{no_steps}
 
 -- Learning of joins, and of its own, is a step of a try.
@@ -20,10 +21,10 @@ own_steps z u own joins = record {
   known = λ k. record { lawful = k.lawful; past = k.past; edits = k.edits; enrolled = k.enrolled; by_passes = k.by_passes };
 }
 
-module _ (route number : ℕ) (m n l : MyTree) where
+module _ (x : Attempt) (m n l : MyTree) where
   -- Another pass had given the attempt up.
-  pub concluded_late : n ≡ with_upper m (own_too_late (attempt_of route number) m.0.upper) → l.0.upper ≡ n.0.upper → HasMet 0 0 n l
-      → HasConcluded route (Err why.Lost) m l
+  pub concluded_late : n ≡ with_upper m (own_too_late (attempt_of x.route x.number) m.0.upper) → l.0.upper ≡ n.0.upper → HasMet 0 0 n l
+      → HasConcluded x (Err why.Lost) m l
   concluded_late e same met = let view = same ∙ ap (λ (y : MyTree). y.0.upper) e in
       let empty = ap (λ (y : MyTree). y.0.empty) e in let worn = ap (λ (y : MyTree). y.0.worn) e in
       let passed = ap (λ (u : TreeView). u.turns.passed) view in let joins = ap (λ (u : TreeView). u.joins) view in (
@@ -35,10 +36,10 @@ module _ (route number : ℕ) (m n l : MyTree) where
           loads = ap (λ (u : TreeView). u.loads) view;
           joins_are = omega arith;
         },
-        inr (number, ap (λ (u : TreeView). u.ranges.joins.decided) view),
+        inr (ap (λ (u : TreeView). u.ranges.joins.decided) view, ap (λ (u : TreeView). u.ranges.joins.begun) view),
       )
 
-  module _ (e : n ≡ relinked m m.0.claims (securing (attempt_of route number) m.0.upper)) where
+  module _ (e : n ≡ relinked m m.0.claims (securing (attempt_of x.route x.number) m.0.upper)) where
     lost_so : losses n ≡ losses m
     lost_so = ap losses e
 
@@ -46,7 +47,7 @@ module _ (route number : ℕ) (m n l : MyTree) where
     met_so = let empty = ap (λ (y : MyTree). y.0.empty) e in let worn = ap (λ (y : MyTree). y.0.worn) e in (omega arith, omega arith)
 
     -- The route was unlinked.
-    pub concluded_won : HasUnited true n l → HasConcluded route (Ok tt) m l
+    pub concluded_won : HasUnited true n l → HasConcluded x (Ok tt) m l
     concluded_won h = let joins = h.0.joins in let before = ap (λ (y : MyTree). y.0.upper.joins) e in
         let passed = ap (λ (t : Turns). t.passed) h.0.turns ∙ ap (λ (y : MyTree). y.0.upper.turns.passed) e in (
           record {
@@ -61,7 +62,7 @@ module _ (route number : ℕ) (m n l : MyTree) where
         )
 
     -- Another pass had unlinked it.
-    pub concluded_lost : HasUnited false n l → HasConcluded route (Err why.Lost) m l
+    pub concluded_lost : HasUnited false n l → HasConcluded x (Err why.Lost) m l
     concluded_lost h = let joins = h.0.joins in let before = ap (λ (y : MyTree). y.0.upper.joins) e in
         let passed = ap (λ (t : Turns). t.passed) h.0.turns ∙ ap (λ (y : MyTree). y.0.upper.turns.passed) e in (
           refl,
@@ -72,5 +73,5 @@ module _ (route number : ℕ) (m n l : MyTree) where
             loads = h.3 ∙ ap (λ (y : MyTree). y.0.upper.loads) e;
             joins_are = omega arith;
           },
-          inl (subst (λ (k : ℕ). k < losses l) lost_so h.1),
+          inl (h.0.forgotten, subst (λ (k : ℕ). k < losses l) lost_so h.1),
         )

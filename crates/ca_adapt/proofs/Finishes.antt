@@ -1,5 +1,5 @@
 -- What a pass knows that finished a secured attempt to join, from the loads of both links to the exchange.
-use Rattle.std.proofs.Common.{◌≡◌, ℕ, ◌+◌, ◌*◌, ◌<◌, ◌≤◌, Bool, true, false, not, List, [], ◌∷◌, ◌++◌, Err, sym, refl, ap, ◌∙◌, subst, inl, inr, ⊎_elim, arith, append-nil, append_assoc}
+use Rattle.std.proofs.Common.{◌≡◌, ℕ, ◌+◌, ◌*◌, ◌<◌, ◌≤◌, Bool, true, false, not, List, [], ◌∷◌, ◌++◌, Err, sym, refl, ap, ◌∙◌, subst, inl, inr, arith, append-nil, append_assoc}
 use Rattle.ca_node.proofs.LinkLoads.{led_to_marked}
 use Rattle.ca_node.specs.Links.{IsIn}
 use Rattle.ca_node.specs.Notes.{IsBaseNote}
@@ -7,7 +7,7 @@ use Rattle.ca_node.specs.Place.{left_of, right_of}
 use Rattle.ca_node.specs.Row.{count, IsMarkedFor, route_key}
 use Rattle.ca_node.specs.Told.{MyTree, IsAnyLink, IsKnown, IsLed, IsLedToBase, IsLedSecured, IsShownSecured, led_to_base}
 use Rattle.ca_node.specs.TreeView.{Note, Way, Attempt, Turns, TreeView, no_joins, own_behind}
-use Rattle.ca_node.specs.Unlinks.{Unlinking, attempt_by, one_unlinking_lost, turns_after, unlinked}
+use Rattle.ca_node.specs.Unlinks.{Unlinking, attempt_by, one_unlinking_lost, turns_after, unlinked, unlinked_inventory}
 use Rattle.ca_rows.specs.Layout.{row_words}
 use Rattle.ca_rows.specs.declared.sizes.Sizes.{Sizes}
 use Rattle.ca_base.specs.declared.stop.Stop.{Stop}
@@ -18,7 +18,7 @@ use Rattle.ca_base.specs.Taking.{AreHeld}
 use Rattle.ca_base.proofs.Counts.{met_both}
 use Rattle.ca_rows.specs.declared.kept.KeptRows.{KeptRows}
 use Rattle.ca_adapt.specs.declared.finishing.Finish.TheVariants as finish
-use Rattle.ca_adapt.specs.Finishing.{HasFinished, HasLostJoin, HasPutJoined, HasTriedNone, HasWonJoin, IsFinish, IsSteps, finish_by, helped_unless}
+use Rattle.ca_adapt.specs.Finishing.{HasFinished, HasLostJoin, HasPutJoined, HasTriedNone, HasUnitedBy, HasWonJoin, IsFinish, IsSteps, finish_by, helped_unless}
 use Rattle.ca_adapt.proofs.JoinedRows.{none_met}
 
 -- Steps follow each other.
@@ -240,6 +240,24 @@ lost_join x u v w t e = record {
   forgotten = (ap (λ (y : TreeView). y.notes) e, ap (λ (y : TreeView). y.ways) e, ap (λ (y : TreeView). y.ranges.joins) e);
   inventory = ap (λ (y : TreeView). y.inventory) e ∙ t.inventory;
 }
+
+-- Where it won, a base took the place of the route and of both bases under it.
+pub finished_united : (a : Attempt) (m n l k : MyTree) (new : ℕ) (x : Unlinking) (won : Bool) → HasTriedNone m.0.upper n.0.upper → l.0.upper ≡ n.0.upper
+    → losses l ≡ losses m → attempt_by x ≡ a → IsIn x.way l.0.upper.ways → HasPutJoined won new x l k → HasUnitedBy a finish.Done m k
+finished_united a m n l k new x true t upper same is way put = λ _. (
+  new,
+  x,
+  is,
+  subst (λ (ways : List Way). IsIn x.way ways) (ap (λ (u : TreeView). u.ways) upper ∙ t.ways) way,
+  ap (λ (u : TreeView). u.inventory) put.0 ∙ ap (unlinked_inventory new x) (ap (λ (u : TreeView). u.inventory) upper ∙ t.inventory),
+)
+finished_united a m n l k new x false t upper same is way put = λ none. let more = put.1 in absurd (omega (arith, same, none, more))
+
+-- Where there was no row nothing did.
+pub none_united : (a : Attempt) (why : Stop) (m m' : MyTree) → HasUnitedBy a (finish_by why) m m'
+none_united a (stop.Lost exchange) m m' = tt
+none_united a stop.Empty m m' = tt
+none_united a stop.Worn m m' = tt
 
 -- The exchange was made, of a base that was written meanwhile.
 pub finished_done : (z : Sizes) (a : Attempt) (counted : Bool) (m n l k : MyTree) (left right new : ℕ) (x : Unlinking) (won : Bool)

@@ -1,6 +1,5 @@
 -- The routes on whose links bases hang, by cursors.
-use Rattle.std.proofs.Common.{◌≡◌, ◌≢◌, ℕ, ◌+◌, ◌*◌, ◌<◌, ◌≤◌, Option, Some, None, sym, refl, ap, ◌∙◌, subst, inl, inr, arith}
-use Rattle.ca_node.specs.Links.{IsIn}
+use Rattle.std.proofs.Common.{◌≡◌, ◌≢◌, ℕ, ◌+◌, ◌*◌, ◌<◌, Option, Some, None, sym, refl, ap, ◌∙◌, subst, inl, inr, arith}
 use Rattle.ca_node.specs.Told.{IsAnyLink, link_word}
 use Rattle.ca_node.specs.TreeView.{TreeView}
 use Rattle.ca_node.specs.Place.{left_of, right_of}

@@ -1,10 +1,8 @@
 -- Exchanges of a join word change no claim of a seat.
-use Rattle.std.proofs.Common.{◌≡◌, ℕ, ◌<◌, ◌≤◌, max, List, [], length, sym, refl, ap, ◌∙◌, subst, arith}
-use Rattle.ca_base.specs.Counting.{losses, HasMet}
+use Rattle.std.proofs.Common.{◌≡◌, ℕ, ◌≤◌, List, length, sym, subst, arith}
 use Rattle.ca_base.specs.Taking.{AreHeld, HasHeld, lent_of}
 use Rattle.ca_node.specs.Told.{MyTree, with_upper}
 use Rattle.ca_node.specs.TreeView.{TreeView}
-use Rattle.ca_rows.specs.Claims.{held_count}
 use Rattle.ca_rows.specs.Told.{relinked}
 use Rattle.ca_rows.specs.declared.kept.KeptRows.{KeptRows}
 

@@ -155,6 +155,7 @@ module _ (z : Sizes) (above : Link) (counted : Bool) (m n l : MyTree) (rows : Un
         found.remembered) found.row_is ∙ found.level_is);
     few = let fit = w.both.fit in omega (arith, w.spells.count_is);
     unmarked = w.spells.unmarked;
+    calm = w.spells.statistic_is;
     items_are = w.spells.items_are;
     headed = w.spells.headed;
     counted = λ e. subst (λ (x : ℕ × KnownRanges). IsIn (attempt_of x.0 rows.attempt.number) x.1.joins.decided)

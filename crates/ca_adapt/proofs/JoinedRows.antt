@@ -13,9 +13,10 @@ use Rattle.ca_node.specs.Unlinks.{Unlinking, attempt_by, IsUnlinked, HasUnlinked
 use Rattle.ca_rows.specs.Tallied.{HasTalliedJoin}
 use Rattle.ca_rows.specs.declared.kept.KeptRows.{KeptRows}
 use Rattle.ca_rows.specs.declared.tally.Tally.{Tally}
-use Rattle.ca_base.specs.Counting.{losses, HasMet, IsSpent}
-use Rattle.ca_base.specs.Spending.{RisesBy, IsSpentOn}
-use Rattle.ca_base.specs.Taking.{AreHeld, AreUnlinked, HasHeld, HasUnlinked as HasUnlinkedRows, lent_of}
+use Rattle.ca_base.specs.Counting.{losses, HasMet}
+use Rattle.ca_base.specs.Spending.{IsSpentOn}
+use Rattle.ca_base.specs.Taking.{AreHeld, AreUnlinked, HasHeld, HasTakenOut, lent_of}
+use Rattle.ca_base.proofs.Spends.{rises_not}
 use Rattle.ca_base.proofs.Tallies.{tallied_as}
 use Rattle.ca_base.proofs.Unlinking.{few_at_once, unlinked_then}
 use Rattle.ca_adapt.specs.Finishing.{AreRowsOf}
@@ -44,7 +45,7 @@ joined_rows rows kept kept' m m' new x out are d too h =
     let came = given_fewer comes m.0.claims (in_nothing new [] refl, tt) (λ r i. let own = (h.0.each r i).2 in (own.0, own.2)) in
     let went = taken_out_more goes (given comes m.0.claims) in let before = h.1.now in let ever = h.1.ever in
     let now = subst (λ (y : MyTree × KeptRows). AreUnlinked rows y.1.rows y.0.0 goes) (λ i. (sym d.now i, sym too i)) (
-      subst (λ (lent : List ℕ). HasUnlinkedRows rows kept.rows (taken_out goes (given comes m.0.claims)) lent goes)
+      subst (λ (lent : List ℕ). HasTakenOut rows kept.rows (taken_out goes (given comes m.0.claims)) lent goes)
           (sym (lent_behind (attempt_by x) m.0.upper.ranges.own)) then,
       record { now = omega arith; ever = few_at_once goes (given comes m.0.claims) m.0.most ever (omega arith) },
     ) in
@@ -65,10 +66,16 @@ joined_apart new m m' x out are d = subst (λ (y : ℕ × ℕ × ℕ). (¬ IsIn 
     (not_two x.way.row x.left.row x.right.row d.apart.0 d.apart.1, not_one x.left.row x.right.row d.apart.2)
 
 -- Where the exchange was lost the same rows are held.
-pub held_lost : (x : Unlinking) (rows : ℕ) (kept kept' : KeptRows) (m m' : MyTree) (held : List ℕ) → m' ≡ with_upper m (one_unlinking_lost x m.0.upper) → kept' ≡ kept
+pub held_lost : (x : Unlinking) (rows : ℕ) (kept kept' : KeptRows) (m m' : MyTree) (held : List ℕ) → m' ≡ with_upper m
+    (one_unlinking_lost x m.0.upper) → kept' ≡ kept
     → AreHeld rows kept.rows m.0 held → AreHeld rows kept'.rows m'.0 held
-held_lost x rows kept kept' m m' held same too h = subst (λ (y : MyTree × KeptRows). AreHeld rows y.1.rows y.0.0 held) (λ i. (sym same i, sym too i))
-    (subst (λ (lent : List ℕ). HasHeld rows kept.rows m.0.claims lent held) (sym (lent_behind (attempt_by x) m.0.upper.ranges.own)) h.0, record { now = h.1.now; ever = h.1.ever })
+held_lost x rows kept kept' m m' held same too h = subst (λ (y : MyTree × KeptRows). AreHeld rows y.1.rows y.0.0 held) (λ i. (sym same i, sym too i)) (
+  subst (λ (lent : List ℕ). HasHeld rows kept.rows m.0.claims lent held) (sym (lent_behind (attempt_by x) m.0.upper.ranges.own)) h.0,
+  record {
+    now = h.1.now;
+    ever = h.1.ever;
+  },
+)
 
 -- A join that was carried out is counted.
 pub tallied_joined : (won : Bool) (new : ℕ) (x : Unlinking) (m m' : MyTree) (v : TreeView) (t t' t'' : Tally) → HasUnlinked won new x m m'
@@ -78,39 +85,6 @@ tallied_joined won new x m m' v t t' t'' d c e same h = tallied_as t' t'' m'.0.u
 -- Nothing was met of the pool.
 pub none_met : (m m' : MyTree) → m'.0.empty ≡ m.0.empty → m'.0.worn ≡ m.0.worn → HasMet 0 0 m m'
 none_met m m' empty worn = (omega arith, omega arith)
-
-rises_both : (a b c x y z : ℕ) → RisesBy a b x y → RisesBy b c y z → RisesBy a c x z
-rises_both a b c x y z one two = let m = one.more in let n = two.more in record {
-  more = omega arith;
-  now_is = λ fits. let first = one.now_is fits in let second = two.now_is (omega arith) in omega arith;
-}
-
-rises_not : (a b x y : ℕ) → b ≡ a → y ≡ x → RisesBy a b x y
-rises_not a b x y same still = record { more = omega arith; now_is = λ fits. omega arith }
-
--- Two steps, one after the other.
-pub on_both : (a b c : Spent) (k m n : MyTree) → IsSpentOn a b k m → IsSpentOn b c m n → IsSpentOn a c k n
-on_both a b c k m n x y = record {
-  lost = rises_both a.lost b.lost c.lost (losses k) (losses m) (losses n) x.lost y.lost;
-  helped = rises_both a.helped b.helped c.helped k.0.upper.turns.helped m.0.upper.turns.helped n.0.upper.turns.helped x.helped y.helped;
-  passed = rises_both a.passed b.passed c.passed k.0.upper.turns.passed m.0.upper.turns.passed n.0.upper.turns.passed x.passed y.passed;
-}
-
--- Exchanges were lost, and nothing else was counted.
-pub on_lost : (a b : Spent) (k m : MyTree) → m.0.upper.turns ≡ k.0.upper.turns → IsSpent a b k m → IsSpentOn a b k m
-on_lost a b k m same s = record {
-  lost = record { more = s.more; now_is = s.lost };
-  helped = rises_not a.helped b.helped k.0.upper.turns.helped m.0.upper.turns.helped s.helped (ap (λ (t : Turns). t.helped) same);
-  passed = rises_not a.passed b.passed k.0.upper.turns.passed m.0.upper.turns.passed s.passed (ap (λ (t : Turns). t.passed) same);
-}
-
--- Nothing was counted.
-pub on_still : (a : Spent) (k m : MyTree) → losses m ≡ losses k → m.0.upper.turns ≡ k.0.upper.turns → IsSpentOn a a k m
-on_still a k m lost same = record {
-  lost = rises_not a.lost a.lost (losses k) (losses m) refl lost;
-  helped = rises_not a.helped a.helped k.0.upper.turns.helped m.0.upper.turns.helped refl (ap (λ (t : Turns). t.helped) same);
-  passed = rises_not a.passed a.passed k.0.upper.turns.passed m.0.upper.turns.passed refl (ap (λ (t : Turns). t.passed) same);
-}
 
 -- One operation more was helped, but where it was counted before.
 pub on_joined : (new : ℕ) (x : Unlinking) (a b : Spent) (k m : MyTree) → x.counts ≡ true → m.0.upper ≡ unlinked new x k.0.upper → losses m ≡ losses k

@@ -10,10 +10,12 @@ pub mod JoinSwaps
 pub mod JoinedRows
 pub mod KeptJoins
 pub mod LastOn
+pub mod LoneLooks
 pub mod LoneTries
 pub mod Looks
 pub mod MarkedCopies
 pub mod MarkedPairs
+pub mod MayBegin
 pub mod Outcomes
 pub mod OwnSwaps
 pub mod OwnUnited
@@ -23,3 +25,4 @@ pub mod Securing
 pub mod Seen
 pub mod Tried
 pub mod TrySteps
+pub mod Unbegun

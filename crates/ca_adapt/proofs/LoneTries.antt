@@ -1,5 +1,5 @@
 -- What a pass that is alone does to the tree as it joins two bases: no exchange of a link is lost, and the tree doesn't grow but by the joined base.
-use Rattle.std.proofs.Common.{◌≡◌, ◌≢◌, ℕ, suc, ◌+◌, ◌<◌, ◌≤◌, max, Bool, true, false, List, [], ◌∷◌, length, Result, Ok, Err, sym, refl, ap, ◌∙◌, subst, arith}
+use Rattle.std.proofs.Common.{◌≡◌, ◌≢◌, ℕ, suc, ◌+◌, ◌<◌, max, Bool, true, false, [], ◌∷◌, length, Result, Err, sym, refl, ap, ◌∙◌, subst, arith}
 use Rattle.ca_base.specs.Putting.{stopped}
 use Rattle.ca_base.specs.declared.stop.Exchange.TheVariants as exchange
 use Rattle.ca_base.specs.declared.stop.Stop.{Stop}
@@ -10,7 +10,7 @@ use Rattle.ca_node.specs.Inventory.{IsListed, but, row_itself, row_of_base}
 use Rattle.ca_node.specs.Links.{IsIn}
 use Rattle.ca_node.specs.Place.{Place}
 use Rattle.ca_node.specs.States.{IsAlone}
-use Rattle.ca_node.specs.Told.{MyTree, IsMissed, link_word}
+use Rattle.ca_node.specs.Told.{MyTree, IsMissed}
 use Rattle.ca_node.specs.TreeView.{Attempt as Joins, Inventory, Note, TreeView}
 use Rattle.ca_node.specs.Unlinks.{Unlinking, gone_by, unlinked}
 use Rattle.ca_node.proofs.Listing.{but_all_length, but_shorter, in_but}
@@ -62,7 +62,8 @@ pub lone_marked : (z : Sizes) (note : Note) (x : Attempt) (row : ℕ) (u v : Tre
 lone_marked z note x row u v there c = record {
   by = record {
     won = ap (λ (w : TreeView). w.lost) c.now;
-    rows_are = let n = ap (λ (i : Inventory). length i.rows) now in let l = but_shorter row_itself note.row u.inventory.rows note.row there.0 refl in omega arith;
+    rows_are = let n = ap (λ (i : Inventory). length i.rows) now in let l = but_shorter row_itself note.row u.inventory.rows note.row there.0 refl in
+        omega arith;
     bases_are = let n = ap (λ (i : Inventory). length i.bases) now in
         let l = but_shorter row_of_base note.row u.inventory.bases (note.row, note.place) there.1 refl in omega arith;
     most_are = let n = ap (λ (i : Inventory). i.most) now in let l = but_shorter row_itself note.row u.inventory.rows note.row there.0 refl in omega arith;

@@ -1,19 +1,18 @@
 -- What stays as a seat looks for the sibling of a base.
 use Rattle.std.proofs.Common.{◌≡◌, ℕ, ◌<◌, Bool, true, false, [], Option, Some, None, sym, refl, ap, ◌∙◌, subst, inl, inr, arith}
-use Rattle.ca_base.specs.Counting.{losses, HasMet}
+use Rattle.ca_base.specs.Counting.{losses}
 use Rattle.ca_base.specs.Readiness.{IsReady}
 use Rattle.ca_base.specs.Taking.{AreHeld, lent_of}
 use Rattle.ca_model.specs.declared.outcome.Spent.{Spent}
 use Rattle.ca_node.specs.Row.{mark_owner}
-use Rattle.ca_node.specs.Told.{MyTree, HasWatched, IsLedToBase, IsLedToRoute, with_upper}
-use Rattle.ca_node.specs.TreeView.{Note, Ranging, TreeView}
+use Rattle.ca_node.specs.Told.{MyTree, HasWatched, with_upper}
+use Rattle.ca_node.specs.TreeView.{Note, TreeView}
 use Rattle.ca_rows.specs.Calls.{IsNumbered}
 use Rattle.ca_rows.specs.Passes.{KeepsList}
-use Rattle.ca_rows.specs.declared.kept.KeptRows.{KeptRows}
 use Rattle.ca_rows.specs.declared.space.Pass.{Pass}
 use Rattle.ca_rows.specs.declared.space.Space.{Space}
 use Rattle.ca_rows.specs.declared.view.Pin.{Pin}
-use Rattle.ca_adapt.specs.Carrying.{Holds, StaysPinned}
+use Rattle.ca_adapt.specs.Carrying.{StaysPinned}
 use Rattle.ca_adapt.specs.Trying.{HasSeenBase, IsFoundInUse, IsSpentTrying, OnlyLooks}
 use Rattle.ca_adapt.proofs.JoinHeld.{raised_held}
 use Rattle.ca_adapt.proofs.MarkedPairs.{tried_none}

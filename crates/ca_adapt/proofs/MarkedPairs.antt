@@ -1,7 +1,7 @@
 -- Marks of both bases under a route, one behind the other.
-use Rattle.std.proofs.Common.{◌≡◌, ◌≢◌, ℕ, suc, ◌+◌, ◌-◌, ◌<◌, ◌≤◌, min, List, [], ◌∷◌, Result, Ok, Err, sym, refl, ap, ◌∙◌, subst, arith}
+use Rattle.std.proofs.Common.{◌≡◌, ℕ, suc, ◌+◌, ◌-◌, min, List, ◌∷◌, Result, Ok, Err, sym, refl, ap, ◌∙◌, subst, arith}
+use Rattle.ca_base.proofs.Spends.{rises_both}
 use Rattle.ca_base.specs.Counting.{losses, IsSpent}
-use Rattle.ca_base.specs.Finding.{IsBaseShown}
 use Rattle.ca_base.specs.Putting.{stopped}
 use Rattle.ca_base.specs.declared.stop.Exchange.TheVariants as exchange
 use Rattle.ca_base.specs.declared.stop.Stop.{Stop}
@@ -11,15 +11,12 @@ use Rattle.ca_node.specs.Copies.{copy_note}
 use Rattle.ca_node.specs.JoinSteps.{attempt_of}
 use Rattle.ca_node.specs.Links.{IsIn}
 use Rattle.ca_node.specs.Place.{Place}
-use Rattle.ca_node.specs.Notes.{IsBaseNote}
-use Rattle.ca_node.specs.Row.{count}
-use Rattle.ca_node.specs.Told.{MyTree, IsKnown, IsSettled, link_word}
-use Rattle.ca_node.specs.Tree.{StartsWith}
+use Rattle.ca_node.specs.Told.{MyTree, IsSettled, link_word}
 use Rattle.ca_node.specs.TreeView.{KnownRanges, Note, TreeView}
 use Rattle.ca_rows.specs.declared.sizes.Sizes.{Sizes}
-use Rattle.ca_adapt.specs.Joins.{HasMarkedFor, IsMarkedCopy, last_on}
-use Rattle.ca_adapt.specs.Pairs.{HasMarkedOne, IsMarkable, IsMarkedNote, IsPair, Marks}
-use Rattle.ca_adapt.specs.Trying.{IsJoinSteps, IsOnly, IsSpentTrying, with_try_of}
+use Rattle.ca_adapt.specs.Joins.{HasMarkedFor, last_on}
+use Rattle.ca_adapt.specs.Pairs.{HasMarkedOne, IsMarkable, IsPair, Marks}
+use Rattle.ca_adapt.specs.Trying.{IsJoinSteps, IsSpentTrying}
 use Rattle.ca_adapt.specs.declared.joining.Attempt.{Attempt}
 use Rattle.ca_adapt.specs.declared.marking.Pair.{Pair}
 use Rattle.ca_adapt.proofs.LastOn.{behind}
@@ -98,14 +95,8 @@ marks_steps z marks u v m = subst (λ (w : TreeView). IsJoinSteps z u w) (sym m.
 -- What was spent, one after the other.
 pub tried_both : (a b c : Spent) (k m n : MyTree) → IsSpentTrying a b k m → IsSpentTrying b c m n → IsSpentTrying a c k n
 tried_both a b c k m n x y = record {
-  lost = let one = x.lost.more in let two = y.lost.more in record {
-    more = omega arith;
-    now_is = λ fits. let first = x.lost.now_is fits in let last = y.lost.now_is (omega arith) in omega arith;
-  };
-  passed = let one = x.passed.more in let two = y.passed.more in record {
-    more = omega arith;
-    now_is = λ fits. let first = x.passed.now_is fits in let last = y.passed.now_is (omega arith) in omega arith;
-  };
+  lost = rises_both a.lost b.lost c.lost (losses k) (losses m) (losses n) x.lost y.lost;
+  passed = rises_both a.passed b.passed c.passed k.0.upper.turns.passed m.0.upper.turns.passed n.0.upper.turns.passed x.passed y.passed;
   helped = y.helped ∙ x.helped;
 }
 

@@ -1,5 +1,5 @@
 -- The exchange by which an own attempt is carried out, of a base that the pass wrote.
-use Rattle.std.proofs.Common.{◌≡◌, ℕ, ◌+◌, ◌*◌, ◌<◌, ◌≤◌, true, false, List, sym, refl, ap, ◌∙◌, subst, arith}
+use Rattle.std.proofs.Common.{◌≡◌, ℕ, ◌+◌, ◌*◌, ◌<◌, ◌≤◌, true, false, List, sym, ap, ◌∙◌, subst, arith}
 use mathlib.Core.Option.{some}
 use Rattle.ca_base.specs.Joined.{AreJoinable, SpellsJoined}
 use Rattle.ca_base.specs.Putting.{words_of}
@@ -87,20 +87,23 @@ module _ (z : Sizes) (m l : MyTree) (x : Uniting) (left right : Note) (i : IsUni
       marked = i.left_base.marked;
       here = i.left_base.here;
     };
-    right = subst (λ (y : ℕ). IsMarkedBase l (record unlinking { way = record unlinking.way { row = y } }) (row_words * y + 2) right) (sym found.row_is) record {
-      shown = subst (λ (u : TreeView). IsIn right u.notes) (sym upper) i.right_base.shown.noted;
-      is_base = i.right_base.shown.is_base.is_base;
-      marked = i.right_base.marked;
-      here = i.right_base.here;
-    };
+    right = subst (λ (y : ℕ). IsMarkedBase l (record unlinking { way = record unlinking.way { row = y } }) (row_words * y + 2) right)
+        (sym found.row_is) record {
+          shown = subst (λ (u : TreeView). IsIn right u.notes) (sym upper) i.right_base.shown.noted;
+          is_base = i.right_base.shown.is_base.is_base;
+          marked = i.right_base.marked;
+          here = i.right_base.here;
+        };
     held = held;
     is_base = spells.is_base;
     level_is = spells.level_is ∙ (levels unlinking.way found.remembered found.row_is ∙ found.level_is);
     few = let fit = i.few in omega (arith, spells.count_is);
     unmarked = spells.unmarked;
+    calm = spells.statistic_is;
     items_are = spells.items_are;
     headed = spells.headed;
-    counted = λ e. subst (λ (y : ℕ × TreeView). IsIn (attempt_of y.0 x.attempt.number) y.1.ranges.joins.decided) (λ k. (sym found.row_is k, sym upper k)) i.decided;
+    counted = λ e. subst (λ (y : ℕ × TreeView). IsIn (attempt_of y.0 x.attempt.number) y.1.ranges.joins.decided)
+        (λ k. (sym found.row_is k, sym upper k)) i.decided;
   }
 
   pub rows_are : AreRowsOf (unlinking_by l rows (link_word x.above)) rows

@@ -1,9 +1,8 @@
 -- What became of the exchange by which an own attempt is carried out.
-use Rattle.std.proofs.Common.{◌≡◌, ℕ, ◌+◌, ◌<◌, ◌≤◌, Bool, true, false, [], sym, refl, ap, ◌∙◌, subst, arith}
+use Rattle.std.proofs.Common.{◌≡◌, ℕ, ◌<◌, Bool, true, false, sym, refl, ap, ◌∙◌, subst}
 use Rattle.ca_base.specs.Counting.{losses, HasMet}
-use Rattle.ca_node.specs.JoinSteps.{attempt_of}
 use Rattle.ca_node.specs.Told.{MyTree}
-use Rattle.ca_node.specs.TreeView.{Quiet, Ranging, Secured, TreeView, own_behind}
+use Rattle.ca_node.specs.TreeView.{Quiet, Secured, TreeView, own_behind}
 use Rattle.ca_node.specs.Unlinks.{Unlinking, attempt_by, one_unlinking_lost, turns_after, unlinked}
 use Rattle.ca_node.proofs.OwnTurns.{behind_own}
 use Rattle.ca_rows.specs.declared.sizes.Sizes.{Sizes}

@@ -1,5 +1,5 @@
 -- Passes that are ready still after steps of a try to join.
-use Rattle.std.proofs.Common.{◌≡◌, ℕ, ◌<◌, [], sym, ap, ◌∙◌, subst}
+use Rattle.std.proofs.Common.{◌≡◌, ℕ, ◌<◌, sym, ap, ◌∙◌, subst}
 use Rattle.ca_base.specs.Readiness.{IsReady, StaysReady}
 use Rattle.ca_node.specs.TreeView.{TreeView}
 use Rattle.ca_rows.specs.Calls.{IsNumbered}

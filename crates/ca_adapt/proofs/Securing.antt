@@ -1,22 +1,21 @@
 -- Both bases under a route are marked for an own attempt: it may be secured, and the route may be unlinked then.
-use Rattle.std.proofs.Common.{◌≡◌, ◌≢◌, ℕ, suc, ◌+◌, ◌*◌, ◌<◌, ◌≤◌, true, List, [], ◌∷◌, Ok, sym, refl, ap, ◌∙◌, subst, inl, inr, arith}
+use Rattle.std.proofs.Common.{◌≡◌, ◌≢◌, ℕ, ◌+◌, ◌*◌, ◌<◌, ◌≤◌, true, ◌∷◌, Ok, sym, refl, ap, ◌∙◌, subst, inl, inr, arith}
 use Rattle.ca_base.specs.Finding.{IsBaseShown}
-use Rattle.ca_node.specs.JoinSteps.{attempt_of, joins_secured, securing, IsLeavingJoin, IsSecuring}
+use Rattle.ca_node.specs.JoinSteps.{attempt_of, securing, IsSecuring}
 use Rattle.ca_node.specs.Joining.{IsRemembered}
 use Rattle.ca_node.specs.Links.{IsIn}
 use Rattle.ca_node.specs.Told.{MyTree, IsKnownLink, link_word}
 use Rattle.ca_node.specs.Place.{Place, Span}
-use Rattle.ca_node.specs.TreeView.{Joining, KnownRanges, Note, Ranging, TreeView}
+use Rattle.ca_node.specs.TreeView.{Joining, KnownRanges, Note, TreeView}
 use Rattle.ca_node.specs.declared.link.Link.{Link}
 use Rattle.ca_node.specs.declared.link.Link.TheVariants as on
 use Rattle.ca_rows.specs.Layout.{row_words}
 use Rattle.ca_rows.specs.declared.sizes.Sizes.{Sizes}
-use Rattle.ca_adapt.specs.Carrying.{IsMarkedHere, IsSecurable, IsUniting, ordered}
+use Rattle.ca_adapt.specs.Carrying.{IsSecurable, IsUniting, ordered}
 use Rattle.ca_adapt.specs.Finishing.{IsHungBy}
 use Rattle.ca_adapt.specs.Joins.{last_on}
-use Rattle.ca_adapt.specs.Pairs.{AreMarkedBoth, IsPair, Marks}
+use Rattle.ca_adapt.specs.Pairs.{AreMarkedBoth, IsPair}
 use Rattle.ca_adapt.specs.Trying.{other_link, route_of}
-use Rattle.ca_adapt.specs.declared.carrying.Copies.{Copies}
 use Rattle.ca_adapt.specs.declared.carrying.Uniting.{Uniting}
 use Rattle.ca_adapt.specs.declared.marking.Marked.{Marked}
 use Rattle.ca_adapt.specs.declared.marking.Pair.{Pair}

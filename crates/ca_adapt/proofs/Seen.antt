@@ -1,11 +1,11 @@
 -- What a load of the link of a base's sibling shows.
-use Rattle.std.proofs.Common.{◌≡◌, ◌≢◌, ℕ, suc, ◌+◌, ◌*◌, ◌/◌, ◌%◌, ◌<◌, ◌≤◌, false, List, [], ◌∷◌, get_or, sym, refl, ap, ◌∙◌, subst, inl, inr, arith}
+use Rattle.std.proofs.Common.{◌≡◌, ◌≢◌, ℕ, suc, ◌/◌, ◌<◌, false, get_or, sym, refl, ap, ◌∙◌, subst, inl, inr, arith}
 use Rattle.ca_base.specs.Finding.{IsBaseShown}
 use Rattle.ca_node.specs.Links.{IsIn}
 use Rattle.ca_node.specs.Notes.{IsBaseNote}
 use Rattle.ca_node.specs.Tree.{IsFixed, StartsWith}
 use Rattle.ca_node.specs.Told.{MyTree, IsKnown, IsLed, IsLedToBase, IsLedToRoute, IsShownWord}
-use Rattle.ca_node.specs.TreeView.{Note, TreeView}
+use Rattle.ca_node.specs.TreeView.{Note}
 use Rattle.ca_rows.specs.declared.sizes.Sizes.{Sizes}
 use Rattle.ca_adapt.specs.Trying.{IsJoinSteps, IsOnly}
 

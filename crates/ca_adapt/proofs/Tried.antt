@@ -1,11 +1,11 @@
 -- A try to join, by its parts: a look at the sibling, and an attempt that is begun.
-use Rattle.std.proofs.Common.{◌≡◌, ℕ, ◌<◌, ◌≤◌, [], Ok, Err, sym, refl, ap, ◌∙◌, subst, arith}
+use Rattle.std.proofs.Common.{◌≡◌, ℕ, ◌<◌, [], Ok, sym, refl, ap, ◌∙◌, subst, arith}
 use Rattle.ca_base.specs.Finding.{IsBaseShown}
 use Rattle.ca_base.specs.Readiness.{IsReady}
 use Rattle.ca_base.specs.Taking.{AreHeld, lent_of}
 use Rattle.ca_node.specs.JoinSteps.{attempt_of, beginning, joins_begun, joins_loaded, with_joins, with_own}
 use Rattle.ca_node.specs.Links.{IsIn}
-use Rattle.ca_node.specs.Told.{MyTree, with_upper}
+use Rattle.ca_node.specs.Told.{MyTree}
 use Rattle.ca_node.specs.TreeView.{Joining, Note, Quiet, TreeView}
 use Rattle.ca_node.specs.declared.link.Link.{Link}
 use Rattle.ca_rows.specs.Calls.{IsNumbered}
@@ -16,8 +16,7 @@ use Rattle.ca_rows.specs.declared.space.Space.{Space}
 use Rattle.ca_rows.specs.declared.view.Pin.{Pin}
 use Rattle.ca_adapt.specs.Carrying.{StaysPinned}
 use Rattle.ca_adapt.specs.Joins.{HasBegunAt}
-use Rattle.ca_adapt.specs.Trying.{FindsSibling, IsJoinSteps, OnlyLooks}
-use Rattle.ca_adapt.specs.declared.adapted.Why.{Why}
+use Rattle.ca_adapt.specs.Trying.{FindsSibling, IsJoinSteps}
 use Rattle.ca_adapt.specs.declared.joining.Attempt.{Attempt}
 use Rattle.ca_adapt.proofs.Concluded.{own_steps}
 use Rattle.ca_adapt.proofs.JoinHeld.{raised_held, relinked_held}
@@ -40,25 +39,7 @@ finds_shown z link note row m m' f = record {
   is_base = f.is_base;
 }
 
--- No attempt was begun: the join word was loaded alone.
-module _ (z : Sizes) (route : ℕ) (w : Why) (m m' : MyTree) (b : HasBegunAt route (Err w) m m') where
-  pub unbegun_looks : OnlyLooks m m'
-  unbegun_looks = subst (λ (x : MyTree). OnlyLooks m x) (sym b.1.now) record {
-    raised = refl;
-    joins = refl;
-    splits = refl;
-    lost = refl;
-    passed = refl;
-    own = refl;
-    number = refl;
-    inventory = refl;
-  }
-
-  pub unbegun_steps : IsJoinSteps z m.0.upper m'.0.upper
-  unbegun_steps = subst (λ (x : MyTree). IsJoinSteps z m.0.upper x.0.upper) (sym b.1.now)
-      (own_steps z m.0.upper m.0.upper.ranges.own (joins_loaded route b.0 m.0.upper.ranges.joins))
-
--- One was begun.
+-- An attempt was begun.
 module _ (z : Sizes) (route : ℕ) (x : Attempt) (m m' : MyTree) (b : HasBegunAt route (Ok x) m m') where
   view_is : m'.0.upper ≡ with_own m.0.upper (Joining (attempt_of x.route x.number))
       (joins_begun (attempt_of x.route x.number) (joins_loaded route b.2.0 m.0.upper.ranges.joins))
@@ -73,6 +54,9 @@ module _ (z : Sizes) (route : ℕ) (x : Attempt) (m m' : MyTree) (b : HasBegunAt
 
   pub begun_lost : m'.0.upper.lost ≡ m.0.upper.lost
   begun_lost = ap (λ (u : TreeView). u.lost) view_is
+
+  pub begun_pool : m'.0.lost ≡ m.0.lost
+  begun_pool = ap (λ (y : MyTree). y.0.lost) b.2.5 ∙ ap (λ (y : MyTree). y.0.lost) b.2.2.now
 
   pub begun_inventory : m'.0.upper.inventory ≡ m.0.upper.inventory
   begun_inventory = ap (λ (u : TreeView). u.inventory) view_is

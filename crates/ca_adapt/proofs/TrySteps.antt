@@ -1,10 +1,9 @@
 -- Steps of a try to join, one after another.
-use Rattle.std.proofs.Common.{◌≡◌, ℕ, [], ◌++◌, List, sym, refl, ap, ◌∙◌, subst, append-nil, append_assoc}
+use Rattle.std.proofs.Common.{[], ◌++◌, sym, refl, ap, ◌∙◌, append-nil, append_assoc}
 use Rattle.ca_model.specs.History.{History}
-use Rattle.ca_node.specs.Told.{IsKnown}
 use Rattle.ca_node.specs.TreeView.{TreeView}
 use Rattle.ca_rows.specs.declared.sizes.Sizes.{Sizes}
-use Rattle.ca_adapt.specs.Trying.{IsJoinSteps, IsOnly, with_try_of}
+use Rattle.ca_adapt.specs.Trying.{IsJoinSteps, with_try_of}
 
 pub no_steps : (z : Sizes) (u : TreeView) → IsJoinSteps z u u
 no_steps z u = record { only = refl; seen = ([], sym (append-nil u.seen)); known = λ k. k }

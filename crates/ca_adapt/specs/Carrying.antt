@@ -21,13 +21,14 @@ use Rattle.ca_rows.specs.declared.space.Space.{Space}
 use Rattle.ca_adapt.specs.Finishing.{HasForgotten, HasLostJoin, HasWonJoin, IsHungBy}
 use Rattle.ca_adapt.specs.Joins.{last_on}
 use Rattle.ca_adapt.specs.Pairs.{AreMarkedBoth, Marks}
-use Rattle.ca_adapt.specs.Trying.{HasBegunFrom, HasLeft, IsOvertaken, other_link, route_of}
+use Rattle.ca_adapt.specs.Trying.{HasLeft, HasMade, IsLostTo, other_link, route_of}
 use Rattle.ca_adapt.specs.declared.adapted.Adapted.{Adapted}
 use Rattle.ca_adapt.specs.declared.adapted.Adapted.TheVariants as adapted
 use Rattle.ca_adapt.specs.declared.adapted.Why.{Why}
 use Rattle.ca_adapt.specs.declared.adapted.Why.TheVariants as why
 use Rattle.ca_adapt.specs.declared.carrying.Copies.{Copies}
 use Rattle.ca_adapt.specs.declared.carrying.Uniting.{Uniting}
+use Rattle.ca_adapt.specs.declared.joining.Attempt.{Attempt}
 use Rattle.ca_adapt.specs.declared.marking.Marked.{Marked}
 use Rattle.ca_adapt.specs.declared.marking.Pair.{Pair}
 
@@ -103,23 +104,24 @@ ordered (on.Left route) marked = (marked.one, marked.other)
 ordered (on.Right route) marked = (marked.other, marked.one)
 
 -- Behind both marks: the route was unlinked, or that exchange was lost, or another pass had given the attempt up.
-abbrev pub HasConcluded : ℕ → Result (Unit {0}) Why → MyTree → MyTree → Type 0
-HasConcluded route (Ok x) m m' = HasBegunFrom 0 1 m m' × HasForgotten m'.0.upper × HasMet 0 0 m m' × (losses m' ≡ losses m)
-HasConcluded route (Err w) m m' = (w ≡ why.Lost) × HasMet 0 0 m m' × HasBegunFrom 0 0 m m' × ((losses m < losses m')
-    ⊎ ((number : ℕ) × (m'.0.upper.ranges.joins.decided ≡ attempt_of route number ∷ m.0.upper.ranges.joins.decided)))
+abbrev pub HasConcluded : Attempt → Result (Unit {0}) Why → MyTree → MyTree → Type 0
+HasConcluded x (Ok done) m m' = HasMade 0 1 m m' × HasForgotten m'.0.upper × HasMet 0 0 m m' × (losses m' ≡ losses m)
+HasConcluded x (Err w) m m' = (w ≡ why.Lost) × HasMet 0 0 m m' × HasMade 0 0 m m' × ((HasForgotten m'.0.upper × (losses m < losses m'))
+    ⊎ ((m'.0.upper.ranges.joins.decided ≡ attempt_of x.route x.number ∷ m.0.upper.ranges.joins.decided)
+    × (m'.0.upper.ranges.joins.begun ≡ m.0.upper.ranges.joins.begun)))
 
 -- The route was unlinked; or the attempt was left, or came to nothing.
-abbrev pub HasCarriedOut : ℕ → Result (Unit {0}) Why → MyTree → MyTree → Type 0
-HasCarriedOut route (Ok x) m m' = HasBegunFrom 2 1 m m' × HasForgotten m'.0.upper × HasMet 0 0 m m' × (losses m' ≡ losses m)
-HasCarriedOut route (Err why.Root) m m' = ⊥
-HasCarriedOut route (Err why.OneObject) m m' = ⊥
-HasCarriedOut route (Err why.AtLevel) m m' = ⊥
-HasCarriedOut route (Err why.SiblingRoute) m m' = ⊥
-HasCarriedOut route (Err why.TooMany) m m' = ⊥
-HasCarriedOut route (Err why.Taken) m m' = ⊥
-HasCarriedOut route (Err why.Lost) m m' = HasMet 0 0 m m' × ((HasLeft m m' × (losses m < losses m')) ⊎ IsOvertaken route m m')
-HasCarriedOut route (Err why.NoRow) m m' = HasLeft m m' × HasMet 1 0 m m'
-HasCarriedOut route (Err why.Worn) m m' = HasLeft m m' × HasMet 0 1 m m'
+abbrev pub HasCarriedOut : Attempt → Result (Unit {0}) Why → MyTree → MyTree → Type 0
+HasCarriedOut x (Ok done) m m' = HasMade 2 1 m m' × HasForgotten m'.0.upper × HasMet 0 0 m m' × (losses m' ≡ losses m)
+HasCarriedOut x (Err why.Root) m m' = ⊥
+HasCarriedOut x (Err why.OneObject) m m' = ⊥
+HasCarriedOut x (Err why.AtLevel) m m' = ⊥
+HasCarriedOut x (Err why.SiblingRoute) m m' = ⊥
+HasCarriedOut x (Err why.TooMany) m m' = ⊥
+HasCarriedOut x (Err why.Taken) m m' = ⊥
+HasCarriedOut x (Err why.Lost) m m' = HasMet 0 0 m m' × IsLostTo x m m'
+HasCarriedOut x (Err why.NoRow) m m' = HasLeft m m' × HasMet 1 0 m m'
+HasCarriedOut x (Err why.Worn) m m' = HasLeft m m' × HasMet 0 1 m m'
 
 -- what became of the base, by what a try to join it came to
 abbrev pub outcome_of : {T : Type 0} → Result T Why → Adapted

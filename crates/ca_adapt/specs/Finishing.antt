@@ -8,8 +8,8 @@ use Rattle.ca_node.specs.Layout.{base_form}
 use Rattle.ca_node.specs.Links.{IsIn}
 use Rattle.ca_node.specs.Told.{MyTree, IsAnyLink, IsKnown, IsRouteNote, link_word}
 use Rattle.ca_node.specs.Tree.{StartsWith}
-use Rattle.ca_node.specs.Unlinks.{Unlinking, one_unlinking_lost, unlinked}
-use Rattle.ca_node.specs.TreeView.{Way, Turns, TreeView, no_joins, one_helped}
+use Rattle.ca_node.specs.Unlinks.{Unlinking, attempt_by, one_unlinking_lost, unlinked, unlinked_inventory}
+use Rattle.ca_node.specs.TreeView.{Way, Attempt, Turns, TreeView, no_joins, one_helped}
 use Rattle.ca_rows.specs.declared.kept.Kept.{Kept}
 use Rattle.ca_rows.specs.declared.kept.KeptRows.{KeptRows}
 use Rattle.ca_rows.specs.declared.sizes.Sizes.{Sizes}
@@ -119,6 +119,17 @@ KeepsFinished route finish.Done m m' kept kept' = (losses m' ≡ losses m → (t
 KeepsFinished route finish.NoRow m m' kept kept' = PutsBack (base_form ∷ []) 0 m m' kept kept'
 KeepsFinished route finish.Lost m m' kept kept' = PutsBack (base_form ∷ []) 1 m m' kept kept'
 KeepsFinished route finish.Worn m m' kept kept' = PutsBack (base_form ∷ []) 0 m m' kept kept'
+
+-- Of what the tree has this changed: a base took the place of the attempt's route, where the seat remembers that it hung, and of both bases under it.
+abbrev pub IsUnited : Attempt → TreeView → TreeView → Type 0
+IsUnited x u v = (new : ℕ) × (by : Unlinking) × (attempt_by by ≡ x) × IsIn by.way u.ways × (v.inventory ≡ unlinked_inventory new by u.inventory)
+
+-- So it is where the attempt was finished, and no exchange was lost by that.
+abbrev pub HasUnitedBy : Attempt → Finish → MyTree → MyTree → Type 0
+HasUnitedBy x finish.Done m m' = losses m' ≡ losses m → IsUnited x m.0.upper m'.0.upper
+HasUnitedBy x finish.NoRow m m' = Unit {0}
+HasUnitedBy x finish.Lost m m' = Unit {0}
+HasUnitedBy x finish.Worn m m' = Unit {0}
 
 -- A secured attempt, which was counted as one that the seat helped, or wasn't, was finished, or no row was there to be taken. Two links were loaded.
 pub record HasFinished (z : Sizes) (counted : Bool) (r : Finish) (m m' : MyTree) : Type 0 where

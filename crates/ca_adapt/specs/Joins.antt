@@ -1,5 +1,5 @@
 -- Attempts to join that are begun, and bases that are marked for them.
-use Rattle.std.specs.Prelude.{◌≡◌, ◌≢◌, ◌==◌, true, cond, ℕ, ◌+◌, ◌/◌, ◌%◌, ◌<◌, ◌≤◌, List, [], ◌∷◌, length, slice_index, Result, Ok, Err}
+use Rattle.std.specs.Prelude.{◌≡◌, ◌≢◌, ◌==◌, true, false, cond, ℕ, ◌+◌, ◌/◌, ◌%◌, ◌<◌, ◌≤◌, List, [], ◌∷◌, length, slice_index, Result, Ok, Err}
 use Rattle.ca_base.specs.Putting.{stopped, words_of}
 use Rattle.ca_base.specs.declared.stop.Stop.{Stop}
 use Rattle.ca_node.specs.Copies.{Copy, copied, copy_note}
@@ -36,24 +36,24 @@ module _ {R : Type 0} where
   abbrev pub shown_on : Pass R TreeView → Link → Note
   shown_on pass link = last_on (link_word link) pass.seat.me.0.upper.notes
 
--- No attempt was begun, by the route's join word.
-abbrev pub IsWhyNotBegun : Why → ℕ → Type 0
-IsWhyNotBegun why.Root word = ⊥
-IsWhyNotBegun why.OneObject word = ⊥
-IsWhyNotBegun why.AtLevel word = ⊥
-IsWhyNotBegun why.SiblingRoute word = ⊥
-IsWhyNotBegun why.TooMany word = ⊥
-IsWhyNotBegun why.Taken word = word % 4 ≢ 0
-IsWhyNotBegun why.Lost word = (word % 4 ≡ 0) × (word / 4 < 4611686018427387903)
-IsWhyNotBegun why.NoRow word = ⊥
-IsWhyNotBegun why.Worn word = (word % 4 ≡ 0) × (4611686018427387903 ≤ word / 4)
+-- No attempt of this route was begun behind a load of its join word, which is this: one is under way; or the next one was tried, whose exchange was lost, as is
+-- counted; or the last one has the last number.
+abbrev pub IsWhyNotBegun : Why → ℕ → ℕ → MyTree → MyTree → Type 0
+IsWhyNotBegun why.Root route word m m' = ⊥
+IsWhyNotBegun why.OneObject route word m m' = ⊥
+IsWhyNotBegun why.AtLevel route word m m' = ⊥
+IsWhyNotBegun why.SiblingRoute route word m m' = ⊥
+IsWhyNotBegun why.TooMany route word m m' = ⊥
+IsWhyNotBegun why.Taken route word m m' = (word % 4 ≢ 0) × (m' ≡ m)
+IsWhyNotBegun why.Lost route word m m' = (word % 4 ≡ 0) × (word / 4 < 4611686018427387903) × HasBegunJoin false (attempt_of route (word / 4 + 1)) m m'
+IsWhyNotBegun why.NoRow route word m m' = ⊥
+IsWhyNotBegun why.Worn route word m m' = (word % 4 ≡ 0) × (4611686018427387903 ≤ word / 4) × (m' ≡ m)
 
--- An attempt of this route was begun, the next one behind the last one, which is finished, as a load of the join word told; or none was, for this reason, and
--- the pass knows what that load told.
+-- An attempt of this route was begun, the next one behind the last one, which is finished, as a load of the join word told; or none was, for this reason.
 abbrev pub HasBegunAt : ℕ → Result Attempt Why → MyTree → MyTree → Type 0
 HasBegunAt route (Ok x) m m' = (x.route ≡ route) × (x.number < 4611686018427387904) × ((word : ℕ) × (then : MyTree) × HasLoadedJoin route m word then
     × (word % 4 ≡ 0) × (x.number ≡ word / 4 + 1) × HasBegunJoin true (attempt_of x.route x.number) then m')
-HasBegunAt route (Err why) m m' = (word : ℕ) × HasLoadedJoin route m word m' × IsWhyNotBegun why word
+HasBegunAt route (Err why) m m' = (word : ℕ) × (then : MyTree) × HasLoadedJoin route m word then × IsWhyNotBegun why route word then m'
 
 -- The words are those of a copy of the base with the mark of this attempt, and with its statistic.
 pub record SpellsMarked (note : Note) (attempt : Attempt) (its : List ℕ) : Type 0 where

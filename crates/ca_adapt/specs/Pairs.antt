@@ -1,5 +1,5 @@
 -- The two bases under a route that are marked for an attempt to join them.
-use Rattle.std.specs.Prelude.{◌≡◌, ◌≢◌, ℕ, ◌+◌, ◌<◌, ◌≤◌, List, [], ◌∷◌, Result, Ok, Err}
+use Rattle.std.specs.Prelude.{◌≡◌, ◌≢◌, ℕ, ◌+◌, ◌≤◌, ◌∷◌, Result, Ok, Err}
 use Rattle.ca_base.specs.declared.stop.Stop.{Stop}
 use Rattle.ca_base.specs.Finding.{IsAtCursor, IsBaseShown}
 use Rattle.ca_node.specs.declared.cursor.Cursor.{Cursor}

@@ -35,7 +35,7 @@ IsWhyNotSplit z note why.OneObject m m' = (length note.objects < 2) × (m' ≡ m
 IsWhyNotSplit z note why.AtLevel m m' = (2 ≤ length note.objects) × (z.levels ≤ note.place.level) × (m' ≡ m)
 IsWhyNotSplit z note why.SiblingRoute m m' = ⊥
 IsWhyNotSplit z note why.TooMany m m' = ⊥
--- Nothing marks a base as yet.
+-- No range has the base, and no join, as is known before.
 IsWhyNotSplit z note why.Taken m m' = ⊥
 IsWhyNotSplit z note why.Lost m m' = MayBeSplit z note × (losses m < losses m') × HasMet 0 0 m m'
     × ((m'.0.upper ≡ m.0.upper) ⊎ (m'.0.upper ≡ one_more_lost m.0.upper))

@@ -21,6 +21,7 @@ use Rattle.ca_adapt.specs.declared.adapted.Adapted.{Adapted}
 use Rattle.ca_adapt.specs.declared.adapted.Adapted.TheVariants as adapted
 use Rattle.ca_adapt.specs.declared.adapted.Why.{Why}
 use Rattle.ca_adapt.specs.declared.adapted.Why.TheVariants as why
+use Rattle.ca_adapt.specs.declared.joining.Attempt.{Attempt}
 use Rattle.ca_adapt.specs.declared.looking.Fork.{Fork}
 
 -- the other link of the route that has this one
@@ -143,23 +144,37 @@ pub record FindsSibling (z : Sizes) (link : Link) (note : Note) (row : ℕ) (m m
   pub now : m' ≡ with_upper m (looked m.0.upper more look.sibling over borders unfinished turns)
   pub passed : turns.passed ≡ m.0.upper.turns.passed
 
--- An attempt was begun from there, and so many bases were marked for it: each mark is a turn. So many joins were carried out.
-pub record HasBegunFrom (marks joins : ℕ) (m m' : MyTree) : Type 0 where
+-- For the attempt that was begun there so many bases were marked: each mark is a turn. So many joins were carried out.
+pub record HasMade (marks joins : ℕ) (m m' : MyTree) : Type 0 where
   pub passed : m'.0.upper.turns.passed ≡ m.0.upper.turns.passed + marks
   pub helped : m'.0.upper.turns.helped ≡ m.0.upper.turns.helped
   pub loads : m'.0.upper.loads ≡ m.0.upper.loads
   pub joins_are : m'.0.upper.joins ≡ m.0.upper.joins + joins
 
--- The attempt that was begun was given up behind two marks, or fewer.
+-- It was given up behind two marks, or fewer, and no other one was begun.
 pub record HasLeft (m m' : MyTree) : Type 0 where
   pub marks : ℕ
   pub few : marks ≤ 2
-  pub counts : HasBegunFrom marks 0 m m'
+  pub counts : HasMade marks 0 m m'
+  pub begun : m'.0.upper.ranges.joins.begun ≡ m.0.upper.ranges.joins.begun
 
--- Both bases were marked, and another pass had given the attempt up before it was secured: that is what the seat learnt last.
-abbrev pub IsOvertaken : ℕ → MyTree → MyTree → Type 0
-IsOvertaken route m m' = HasBegunFrom 2 0 m m'
-    × ((number : ℕ) × (m'.0.upper.ranges.joins.decided ≡ attempt_of route number ∷ m.0.upper.ranges.joins.decided))
+-- Both bases were marked, and another pass had given the attempt up before it was secured: that is what the seat learnt last. No other one was begun.
+abbrev pub IsOvertaken : Attempt → MyTree → MyTree → Type 0
+IsOvertaken x m m' = HasMade 2 0 m m' × (m'.0.upper.ranges.joins.decided ≡ attempt_of x.route x.number ∷ m.0.upper.ranges.joins.decided)
+    × (m'.0.upper.ranges.joins.begun ≡ m.0.upper.ranges.joins.begun)
+
+-- The attempt was secured, and another pass had unlinked the route before: that exchange was lost.
+abbrev pub IsUnlinkedBefore : MyTree → MyTree → Type 0
+IsUnlinkedBefore m m' = HasMade 2 0 m m' × HasForgotten m'.0.upper × (losses m < losses m')
+
+-- It came to nothing, as an exchange was lost: one of a link or of the pool's head, before it was secured or by that which was to unlink the route; or it was
+-- given up by another pass.
+abbrev pub IsLostTo : Attempt → MyTree → MyTree → Type 0
+IsLostTo x m m' = (HasLeft m m' × (losses m < losses m')) ⊎ (IsUnlinkedBefore m m' ⊎ IsOvertaken x m m')
+
+-- An attempt of this route was begun from there, one, and then this holds of it.
+abbrev pub HasBegunThen : ℕ → (Attempt → MyTree → Type 0) → MyTree → Type 0
+HasBegunThen route Then m = (x : Attempt) × (n : MyTree) × HasBegunAt route (Ok x) m n × Then x n
 
 -- This is why the base was not joined, given what the seat knew before and behind. Each cause says that none before it is there.
 abbrev pub IsWhyNotJoined : Sizes → Link → Note → Why → MyTree → MyTree → Type 0
@@ -172,10 +187,11 @@ IsWhyNotJoined z link note why.TooMany m m' = (link ≢ on.Root) × ((row : ℕ)
 IsWhyNotJoined z link note why.Taken m m' = (link ≢ on.Root) × (((sibling : Note) × (then : MyTree) × HasFoundSibling z link note m sibling then
     × IsFoundRanged sibling then m') ⊎ ((then : MyTree) × HasLooked z link note m then × HasBegunAt (route_of link) (Err why.Taken) then m'))
 IsWhyNotJoined z link note why.Lost m m' = (link ≢ on.Root) × ((then : MyTree) × HasLooked z link note m then × HasMet 0 0 m m'
-    × (HasBegunAt (route_of link) (Err why.Lost) then m' ⊎ ((HasLeft then m' × (losses m < losses m')) ⊎ IsOvertaken (route_of link) then m')))
-IsWhyNotJoined z link note why.NoRow m m' = (link ≢ on.Root) × ((then : MyTree) × HasLooked z link note m then × HasLeft then m' × HasMet 1 0 m m')
+    × (HasBegunAt (route_of link) (Err why.Lost) then m' ⊎ HasBegunThen (route_of link) (λ x n. IsLostTo x n m') then))
+IsWhyNotJoined z link note why.NoRow m m' = (link ≢ on.Root) × ((then : MyTree) × HasLooked z link note m then × HasMet 1 0 m m'
+    × HasBegunThen (route_of link) (λ x n. HasLeft n m') then)
 IsWhyNotJoined z link note why.Worn m m' = (link ≢ on.Root) × ((then : MyTree) × HasLooked z link note m then
-    × (HasBegunAt (route_of link) (Err why.Worn) then m' ⊎ (HasLeft then m' × HasMet 0 1 m m')))
+    × (HasBegunAt (route_of link) (Err why.Worn) then m' ⊎ (HasMet 0 1 m m' × HasBegunThen (route_of link) (λ x n. HasLeft n m') then)))
 
 -- The sibling was looked for, and found; or there is the cause why the base was not joined.
 abbrev pub HasLookedFor : Sizes → Link → Note → Result ℕ Why → MyTree → MyTree → Type 0
@@ -187,8 +203,8 @@ HasLookedFor z link note (Err why) m m' = IsWhyNotJoined z link note why m m' ×
 abbrev pub IsJoinOutcome : Sizes → Link → Note → Adapted → MyTree → MyTree → Type 0
 IsJoinOutcome z link note adapted.Stay m m' = ⊥
 IsJoinOutcome z link note adapted.Split m m' = ⊥
-IsJoinOutcome z link note adapted.Joined m m' = (link ≢ on.Root) × ((then : MyTree) × HasLooked z link note m then × HasBegunFrom 2 1 then m'
-    × HasForgotten m'.0.upper × HasMet 0 0 m m' × (losses m' ≡ losses m))
+IsJoinOutcome z link note adapted.Joined m m' = (link ≢ on.Root) × ((then : MyTree) × HasLooked z link note m then × HasMet 0 0 m m'
+    × (losses m' ≡ losses m) × HasForgotten m'.0.upper × HasBegunThen (route_of link) (λ x n. HasMade 2 1 n m') then)
 IsJoinOutcome z link note (adapted.NotSplit why) m m' = ⊥
 IsJoinOutcome z link note (adapted.NotJoined why) m m' = IsWhyNotJoined z link note why m m'
 
@@ -205,7 +221,9 @@ pub record IsLoneBy (more : ℕ) (u v : TreeView) : Type 0 where
   pub bases_are : length v.inventory.bases ≤ length u.inventory.bases + more
   pub most_are : v.inventory.most ≤ max u.inventory.most (length u.inventory.rows + more)
 
--- A pass that is alone, to which the base is listed, loses no exchange of a link, whatever becomes of the base. The tree has one row and one base more, at
--- most, at any time.
-abbrev pub IsLoneTry : Adapted → TreeView → TreeView → Type 0
-IsLoneTry a u v = IsLoneBy 1 u v
+-- A pass that is alone, to which the base is listed, loses no exchange of a link or a join word, whatever becomes of the base, and nothing is in its way: where
+-- it was told that an exchange was lost, it was one of the pool's head. The tree has one row and one base more, at most, at any time.
+pub record IsLoneTry (a : Adapted) (m m' : MyTree) : Type 0 where
+  pub by : IsLoneBy 1 m.0.upper m'.0.upper
+  pub free : a ≢ adapted.NotJoined why.Taken
+  pub pools : a ≡ adapted.NotJoined why.Lost → m.0.lost < m'.0.lost

@@ -1,11 +1,11 @@
 //! An own attempt to join two bases is carried to its end: both are marked, it is secured and the route is unlinked; or it is left.
-ghost use Rattle.std.specs.Prelude.{◌≡◌, ◌<◌, ◌≤◌, [], ◌∷◌};
+ghost use Rattle.std.specs.Prelude.{◌≡◌, ◌<◌, ◌≤◌, [], ◌∷◌, IsOk};
 ghost use Rattle.ca_adapt.specs.Carrying.{HasCarriedOut, HasConcluded, HasPrepared, HasUnited, Holds, IsSecurable, IsUniting, StaysPinned};
-ghost use Rattle.ca_adapt.specs.Carrying.{held_by, ordered, why_not};
+ghost use Rattle.ca_adapt.specs.Carrying.{held_by, ordered, outcome_of, why_not};
 ghost use Rattle.ca_adapt.specs.Finishing.{IsHungBy};
 ghost use Rattle.ca_adapt.specs.Joins.{shown_on};
 ghost use Rattle.ca_adapt.specs.Pairs.{IsPair, IsThere};
-ghost use Rattle.ca_adapt.specs.Trying.{IsJoinSteps, IsLoneBy, IsSpentTrying};
+ghost use Rattle.ca_adapt.specs.Trying.{IsJoinSteps, IsLoneBy, IsLoneTry, IsSpentTrying};
 ghost use Rattle.ca_base.specs.Counting.{HasFound};
 ghost use Rattle.ca_base.specs.Readiness.{IsReady};
 ghost use Rattle.ca_node.specs.JoinSteps.{attempt_of};
@@ -16,7 +16,7 @@ ghost use Rattle.ca_node.specs.TreeView.{Joining, Note, Quiet, Secured};
 ghost use Rattle.ca_rows.specs.Passes.{IsReading, sizes, known};
 
 use crate::adapted::Why;
-use crate::finishing::{Union, level_of, put_joined};
+use crate::finishing::{Union, put_joined, route_level};
 use crate::joining::Attempt;
 use crate::marking::{Marked, Pair, mark_both};
 use ca_base::{Stop, give_back, take, write_joined};
@@ -26,19 +26,19 @@ use std::marker::Brand;
 
 /// The rows of both copies that are marked, and a row for the base to which they are joined.
 #[derive(Clone, Copy)]
-pub(crate) struct Copies {
-    pub(crate) marked: Marked,
-    pub(crate) new: u32,
+pub struct Copies {
+    pub marked: Marked,
+    pub new: u32,
 }
 
 /// A route that is to be unlinked: the attempt that is secured, the link on which the route hangs, both bases, and a row for the one to which they are joined.
 #[derive(Clone, Copy)]
-pub(crate) struct Uniting {
-    pub(crate) attempt: Attempt,
-    pub(crate) above: Link,
-    pub(crate) left: u32,
-    pub(crate) right: u32,
-    pub(crate) new: u32,
+pub struct Uniting {
+    pub attempt: Attempt,
+    pub above: Link,
+    pub left: u32,
+    pub right: u32,
+    pub new: u32,
 }
 
 /// Carries the pass's own attempt to join a pair to its end. Where a mark or a row's taking comes to nothing the attempt is left; where another pass gave it up
@@ -60,9 +60,9 @@ pub(crate) fn carry_out(
     ensures none { Holds space.now pass.new [] }
     ensures own { (tree_of pass.new).ranges.own ≡ Quiet }
     ensures steps { IsJoinSteps (sizes space.now) (tree_of pass.old) (tree_of pass.new) }
-    ensures done { HasCarriedOut pair.attempt.route result (known pass.old) (known pass.new) }
+    ensures done { HasCarriedOut pair.attempt result (known pass.old) (known pass.new) }
     ensures alone { IsAlone (sizes space.now) (tree_of pass.old) → IsListed (tree_of pass.old).inventory (shown_on pass.old pair.one.link)
-        → IsThere (tree_of pass.old).inventory (shown_on pass.old pair.other.link) → IsLoneBy 1 (tree_of pass.old) (tree_of pass.new) }
+        → IsThere (tree_of pass.old).inventory (shown_on pass.old pair.other.link) → IsLoneTry (outcome_of result) (known pass.old) (known pass.new) }
     ensures counted { IsSpentTrying spent.old spent.new (known pass.old) (known pass.new) }
 {
     match prepare(space, pass, pair, spent) {
@@ -74,8 +74,8 @@ pub(crate) fn carry_out(
     }
 }
 
-// Marks both bases, and takes a row for the base to which they are joined.
-fn prepare(
+/// Marks both bases, and takes a row for the base to which they are joined.
+pub fn prepare(
     space: &TreeSpace,
     pass: &mut TreePass,
     pair: Pair,
@@ -117,8 +117,8 @@ fn conclude(
     ensures none { Holds space.now pass.new [] }
     ensures own { (tree_of pass.new).ranges.own ≡ Quiet }
     ensures steps { IsJoinSteps (sizes space.now) (tree_of pass.old) (tree_of pass.new) }
-    ensures done { HasConcluded pair.attempt.route result (known pass.old) (known pass.new) }
-    ensures alone { IsAlone (sizes space.now) (tree_of pass.old) → IsLoneBy 1 (tree_of pass.old) (tree_of pass.new) }
+    ensures done { HasConcluded pair.attempt result (known pass.old) (known pass.new) }
+    ensures alone { IsAlone (sizes space.now) (tree_of pass.old) → IsOk result × IsLoneBy 1 (tree_of pass.old) (tree_of pass.new) }
     ensures counted { IsSpentTrying spent.old spent.new (known pass.old) (known pass.new) }
 {
     let attempt = pair.attempt;
@@ -141,8 +141,8 @@ fn conclude(
     }
 }
 
-// Writes the base to which both are joined, and unlinks the route by one exchange. Where that was lost, the row is put back.
-fn unite(space: &TreeSpace, pass: &mut TreePass, uniting: Uniting, spent: &mut Spent) -> bool
+/// Writes the base to which both are joined, and unlinks the route by one exchange. Where that was lost, the row is put back.
+pub fn unite(space: &TreeSpace, pass: &mut TreePass, uniting: Uniting, spent: &mut Spent) -> bool
     requires reading { IsReading space.now pass.old }
     requires leaf { (sizes space.now).leaf ≤ 120 }
     requires number { 0 < (tree_of pass.old).number }
@@ -158,7 +158,7 @@ fn unite(space: &TreeSpace, pass: &mut TreePass, uniting: Uniting, spent: &mut S
     ensures counted { IsSpentTrying spent.old spent.new (known pass.old) (known pass.new) }
 {
     let attempt = uniting.attempt;
-    let level = level_of(space, pass, attempt.route);
+    let level = route_level(space, pass, attempt.route);
     write_joined(space, pass, uniting.new, uniting.left, uniting.right, level);
     let rows = Union {
         attempt,
@@ -169,8 +169,8 @@ fn unite(space: &TreeSpace, pass: &mut TreePass, uniting: Uniting, spent: &mut S
     put_joined::<Brand>(space, pass, uniting.above, rows, true, spent)
 }
 
-// The rows of both copies, the left one first.
-fn in_order(link: Link, marked: Marked) -> (u32, u32)
+/// The rows of both copies, the left one first.
+pub fn in_order(link: Link, marked: Marked) -> (u32, u32)
     ensures { result ≡ ordered link marked }
 {
     match link {

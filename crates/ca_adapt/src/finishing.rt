@@ -1,7 +1,7 @@
 //! An attempt to join that is secured is finished: the joined base takes the place of the route.
 ghost use Rattle.std.specs.Prelude.{◌≡◌, ◌≢◌, ◌+◌, ◌*◌, ◌<◌, ◌≤◌, [], ◌∷◌, not, true, false};
 ghost use Rattle.ca_adapt.specs.Carrying.{StaysPinned};
-ghost use Rattle.ca_adapt.specs.Finishing.{AreRowsOf, HasFinished, HasPutJoined, IsHungBy, KeepsFinished, KeepsJoined, finish_by};
+ghost use Rattle.ca_adapt.specs.Finishing.{AreRowsOf, HasFinished, HasPutJoined, HasUnitedBy, IsHungBy, KeepsFinished, KeepsJoined, finish_by};
 ghost use Rattle.ca_base.specs.Counting.{HasMet};
 ghost use Rattle.ca_base.specs.Readiness.{IsReady, StaysReady};
 ghost use Rattle.ca_base.specs.Spending.{IsSpentOn};
@@ -49,10 +49,10 @@ pub(crate) struct Union {
     pub(crate) new: u32,
 }
 
-/// Finishes an attempt to join that the pass knows to be secured, of a route that it remembers, which hangs on the link `above`, and which isn't the pass's own: a base that has the objects of
-/// both bases under the route takes its place, by one exchange of that link. Where another pass did so before, that exchange is lost. Either way the pass
-/// remembers no base and no route any more. The attempt counts as an operation that was helped where the exchange won, but not again where it was `counted`
-/// so before. Where there is no row for that base it answers why, and remembers all still.
+/// Finishes an attempt to join that the pass knows to be secured, of a route that it remembers, which hangs on the link `above`, and which isn't the pass's
+/// own: a base that has the objects of both bases under the route takes its place, by one exchange of that link. Where another pass did so before, that
+/// exchange is lost. Either way the pass remembers no base and no route any more. The attempt counts as an operation that was helped where the exchange won,
+/// but not again where it was `counted` so before. Where there is no row for that base it answers why, and remembers all still.
 pub fn finish_join(
     space: &TreeSpace,
     pass: &mut TreePass,
@@ -69,13 +69,14 @@ pub fn finish_join(
     requires decided { counted ≡ true → IsIn (attempt_of attempt.route attempt.number) (tree_of pass.old).ranges.joins.decided }
     ensures frame { StaysReady space.now pass.old pass.new }
     ensures finished { HasFinished (sizes space.now) counted result (known pass.old) (known pass.new) }
+    ensures united { HasUnitedBy (attempt_of attempt.route attempt.number) result (known pass.old) (known pass.new) }
     ensures counted { IsSpentOn spent.old spent.new (known pass.old) (known pass.new) }
     ensures back { KeepsFinished attempt.route result (known pass.old) (known pass.new) pass.old.kept pass.new.kept }
 {
     let route = attempt.route;
     let left = load_link(space, pass, Link::Left(route));
     let right = load_link(space, pass, Link::Right(route));
-    let level = level_of(space, pass, route);
+    let level = route_level(space, pass, route);
     let new = match take(space, pass, BASE_FORM, spent) {
         Ok(row) => row,
         Err(why) => return lacking(why),
@@ -92,7 +93,7 @@ pub fn finish_join(
 }
 
 /// The level of a route that the pass was shown.
-pub(crate) fn level_of(space: &TreeSpace, pass: &mut TreePass, route: u32) -> u16
+pub(crate) fn route_level(space: &TreeSpace, pass: &mut TreePass, route: u32) -> u16
     requires reading { IsReading space.now pass.old }
     requires inside { route ≤ (sizes space.now).rows }
     requires remembered { IsRemembered (tree_of pass.old).ways route }

@@ -2,6 +2,7 @@
 ghost use Rattle.std.specs.Prelude.{◌≡◌, ◌≢◌, ◌<◌, ◌≤◌, ℕ, [], ◌∷◌, Err, slice_index};
 ghost use Rattle.ca_adapt.specs.Joins.{HasBegunAt, HasMarkedFor, SpellsMarked, shown_on};
 ghost use Rattle.ca_adapt.specs.Pairs.{IsThere};
+ghost use Rattle.ca_adapt.specs.declared.adapted.Why.TheVariants.{Lost as IsLostBegin};
 ghost use Rattle.ca_base.specs.Copied.{HasPut};
 ghost use Rattle.ca_base.specs.Counting.{HasFound, IsSpent};
 ghost use Rattle.ca_base.specs.Finding.{IsAtCursor, IsBaseShown};
@@ -43,7 +44,8 @@ pub struct Attempt {
 }
 
 /// Begins the next attempt to join the two bases under a route that the pass was shown: it is the pass's own, to be secured or left. It answers `Taken` where
-/// an attempt is under way, `Worn` where the last one had the last number that there is, and `Lost` where another pass came first.
+/// an attempt is under way, `Worn` where the last one had the last number that there is, and `Lost` where its exchange was lost, since another pass came first.
+/// A pass that is the only one of the space loses none.
 pub fn begin_attempt(space: &TreeSpace, pass: &mut TreePass, route: u32) -> Result<Attempt, Why>
     requires ready { IsReady space.now pass.old }
     requires inside { route ≤ (sizes space.now).rows }
@@ -51,6 +53,31 @@ pub fn begin_attempt(space: &TreeSpace, pass: &mut TreePass, route: u32) -> Resu
     requires quiet { (tree_of pass.old).ranges.own ≡ Quiet }
     ensures frame { KeepsList pass.old pass.new }
     ensures begun { HasBegunAt route result (known pass.old) (known pass.new) }
+    ensures won { IsAlone (sizes space.now) (tree_of pass.old) → result ≢ Err IsLostBegin }
+{
+    let mut spent = Spent {
+        lost: 0,
+        helped: 0,
+        passed: 0,
+    };
+    try_begin(space, pass, route, &mut spent)
+}
+
+/// The same, as a part of a call that counts what it spends: an exchange that was lost is added.
+pub(crate) fn try_begin(
+    space: &TreeSpace,
+    pass: &mut TreePass,
+    route: u32,
+    spent: &mut Spent,
+) -> Result<Attempt, Why>
+    requires ready { IsReady space.now pass.old }
+    requires inside { route ≤ (sizes space.now).rows }
+    requires remembered { IsRemembered (tree_of pass.old).ways route }
+    requires quiet { (tree_of pass.old).ranges.own ≡ Quiet }
+    ensures frame { KeepsList pass.old pass.new }
+    ensures begun { HasBegunAt route result (known pass.old) (known pass.new) }
+    ensures won { IsAlone (sizes space.now) (tree_of pass.old) → result ≢ Err IsLostBegin }
+    ensures counted { IsSpent spent.old spent.new (known pass.old) (known pass.new) }
 {
     let JoinState::Idle(last) = load_join(space, pass, route) else {
         return Err(Why::Taken);
@@ -62,13 +89,14 @@ pub fn begin_attempt(space: &TreeSpace, pass: &mut TreePass, route: u32) -> Resu
     if begin_join(space, pass, route, number) {
         Ok(Attempt { route, number })
     } else {
+        lose(spent);
         Err(Why::Lost)
     }
 }
 
 /// Marks the base that was shown last on the cursor's link for an attempt that was begun, of the route on whose link it hangs: a copy with the attempt's mark
-/// and the base's statistic takes its place, by one exchange of the link. Neither a range has the base nor a join, as the pass knows. It answers the copy's row.
-/// The turn is the caller's to count.
+/// and the base's statistic takes its place, by one exchange of the link. Neither a range has the base nor a join, as the pass knows. It answers the row of the
+/// copy. The turn is the caller's to count.
 pub fn mark_for(
     space: &TreeSpace,
     pass: &mut TreePass,

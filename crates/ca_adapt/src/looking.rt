@@ -3,7 +3,6 @@ ghost use Rattle.std.specs.Prelude.{◌≡◌, ◌≢◌, ◌↔◌, ◌+◌, �
 ghost use Rattle.ca_adapt.specs.Finishing.{IsHungBy};
 ghost use Rattle.ca_adapt.specs.Trying.{HasLookedFor, HasSeenBase, IsForkAt, IsFoundInUse, IsHungUnder, IsJoinSteps, OnlyLooks, other_link, route_of};
 ghost use Rattle.ca_base.specs.Finding.{IsBaseShown};
-ghost use Rattle.ca_node.specs.Row.{count};
 ghost use Rattle.ca_node.specs.Told.{IsAnyLink, link_word, status_of};
 ghost use Rattle.ca_node.specs.Layout.{sequence_unit};
 ghost use Rattle.ca_node.specs.declared.link.Link.TheVariants.{Root as IsRoot};
@@ -14,20 +13,21 @@ ghost use Rattle.ca_rows.specs.declared.sizes.Sizes.{Sizes};
 ghost use Rattle.ca_rows.specs.Passes.{OnlyReads, IsReading, KeepsList, sizes, known};
 
 use crate::adapted::Why;
+use ca_base::items_of;
 use ca_node::{
     Cursor, FORM, Link, ROUTE, RangeState, TreePass, TreeSpace, load_link, load_status, load_word,
 };
 
 /// A route on whose link a base hangs: its row, the link on which it hangs itself, and its other link.
 #[derive(Clone, Copy)]
-pub(crate) struct Fork {
-    pub(crate) route: u32,
-    pub(crate) above: Link,
-    pub(crate) other: Link,
+pub struct Fork {
+    pub route: u32,
+    pub above: Link,
+    pub other: Link,
 }
 
 /// The route on whose link the base under the cursor hangs, if it hangs on one.
-pub(crate) fn fork_at(cursor: Cursor) -> Option<Fork>
+pub fn fork_at(cursor: Cursor) -> Option<Fork>
     ensures { (z : Sizes) (u : TreeView) → IsHungUnder z u cursor.link cursor.above → IsForkAt z u cursor.link result }
 {
     let (route, other) = match cursor.link {
@@ -47,7 +47,7 @@ pub(crate) fn fork_at(cursor: Cursor) -> Option<Fork>
 
 /// Looks for the sibling of a base that the pass was shown: the base on the other link of its route. It answers why they can't be joined: `SiblingRoute` where
 /// a route hangs there, `TooMany` where both together have more than so many objects, `Taken` where a range has the sibling.
-pub(crate) fn look_aside(
+pub fn look_aside(
     space: &TreeSpace,
     pass: &mut TreePass,
     cursor: Cursor,
@@ -68,8 +68,8 @@ pub(crate) fn look_aside(
     let Some(sibling) = load_base(space, pass, fork.other) else {
         return Err(Why::SiblingRoute);
     };
-    let many = items_in(space, pass, cursor.base);
-    if many + items_in(space, pass, sibling) > leaf {
+    let many = items_of(space, pass, cursor.base);
+    if many + items_of(space, pass, sibling) > leaf {
         return Err(Why::TooMany);
     }
     if is_in_range(space, pass, sibling) {
@@ -96,19 +96,8 @@ fn load_base(space: &TreeSpace, pass: &mut TreePass, link: Link) -> Option<u32>
     }
 }
 
-// How many items a base has that the pass was shown.
-fn items_in(space: &TreeSpace, pass: &mut TreePass, base: u32) -> u32
-    requires reading { IsReading space.now pass.old }
-    requires shown { (note : Note) × IsBaseShown (sizes space.now) (tree_of pass.old) base note }
-    ensures frame { OnlyReads pass.old pass.new }
-    ensures count { (note : Note) → IsBaseShown (sizes space.now) (tree_of pass.old) base note → result ≡ count note.its }
-    ensures few { result ≤ 65535 }
-{
-    (load_word(space, pass, base, 0) % 65_536) as u32
-}
-
 /// The level of a base that the pass was shown.
-pub(crate) fn level_of(space: &TreeSpace, pass: &mut TreePass, base: u32) -> u16
+pub fn base_level(space: &TreeSpace, pass: &mut TreePass, base: u32) -> u16
     requires reading { IsReading space.now pass.old }
     requires shown { (note : Note) × IsBaseShown (sizes space.now) (tree_of pass.old) base note }
     ensures frame { OnlyReads pass.old pass.new }

@@ -17,17 +17,17 @@ use ca_node::{Cursor, TreePass, TreeSpace};
 
 /// The two bases under a route, and an attempt to join them.
 #[derive(Clone, Copy)]
-pub(crate) struct Pair {
-    pub(crate) one: Cursor,
-    pub(crate) other: Cursor,
-    pub(crate) attempt: Attempt,
+pub struct Pair {
+    pub one: Cursor,
+    pub other: Cursor,
+    pub attempt: Attempt,
 }
 
 /// The rows of both copies that are marked.
 #[derive(Clone, Copy)]
-pub(crate) struct Marked {
-    pub(crate) one: u32,
-    pub(crate) other: u32,
+pub struct Marked {
+    pub one: u32,
+    pub other: u32,
 }
 
 /// Marks both bases of a pair, one behind the other. Each mark is a turn that passed.

@@ -2,7 +2,7 @@
 ghost use Rattle.std.specs.Prelude.{◌≡◌, ◌≤◌, [], Some};
 ghost use Rattle.ca_adapt.specs.Carrying.{Holds, StaysPinned, outcome_of};
 ghost use Rattle.ca_adapt.specs.Joins.{shown_on};
-ghost use Rattle.ca_adapt.specs.Trying.{IsForkAt, IsHungUnder, IsJoinOutcome, IsJoinSteps, IsLoneBy, IsLoneTry, IsSpentTrying};
+ghost use Rattle.ca_adapt.specs.Trying.{IsForkAt, IsHungUnder, IsJoinOutcome, IsJoinSteps, IsLoneTry, IsSpentTrying};
 ghost use Rattle.ca_adapt.specs.Tuned.{IsTuned};
 ghost use Rattle.ca_base.specs.Finding.{IsAtCursor, IsBaseShown};
 ghost use Rattle.ca_base.specs.Readiness.{IsReady, StaysReady, shown_last};
@@ -15,8 +15,8 @@ ghost use Rattle.ca_rows.specs.Passes.{sizes, known};
 
 use crate::adapted::{Adapted, Why};
 use crate::carrying::carry_out;
-use crate::joining::begin_attempt;
-use crate::looking::{Fork, fork_at, level_of, look_aside};
+use crate::joining::try_begin;
+use crate::looking::{Fork, base_level, fork_at, look_aside};
 use crate::marking::Pair;
 use crate::tuning::Tuning;
 use ca_model::Spent;
@@ -27,6 +27,7 @@ use ca_node::{Cursor, TreePass, TreeSpace};
 /// `SiblingRoute` where its sibling is a route, with `TooMany` where both have more objects together than a base may have, with `Taken` where the sibling is in
 /// use by a range or an attempt of the route is under way, with `NoRow` and `Worn` where no row was free and where the pool's tag or the route's attempts can
 /// rise no more, and with `Lost` where an exchange was lost, or another pass gave the attempt up. No attempt of its own is left under way.
+#[tactic(auto, using(crate::proofs::LoneLooks::lone_root))]
 pub fn try_join(
     space: &TreeSpace,
     pass: &mut TreePass,
@@ -46,7 +47,7 @@ pub fn try_join(
     ensures joined { IsJoinOutcome (sizes space.now) cursor.link (shown_last pass.old) result (known pass.old) (known pass.new) }
     ensures counted { IsSpentTrying spent.old spent.new (known pass.old) (known pass.new) }
     ensures alone { IsAlone (sizes space.now) (tree_of pass.old) → IsKnown (sizes space.now) (tree_of pass.old)
-        → IsListed (tree_of pass.old).inventory (shown_last pass.old) → IsLoneTry result (tree_of pass.old) (tree_of pass.new) }
+        → IsListed (tree_of pass.old).inventory (shown_last pass.old) → IsLoneTry result (known pass.old) (known pass.new) }
 {
     let Some(fork) = fork_at(cursor) else {
         return Adapted::NotJoined(Why::Root);
@@ -75,13 +76,13 @@ fn join_under(
     ensures own { (tree_of pass.new).ranges.own ≡ Quiet }
     ensures steps { IsJoinSteps (sizes space.now) (tree_of pass.old) (tree_of pass.new) }
     ensures joined { IsJoinOutcome (sizes space.now) cursor.link (shown_on pass.old cursor.link) (outcome_of result) (known pass.old) (known pass.new) }
-    ensures alone { IsAlone (sizes space.now) (tree_of pass.old) → IsListed (tree_of pass.old).inventory (shown_on pass.old cursor.link)
-        → IsLoneBy 1 (tree_of pass.old) (tree_of pass.new) }
+    ensures alone { IsAlone (sizes space.now) (tree_of pass.old) → IsKnown (sizes space.now) (tree_of pass.old)
+        → IsListed (tree_of pass.old).inventory (shown_on pass.old cursor.link) → IsLoneTry (outcome_of result) (known pass.old) (known pass.new) }
     ensures counted { IsSpentTrying spent.old spent.new (known pass.old) (known pass.new) }
 {
     let base = look_aside(space, pass, cursor, fork, leaf)?;
-    let level = level_of(space, pass, base);
-    let attempt = begin_attempt(space, pass, fork.route)?;
+    let level = base_level(space, pass, base);
+    let attempt = try_begin(space, pass, fork.route, spent)?;
     let link = fork.other;
     let other = Cursor {
         base,

@@ -8,7 +8,7 @@ use Rattle.ca_node.specs.Told.{MyTree, given, taken_out}
 use Rattle.ca_node.specs.TreeView.{KnownRanges, Ranging, TreeView}
 use Rattle.ca_node.proofs.HeldRows.{given_fewer, taken_out_more}
 use Rattle.ca_base.specs.Putting.{first_note}
-use Rattle.ca_base.specs.Taking.{AreHeld, HasUnlinked, AreUnlinked, lent_of}
+use Rattle.ca_base.specs.Taking.{AreHeld, HasTakenOut, AreUnlinked, lent_of}
 use Rattle.ca_base.proofs.Rest.{is_one}
 use Rattle.ca_base.proofs.Unlinking.{few_at_once, unlinked_then}
 use Rattle.ca_rows.specs.Claims.{claim_of}
@@ -33,7 +33,7 @@ copied_rows rows kept kept' m m' ranges new x base same own d too h =
     let before = h.1.now in let ever = h.1.ever in
     let now = subst (λ (y : MyTree × KeptRows). AreUnlinked rows y.1.rows y.0.0 goes)
     (λ i. (sym d.now i, sym too i)) (
-      subst (λ (r : Ranging). HasUnlinked rows kept.rows (taken_out goes (given comes m.0.claims)) (lent_of r) goes) (sym own) then,
+      subst (λ (r : Ranging). HasTakenOut rows kept.rows (taken_out goes (given comes m.0.claims)) (lent_of r) goes) (sym own) then,
       record {
         now = omega arith;
         ever = few_at_once goes (given comes m.0.claims) m.0.most ever (omega arith);

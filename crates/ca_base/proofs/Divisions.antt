@@ -196,7 +196,12 @@ module _ (z : Sizes) (m0 m1 m2 m3 m4 : MyTree) (route left right many attempt : 
     is_right = record {
       is_base = w.is_right.spells.is_base;
       level_is = w.is_right.spells.level_is ∙ ap (λ (n : ℕ). n + 1) (sym w.at.level);
-      few = let a = few in omega (arith, w.is_right.spells.count_is, length-take (many - many / 2) (drop (many / 2) (worded (length w.is_right.prefix) (items note.its) note.objects)));
+      few = let a = few in omega (
+        arith,
+        w.is_right.spells.count_is,
+        length-take (many - many / 2) (drop (many / 2) (worded (length w.is_right.prefix)
+            (items note.its) note.objects)),
+      );
       unmarked = w.is_right.spells.unmarked;
       items_are = right_items ∙ (rest (items note.its) as_many
           ∙ ap (λ (n : ℕ). drop n (items note.its)) (sym middle));

@@ -10,7 +10,7 @@ use Rattle.ca_node.specs.Told.{MyTree, given, taken_out}
 use Rattle.ca_node.specs.TreeView.{Begun, Border, Marking, Quiet}
 use Rattle.ca_node.proofs.Looking.{in_more}
 use Rattle.ca_node.proofs.Members.{in_first, in_rest, has, given_here, given_else, taken_here, taken_else}
-use Rattle.ca_base.specs.Taking.{AreHeld, HasHeld, HasLent, HasUnlinked, lent_of}
+use Rattle.ca_base.specs.Taking.{AreHeld, HasHeld, HasLent, HasTakenOut, lent_of}
 use Rattle.ca_base.proofs.Rest.{is_one}
 use Rattle.ca_base.proofs.Unlinking.{unlinked_then}
 use Rattle.ca_rows.specs.declared.kept.Kept.{Kept}
@@ -84,7 +84,7 @@ lent_first rows kept claims lent held row out h = let own = (h.each row (in_firs
 
 -- Claims that say the same of each row are as good.
 same_unlinked : (rows : ℕ) (kept : Vec Kept Global) (claims claims' : List Claimed) (lent out : List ℕ)
-    → ((r : ℕ) → claim_of claims' r ≡ claim_of claims r) → HasUnlinked rows kept claims lent out → HasUnlinked rows kept claims' lent out
+    → ((r : ℕ) → claim_of claims' r ≡ claim_of claims r) → HasTakenOut rows kept claims lent out → HasTakenOut rows kept claims' lent out
 same_unlinked rows kept claims claims' lent out same h = record {
   are_kept = kept_as rows claims kept h.are_kept claims' (λ r t e. sym (same r) ∙ e) (λ r t e. same r ∙ e);
   only = λ r c e. h.only r c (sym (same r) ∙ e);
@@ -94,7 +94,8 @@ same_unlinked rows kept claims claims' lent out same h = record {
 
 module _ (ins outs : List ℕ) (claims : List Claimed) (row : ℕ) (not_in : ¬ IsIn row ins) (not_out : ¬ IsIn row outs) where
   -- Whether the row is lent first or last is the same to each row.
-  lent_whenever : (r : ℕ) → claim_of (claimed row Lends (taken_out outs (given ins claims))) r ≡ claim_of (taken_out outs (given ins (claimed row Lends claims))) r
+  lent_whenever : (r : ℕ) → claim_of (claimed row Lends (taken_out outs (given ins claims))) r ≡ claim_of (taken_out outs (given ins
+      (claimed row Lends claims))) r
   lent_whenever r = dite (ℕ_discrete r row)
       (λ (f : r ≡ row). ap (claim_of (claimed row Lends (taken_out outs (given ins claims)))) f ∙ (claimed_here (taken_out outs (given ins claims)) row Lends
       ∙ (sym (taken_else outs (given ins (claimed row Lends claims)) row not_out ∙ (given_else ins (claimed row Lends claims) row not_in
@@ -110,7 +111,7 @@ module _ (ins outs : List ℕ) (claims : List Claimed) (row : ℕ) (not_in : ¬ 
 -- Of the rows that the seat held one is lent, and the others came, and others went that nobody claimed: those it has unlinked.
 pub unlinked_lending : (rows : ℕ) (kept : Vec Kept Global) (claims : List Claimed) (lent ins outs : List ℕ) (row : ℕ) → ¬ IsIn row ins
     → HasHeld rows kept claims lent (row ∷ ins) → ((r : ℕ) → IsIn r outs → claim_of claims r ≡ none)
-    → HasUnlinked rows kept (claimed row Lends (taken_out outs (given ins claims))) (row ∷ lent) outs
+    → HasTakenOut rows kept (claimed row Lends (taken_out outs (given ins claims))) (row ∷ lent) outs
 unlinked_lending rows kept claims lent ins outs row not_in h free = let own = (h.each row (in_first row ins)).2 in
     let not_out : ¬ IsIn row outs = λ o. some-ne-none (Holds own.0) (sym own.2 ∙ free row o) in
     same_unlinked rows kept (taken_out outs (given ins (claimed row Lends claims))) (claimed row Lends (taken_out outs (given ins claims))) (row ∷ lent) outs

@@ -5,6 +5,7 @@ pub mod CopyWords
 pub mod Counts
 pub mod Divisions
 pub mod Filling
+pub mod FourWords
 pub mod Fronted
 pub mod HalfFronts
 pub mod Halves
@@ -31,6 +32,7 @@ pub mod Searching
 pub mod SharedFronts
 pub mod ShownWords
 pub mod Spelling
+pub mod Spends
 pub mod SplitKeys
 pub mod TakingOut
 pub mod Tallies

@@ -14,7 +14,7 @@ use Rattle.ca_node.specs.TreeView.{TreeView}
 use Rattle.ca_node.proofs.HeldRows.{given_fewer, taken_out_more}
 use Rattle.ca_node.proofs.Members.{in_rest, has, given_here, given_else, taken_here, taken_else, in_first}
 use Rattle.ca_base.specs.Progress.{HasDone}
-use Rattle.ca_base.specs.Taking.{HasHeld, AreHeld, HasUnlinked, AreUnlinked, lent_of}
+use Rattle.ca_base.specs.Taking.{HasHeld, AreHeld, HasTakenOut, AreUnlinked, lent_of}
 use Rattle.ca_base.specs.Writing.{IsRewritten}
 use Rattle.ca_base.proofs.Held.{else_held, lent_still, wrote}
 use Rattle.ca_rows.specs.declared.kept.Kept.{Kept}
@@ -67,7 +67,7 @@ module _ (rows : ℕ) (kept : Vec Kept Global) (claims : List Claimed) (lent ins
       (λ (m : ¬ IsIn r ins). inr (sym (else_now r n m) ∙ e, m)) (has ins r)) (has outs r)
 
   -- The rows that the seat held came, and others went that nobody claimed: those it has unlinked.
-  pub unlinked_then : HasUnlinked rows kept now lent outs
+  pub unlinked_then : HasTakenOut rows kept now lent outs
   unlinked_then = record {
     are_kept = kept_as rows claims kept h.are_kept now
         (λ r t e. ⊎_elim
@@ -85,8 +85,8 @@ module _ (rows : ℕ) (kept : Vec Kept Global) (claims : List Claimed) (lent ins
 -- A row that was unlinked was retired.
 retired_claim : (rows : ℕ) (kept kept' : Vec Kept Global) (claims : List Claimed) (row t : ℕ)
     → AreKept rows (claimed row (Keeps t) claims) kept'
-    → (lent rest : List ℕ) → ¬ IsIn row rest → HasUnlinked rows kept claims lent (row ∷ rest)
-    → HasUnlinked rows kept' (claimed row (Keeps t) claims) lent rest
+    → (lent rest : List ℕ) → ¬ IsIn row rest → HasTakenOut rows kept claims lent (row ∷ rest)
+    → HasTakenOut rows kept' (claimed row (Keeps t) claims) lent rest
 retired_claim rows kept kept' claims row t k lent rest out h = record {
   are_kept = k;
   only = λ r c e. dite (ℕ_discrete r row)

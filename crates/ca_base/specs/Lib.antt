@@ -1,6 +1,7 @@
 pub mod Copied
 pub mod Counting
 pub mod Finding
+pub mod Fours
 pub mod Holding
 pub mod Joined
 pub mod Objects

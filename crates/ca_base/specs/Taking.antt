@@ -84,7 +84,7 @@ HasTakenTwo (Ok two) Now = (two.0 ≢ two.1) × Now (two.0 ∷ two.1 ∷ [])
 HasTakenTwo (Err why) Now = Now []
 
 -- By these claims a seat unlinked these rows and lends those, and has no others but those that it keeps, which are those of the list.
-pub record HasUnlinked (rows : ℕ) (kept : Vec Kept Global) (claims : List Claimed) (lent out : List ℕ) : Type 0 where
+pub record HasTakenOut (rows : ℕ) (kept : Vec Kept Global) (claims : List Claimed) (lent out : List ℕ) : Type 0 where
   pub are_kept : AreKept rows claims kept
   pub only : (row : ℕ) (c : Claim) → claim_of claims row ≡ some c → ((at : ℕ) × (c ≡ Keeps at)) ⊎ (IsIn row out ⊎ IsIn row lent)
   pub each : (row : ℕ) → IsIn row out → claim_of claims row ≡ some Unlinked
@@ -92,4 +92,4 @@ pub record HasUnlinked (rows : ℕ) (kept : Vec Kept Global) (claims : List Clai
 
 -- A seat unlinked these rows, and has no others but those that it keeps, and the one that it lends to its own range.
 abbrev pub AreUnlinked : ℕ → Vec Kept Global → View TreeView → List ℕ → Type 0
-AreUnlinked rows kept view out = HasUnlinked rows kept view.claims (lent_of view.upper.ranges.own) out × HoldsFew (length out) view
+AreUnlinked rows kept view out = HasTakenOut rows kept view.claims (lent_of view.upper.ranges.own) out × HoldsFew (length out) view

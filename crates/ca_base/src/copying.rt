@@ -69,7 +69,8 @@ pub(crate) fn write_base_with(
     requires place { IsPlaceFor placing.now.place target.now.many }
     requires inside { placing.now.row < row_limit }
     ensures frame { StillKeepsList pass.old pass.new }
-    ensures written { HasWritten row (SpellsPut (first_note (tree_of pass.old).notes) placing.now.place placing.now.key.now placing.now.row target.now.cursor.level
+    ensures written { HasWritten row (SpellsPut (first_note (tree_of pass.old).notes) placing.now.place placing.now.key.now placing.now.row
+        target.now.cursor.level
         target.now.statistic) (known pass.old) (known pass.new) }
     ensures gone { IsItemAt placing.now.place (last_items (tree_of pass.old)) result }
 {

@@ -32,6 +32,6 @@ pub use stop::{Exchange, Stop};
 pub use swapping::{STATISTIC, retire_unlinked};
 pub use taking::{give_back, take, take_two};
 pub use target::{Insertion, Keyed, Removal, Target};
-pub use uniting::write_joined;
+pub use uniting::{items_of, write_joined};
 pub use updating::{Putting, put_at};
 pub use writing::{set_word, write_bytes, write_words};

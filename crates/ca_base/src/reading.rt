@@ -1,7 +1,9 @@
 //! What bases and objects that were shown say.
-ghost use Rattle.std.specs.Prelude.{◌≡◌, ℕ, ◌+◌, ◌<◌, ◌≤◌, ◌++◌, List, length, slice_index};
+ghost use Rattle.std.specs.Prelude.{◌≡◌, ℕ, ◌+◌, ◌<◌, ◌≤◌, ◌++◌, List, get_or, length, slice_index};
+ghost use Rattle.std.specs.Int.{to_be_bytes, w64};
 ghost use Rattle.arrayvec.specs.ArrayVec.{array_vec_len};
-ghost use Rattle.ca_node.specs.Row.{pair, row_in, head_in};
+ghost use Rattle.ca_node.specs.Row.{code_words, pair, row_in, head_in};
+ghost use Rattle.ca_base.specs.Fours.{four_of};
 ghost use Rattle.ca_node.specs.TreeView.{Note};
 ghost use Rattle.ca_base.specs.Finding.{IsReadable, IsObjectShown, HasPlace, IsItem, HasHead};
 ghost use Rattle.ca_term.specs.declared.bounds.TheConstants.{MOST_CODE_BYTES};
@@ -58,7 +60,7 @@ pub(crate) fn item_word(space: &TreeSpace, pass: &mut TreePass, base: u32, place
     load_word(space, pass, base, ITEMS + place)
 }
 
-// Copies an object that the pass was shown, eight bytes at a time.
+// Copies an object that the pass was shown, 32 bytes at a time, and the rest eight.
 pub fn copy_object(space: &TreeSpace, pass: &mut TreePass, row: u32, into: &mut Code)
     requires reading { IsReading space.now pass.old }
     requires inside { row ≤ (sizes space.now).rows }
@@ -68,10 +70,43 @@ pub fn copy_object(space: &TreeSpace, pass: &mut TreePass, row: u32, into: &mut 
 {
     let len = MOST_CODE_BYTES.min((load_word(space, pass, row, 0) % 65_536) as usize);
     into.clear();
-    for i in 0..(len + 7) / 8 {
-        let bytes = load_word(space, pass, row, CODE + i as u32).to_be_bytes();
+    let whole = len / 32;
+    for four in 0..whole {
+        let words = four_words(space, pass, row, 4 * four as u32);
+        append(into, words.as_flattened());
+    }
+    for i in 4 * whole..(len + 7) / 8 {
+        let bytes = word_bytes(space, pass, row, i as u32);
         append(into, &bytes[..(len - 8 * i).min(8)]);
     }
+}
+
+// The bytes of a word of an object's code that the pass was shown.
+fn word_bytes(space: &TreeSpace, pass: &mut TreePass, row: u32, at: u32) -> [u8; 8]
+    requires reading { IsReading space.now pass.old }
+    requires inside { (row ≤ (sizes space.now).rows) × (at < 125) }
+    requires shown { (its : List ℕ) × IsObjectShown (tree_of pass.old) row its }
+    ensures frame { OnlyReads pass.old pass.new }
+    ensures bytes { (its : List ℕ) → IsObjectShown (tree_of pass.old) row its → result ≡ to_be_bytes w64 (get_or (code_words its) at 0) }
+{
+    let word = load_word(space, pass, row, CODE + at);
+    word.to_be_bytes()
+}
+
+// The bytes of four words of an object that the pass was shown, from this one of its code on.
+#[inline(always)]
+fn four_words(space: &TreeSpace, pass: &mut TreePass, row: u32, at: u32) -> [[u8; 8]; 4]
+    requires reading { IsReading space.now pass.old }
+    requires inside { (row ≤ (sizes space.now).rows) × (at + 4 ≤ 124) }
+    requires shown { (its : List ℕ) × IsObjectShown (tree_of pass.old) row its }
+    ensures frame { OnlyReads pass.old pass.new }
+    ensures words { (its : List ℕ) → IsObjectShown (tree_of pass.old) row its → result ≡ four_of (code_words its) at }
+{
+    let first = word_bytes(space, pass, row, at);
+    let second = word_bytes(space, pass, row, at + 1);
+    let third = word_bytes(space, pass, row, at + 2);
+    let fourth = word_bytes(space, pass, row, at + 3);
+    [first, second, third, fourth]
 }
 
 /// Appends bytes, for which there is room. Where they are eight, as those of a word mostly are, one move copies them.

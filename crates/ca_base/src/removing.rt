@@ -49,7 +49,8 @@ pub fn remove_at(
     ensures removed { HasTried (Remove removal.now.key.now (Some (object_at (Ok removal.now.at) (shown_last pass.old).objects))) (sizes space.now) result
         (tree_of pass.old) (tree_of pass.new) }
     ensures won { IsAlone (sizes space.now) (tree_of pass.old) → IsListed (tree_of pass.old).inventory (shown_last pass.old) → result ≢ Err (IsLost IsLink) }
-    ensures renewed { HasRenewed (sizes space.now) (met_of (known pass.new)) target.now.statistic (Del removal.now.key.now) result (tree_of pass.old) (tree_of pass.new) }
+    ensures renewed { HasRenewed (sizes space.now) (met_of (known pass.new)) target.now.statistic (Del removal.now.key.now) result (tree_of pass.old)
+        (tree_of pass.new) }
     ensures placed { IsNewRow placed.new result (tree_of pass.new) }
     ensures counted { IsSpent spent.old spent.new (known pass.old) (known pass.new) }
     ensures found { HasFound result (known pass.old) (known pass.new) }

@@ -65,7 +65,8 @@ pub(crate) fn swap_in<K: Intent>(
     ensures frame { StaysReady space.now pass.old pass.new }
     ensures done { HasTried K.update.event (sizes space.now) result (tree_of pass.old) (tree_of pass.new) }
     ensures won { IsAlone (sizes space.now) (tree_of pass.old) → IsListed (tree_of pass.old).inventory K.update.old → result ≢ Err (IsLost IsLink) }
-    ensures renewed { HasRenewed (sizes space.now) (met_of (known pass.new)) (slice_index K.update.its 1) K.update.edit result (tree_of pass.old) (tree_of pass.new) }
+    ensures renewed { HasRenewed (sizes space.now) (met_of (known pass.new)) (slice_index K.update.its 1) K.update.edit result (tree_of pass.old)
+        (tree_of pass.new) }
     ensures placed { IsNewRow rows.now.new result (tree_of pass.new) }
     ensures counted { IsSpent spent.old spent.new (known pass.old) (known pass.new) }
     ensures found { HasFound result (known pass.old) (known pass.new) }

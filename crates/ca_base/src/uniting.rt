@@ -66,12 +66,13 @@ pub fn write_joined(
     write_parts(space, pass, row, &front, first, second);
 }
 
-// How many items a base has that the pass was shown.
-fn items_of(space: &TreeSpace, pass: &mut TreePass, base: u32) -> u32
+/// How many items a base has that the pass was shown.
+pub fn items_of(space: &TreeSpace, pass: &mut TreePass, base: u32) -> u32
     requires reading { IsReading space.now pass.old }
     requires shown { (note : Note) × IsBaseShown (sizes space.now) (tree_of pass.old) base note }
     ensures frame { OnlyReads pass.old pass.new }
     ensures count { (note : Note) → IsBaseShown (sizes space.now) (tree_of pass.old) base note → result ≡ count note.its }
+    ensures few { result ≤ 65535 }
 {
     (load_word(space, pass, base, 0) % 65_536) as u32
 }

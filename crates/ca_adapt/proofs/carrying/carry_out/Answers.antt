@@ -1,19 +1,18 @@
-use Rattle.std.proofs.Common.{◌≡◌, ◌≤◌, ◌<◌, ◌+◌, ℕ, List, ◌∷◌, [], Result, Ok, Err, ap, sym, refl, ◌∙◌, subst, arith}
-use Rattle.ca_base.specs.Counting.{losses, HasFound}
-use Rattle.ca_base.specs.Taking.{lent_of}
+use Rattle.std.proofs.Common.{◌<◌, ℕ, Err, ap, sym, ◌∙◌, subst}
 use Rattle.ca_node.specs.JoinSteps.{attempt_of}
-use Rattle.ca_node.specs.Told.{MyTree, link_word}
-use Rattle.ca_node.specs.TreeView.{KnownRanges, TreeView}
-use Rattle.ca_adapt.specs.Carrying.{HasCarriedOut}
+use Rattle.ca_node.specs.Told.{link_word}
+use Rattle.ca_node.specs.TreeView.{TreeView}
+use Rattle.ca_adapt.specs.Carrying.{HasCarriedOut, outcome_of}
 use Rattle.ca_adapt.specs.Joins.{last_on}
-use Rattle.ca_adapt.specs.Trying.{IsJoinSteps}
+use Rattle.ca_adapt.specs.Trying.{IsLoneTry}
 use Rattle.ca_adapt.specs.declared.adapted.Why.{Why}
-use Rattle.ca_adapt.proofs.Carried.{concluded, left_counts, left_held, left_own, left_pinned, left_spent, left_steps, prepared_begun}
+use Rattle.ca_adapt.proofs.Carried.{concluded, left_counts, left_held, left_lost, left_own, left_pinned, left_spent, left_steps, prepared_begun}
 use Rattle.ca_adapt.proofs.MarkedPairs.{marks_steps, tried_both}
 use Rattle.ca_adapt.proofs.Readied.{pinned_both, reading_then}
 use Rattle.ca_adapt.proofs.Securing.{hung_still, inside_by, remembered_by, securable}
 use Rattle.ca_adapt.proofs.TrySteps.{steps_both}
-use Rattle.ca_adapt.proofs.LoneTries.{lone_both, lone_left, lone_none}
+use Rattle.ca_adapt.proofs.LoneTries.{lone_both, lone_left}
+use Rattle.ca_adapt.proofs.LoneLooks.{lone_done, lone_given_up}
 use Rattle.ca_node.specs.States.{IsAlone}
 use Rattle.ca_adapt.proofs.carrying.carry_out.Goals as goal
 
@@ -47,7 +46,7 @@ returns-in-Ok-clause-steps c = let z = c.args.space.now.table.shared.key in
     (marks_steps z 2 c.args.pass.now.seat.me.0.upper c.prepare.new.pass.seat.me.0.upper c.in-Ok.ensures.prepared.0) c.conclude.ensures.steps
 
 pub returns-in-Ok-clause-done : goal.returns-in-Ok-clause-done
-returns-in-Ok-clause-done c = concluded c.args.pair.attempt.route c.conclude.result c.args.pass.now.seat.me c.prepare.new.pass.seat.me
+returns-in-Ok-clause-done c = concluded c.args.pair.attempt c.conclude.result c.args.pass.now.seat.me c.prepare.new.pass.seat.me
     c.conclude.new.pass.seat.me c.in-Ok.ensures.prepared.0 c.in-Ok.ensures.found c.conclude.ensures.done
 
 pub returns-in-Ok-clause-counted : goal.returns-in-Ok-clause-counted
@@ -97,8 +96,8 @@ returns-in-Err-clause-steps c = let z = c.args.space.now.table.shared.key in let
 
 pub returns-in-Err-clause-done : goal.returns-in-Err-clause-done
 returns-in-Err-clause-done c = let p = c.in-Err.ensures.prepared in
-    subst (λ (w : Why). HasCarriedOut c.args.pair.attempt.route (Err w) c.args.pass.now.seat.me c.leave_join.new.pass.seat.me) (sym c.cause.ensures)
-    (left_counts c.leave_join.result (attempt_of c.args.pair.attempt.route c.args.pair.attempt.number) c.in-Err.why p.0 c.args.pass.now.seat.me
+    subst (λ (w : Why). HasCarriedOut c.args.pair.attempt (Err w) c.args.pass.now.seat.me c.leave_join.new.pass.seat.me) (sym c.cause.ensures)
+    (left_counts c.leave_join.result c.args.pair.attempt c.in-Err.why p.0 c.args.pass.now.seat.me
     c.prepare.new.pass.seat.me c.leave_join.new.pass.seat.me p.1 p.2 c.in-Err.ensures.found c.leave_join.ensures.done)
 
 pub returns-in-Err-clause-counted : goal.returns-in-Err-clause-counted
@@ -109,11 +108,16 @@ returns-in-Err-clause-counted c = tried_both c.args.spent.now c.prepare.new.spen
 
 pub returns-in-Ok-clause-alone : goal.returns-in-Ok-clause-alone
 returns-in-Ok-clause-alone c alone listed there = let u = c.args.pass.now.seat.me.0.upper in let v = c.prepare.new.pass.seat.me.0.upper in
-    lone_both 0 1 u v c.conclude.new.pass.seat.me.0.upper (c.prepare.ensures.alone alone listed there)
-    (c.conclude.ensures.alone (subst (λ (x : TreeView). IsAlone c.args.space.now.table.shared.key x) (sym c.in-Ok.ensures.prepared.0.only) alone))
+    let end = c.conclude.ensures.alone (subst (λ (x : TreeView). IsAlone c.args.space.now.table.shared.key x) (sym c.in-Ok.ensures.prepared.0.only) alone) in
+    lone_done c.conclude.result c.args.pass.now.seat.me c.conclude.new.pass.seat.me end.0
+    (lone_both 0 1 u v c.conclude.new.pass.seat.me.0.upper (c.prepare.ensures.alone alone listed there) end.1)
 
 pub returns-in-Err-clause-alone : goal.returns-in-Err-clause-alone
 returns-in-Err-clause-alone c alone listed there = let u = c.args.pass.now.seat.me.0.upper in let v = c.prepare.new.pass.seat.me.0.upper in
-    lone_both 0 1 u v c.leave_join.new.pass.seat.me.0.upper (c.prepare.ensures.alone alone listed there)
-    (lone_left c.leave_join.result (attempt_of c.args.pair.attempt.route c.args.pair.attempt.number) c.prepare.new.pass.seat.me c.leave_join.new.pass.seat.me
+    subst (λ (w : Why). IsLoneTry (outcome_of {T = Unit {0}} (Err w)) c.args.pass.now.seat.me c.leave_join.new.pass.seat.me) (sym c.cause.ensures)
+    (lone_given_up c.in-Err.why c.args.pass.now.seat.me c.prepare.new.pass.seat.me c.leave_join.new.pass.seat.me c.in-Err.ensures.found
+    (left_lost c.leave_join.result (attempt_of c.args.pair.attempt.route c.args.pair.attempt.number) c.prepare.new.pass.seat.me c.leave_join.new.pass.seat.me
     c.leave_join.ensures.done)
+    (lone_both 0 1 u v c.leave_join.new.pass.seat.me.0.upper (c.prepare.ensures.alone alone listed there)
+    (lone_left c.leave_join.result (attempt_of c.args.pair.attempt.route c.args.pair.attempt.number) c.prepare.new.pass.seat.me c.leave_join.new.pass.seat.me
+    c.leave_join.ensures.done)))

@@ -1,4 +1,4 @@
-use Rattle.std.proofs.Common.{◌≡◌, ◌≤◌, ◌<◌, ◌+◌, ℕ, List, ◌∷◌, [], ap, sym, refl, ◌∙◌, subst, arith}
+use Rattle.std.proofs.Common.{◌<◌, ℕ, ◌∷◌, [], ap, sym, refl, ◌∙◌, subst, arith}
 use Rattle.ca_base.specs.Counting.{losses}
 use Rattle.ca_base.specs.Taking.{lent_of}
 use Rattle.ca_node.specs.JoinSteps.{attempt_of, joins_secured, joins_too_late, own_too_late, securing}
@@ -59,7 +59,7 @@ returns-then-not-secure_join-clause-steps c = let u = c.args.pass.now.seat.me.0.
     (own_steps z u Quiet (joins_too_late x u.ranges.joins))
 
 pub returns-then-not-secure_join-clause-done : goal.returns-then-not-secure_join-clause-done
-returns-then-not-secure_join-clause-done c = concluded_late c.args.pair.attempt.route c.args.pair.attempt.number c.args.pass.now.seat.me
+returns-then-not-secure_join-clause-done c = concluded_late c.args.pair.attempt c.args.pass.now.seat.me
     c.secure_join.new.pass.seat.me c.give_back.new.pass.seat.me c.if-not-secure_join.ensures.done c.give_back.ensures.frame.same.4 c.give_back.ensures.met
 
 pub returns-then-not-secure_join-clause-counted : goal.returns-then-not-secure_join-clause-counted
@@ -81,7 +81,8 @@ unite-requires-clause-number c = subst (λ (n : ℕ). 0 < n) (sym (ap (λ (y : M
 
 pub unite-requires-clause-uniting : goal.unite-requires-clause-uniting
 unite-requires-clause-uniting c = uniting_both c.args.space.now.table.shared.key c.args.pass.now.seat.me c.args.pair c.args.copies.marked
-    c.requires.securable.0 c.requires.securable.1 c.requires.securable.2 c.args.above c.in_order-left.result c.args.copies.new c.secure_join.new.pass.seat.me.0.upper
+    c.requires.securable.0 c.requires.securable.1 c.requires.securable.2 c.args.above c.in_order-left.result c.args.copies.new
+    c.secure_join.new.pass.seat.me.0.upper
     (ap (λ (y : MyTree). y.0.upper) c.if-not-secure_join.ensures.done) c.requires.hung c.in_order-left.ensures
 
 pub unite-requires-clause-held : goal.unite-requires-clause-held
@@ -107,7 +108,7 @@ returns-then-unite-clause-steps c = let u = c.args.pass.now.seat.me.0.upper in l
     (own_steps z u (Secured x) (joins_secured x u.ranges.joins))) c.unite.ensures.steps
 
 pub returns-then-unite-clause-done : goal.returns-then-unite-clause-done
-returns-then-unite-clause-done c = concluded_won c.args.pair.attempt.route c.args.pair.attempt.number c.args.pass.now.seat.me c.secure_join.new.pass.seat.me
+returns-then-unite-clause-done c = concluded_won c.args.pair.attempt c.args.pass.now.seat.me c.secure_join.new.pass.seat.me
     c.unite.new.pass.seat.me c.if-not-secure_join.ensures.done c.if-unite.ensures.united
 
 pub returns-then-unite-clause-counted : goal.returns-then-unite-clause-counted
@@ -130,7 +131,7 @@ returns-else-unite-clause-steps c = let u = c.args.pass.now.seat.me.0.upper in l
     (own_steps z u (Secured x) (joins_secured x u.ranges.joins))) c.unite.ensures.steps
 
 pub returns-else-unite-clause-done : goal.returns-else-unite-clause-done
-returns-else-unite-clause-done c = concluded_lost c.args.pair.attempt.route c.args.pair.attempt.number c.args.pass.now.seat.me c.secure_join.new.pass.seat.me
+returns-else-unite-clause-done c = concluded_lost c.args.pair.attempt c.args.pass.now.seat.me c.secure_join.new.pass.seat.me
     c.unite.new.pass.seat.me c.if-not-secure_join.ensures.done c.if-unite.ensures.united
 
 pub returns-else-unite-clause-counted : goal.returns-else-unite-clause-counted
@@ -140,19 +141,18 @@ returns-else-unite-clause-counted c = let e = c.if-not-secure_join.ensures.done 
     c.unite.ensures.counted
 
 pub returns-then-not-secure_join-clause-alone : goal.returns-then-not-secure_join-clause-alone
-returns-then-not-secure_join-clause-alone c alone = let now = c.give_back.ensures.frame.same.4 ∙ ap (λ (y : MyTree). y.0.upper) c.if-not-secure_join.ensures.done in
-    lone_none 1 c.args.pass.now.seat.me.0.upper c.give_back.new.pass.seat.me.0.upper (ap (λ (u : TreeView). u.lost) now) (ap (λ (u : TreeView). u.inventory) now)
+returns-then-not-secure_join-clause-alone c alone = absurd (c.if-not-secure_join.ensures.several refl alone)
 
 pub returns-then-unite-clause-alone : goal.returns-then-unite-clause-alone
 returns-then-unite-clause-alone c alone = let now = ap (λ (y : MyTree). y.0.upper) c.if-not-secure_join.ensures.done in
-    let u = c.args.pass.now.seat.me.0.upper in let v = c.secure_join.new.pass.seat.me.0.upper in
-    lone_both 0 1 u v c.unite.new.pass.seat.me.0.upper
-    (lone_none 0 u v (ap (λ (x : TreeView). x.lost) now) (ap (λ (x : TreeView). x.inventory) now))
-    (c.unite.ensures.alone (subst (λ (x : TreeView). IsAlone c.args.space.now.table.shared.key x) (sym now) alone))
+    let u = c.args.pass.now.seat.me.0.upper in let v = c.secure_join.new.pass.seat.me.0.upper in (
+      refl,
+      lone_both 0 1 u v c.unite.new.pass.seat.me.0.upper
+          (lone_none 0 u v (ap (λ (x : TreeView). x.lost) now) (ap (λ (x : TreeView). x.inventory) now))
+          (c.unite.ensures.alone (subst (λ (x : TreeView). IsAlone c.args.space.now.table.shared.key x) (sym now) alone)),
+    )
 
 pub returns-else-unite-clause-alone : goal.returns-else-unite-clause-alone
 returns-else-unite-clause-alone c alone = let now = ap (λ (y : MyTree). y.0.upper) c.if-not-secure_join.ensures.done in
-    let u = c.args.pass.now.seat.me.0.upper in let v = c.secure_join.new.pass.seat.me.0.upper in
-    lone_both 0 1 u v c.unite.new.pass.seat.me.0.upper
-    (lone_none 0 u v (ap (λ (x : TreeView). x.lost) now) (ap (λ (x : TreeView). x.inventory) now))
-    (c.unite.ensures.alone (subst (λ (x : TreeView). IsAlone c.args.space.now.table.shared.key x) (sym now) alone))
+    let won = (c.unite.ensures.alone (subst (λ (x : TreeView). IsAlone c.args.space.now.table.shared.key x) (sym now) alone)).won in
+    let lost = c.if-unite.ensures.united.0.lost in absurd (omega (arith, won, lost))

@@ -1,4 +1,4 @@
-use Rattle.std.proofs.Common.{◌≡◌, ◌≤◌, ◌+◌, ℕ, List, ◌∷◌, [], Result, Ok, Err, ap, sym, refl, ◌∙◌, subst, arith}
+use Rattle.std.proofs.Common.{[], Result, Ok, Err, ap, sym, ◌∙◌, subst, arith}
 use Rattle.std.proofs.lemmas.Result.{err_from_is_err_and}
 use Rattle.ca_base.proofs.Counts.{ended_after}
 use Rattle.ca_node.specs.Told.{link_word}
@@ -6,7 +6,7 @@ use Rattle.ca_node.specs.TreeView.{TreeView}
 use Rattle.ca_adapt.specs.Joins.{last_on}
 use Rattle.ca_adapt.specs.Pairs.{AreMarkedBoth, Marks}
 use Rattle.ca_adapt.proofs.MarkedPairs.{tried_both, tried_lost}
-use Rattle.ca_adapt.proofs.Readied.{may_take, pinned_both, pinned_of, pinned_still}
+use Rattle.ca_adapt.proofs.Readied.{pinned_both, pinned_of, pinned_still}
 use Rattle.ca_base.specs.declared.stop.Stop.{Stop}
 use Rattle.ca_adapt.specs.Carrying.{HasPrepared, Holds, held_by}
 use Rattle.ca_adapt.specs.declared.carrying.Copies.{Copies}
@@ -34,7 +34,8 @@ returns-in_err-new-clause-frame c = pinned_both c.args.pass.now c.mark_both.new.
 
 pub returns-in_err-new-clause-held : goal.returns-in_err-new-clause-held
 returns-in_err-new-clause-held c = let p = err_from_is_err_and c.from_residual-in_err-new.result c.from_residual-in_err-new.ensures.1 in
-    subst (λ (r : Result Copies Stop). Holds c.args.space.now c.take.new.pass (held_by r)) (sym (p.1 ∙ ap Err p.2)) (c.in_err-new.ensures.taken [] (omega arith) c.mark_both.ensures.frame.none)
+    subst (λ (r : Result Copies Stop). Holds c.args.space.now c.take.new.pass (held_by r)) (sym (p.1 ∙ ap Err p.2)) (c.in_err-new.ensures.taken []
+    (omega arith) c.mark_both.ensures.frame.none)
 
 pub returns-in_err-new-clause-own : goal.returns-in_err-new-clause-own
 returns-in_err-new-clause-own c = ap (λ (u : TreeView). u.ranges.own) c.take.ensures.frame.same.4 ∙ c.mark_both.ensures.frame.own_range

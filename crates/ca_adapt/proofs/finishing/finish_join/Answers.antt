@@ -13,10 +13,10 @@ use Rattle.ca_node.specs.TreeView.{KnownRanges, Way, TreeView}
 use Rattle.ca_rows.specs.declared.kept.KeptRows.{KeptRows}
 use Rattle.ca_rows.specs.declared.view.Pin.{Pin}
 use Rattle.ca_adapt.specs.declared.finishing.Finish.{Finish}
-use Rattle.ca_adapt.specs.Finishing.{HasFinished, KeepsFinished}
-use Rattle.ca_adapt.proofs.Finishes.{AreBoth, both_loaded, finished_done, finished_not, known_left, known_right, ways_after}
+use Rattle.ca_adapt.specs.Finishing.{HasFinished, HasUnitedBy, KeepsFinished}
+use Rattle.ca_adapt.proofs.Finishes.{AreBoth, both_loaded, finished_done, finished_not, finished_united, known_left, known_right, none_united, ways_after}
 use Rattle.ca_adapt.proofs.JoinSwaps.{is_written, link_is, rows_are, unlinking_of, unlinks}
-use Rattle.ca_adapt.proofs.JoinedRows.{on_both, on_lost, on_still}
+use Rattle.ca_base.proofs.Spends.{on_both, on_lost, on_still}
 use Rattle.ca_adapt.proofs.KeptJoins.{kept_not, kept_then}
 use Rattle.ca_node.specs.TreeView.{Secured, own_behind}
 use Rattle.ca_node.specs.Unlinks.{attempt_by}
@@ -33,8 +33,8 @@ load_link-right-requires-clause-known c = let a = c.requires.above in let x = at
     (sym (ways_after x c.args.pass.now.seat.me c.load_link-left.new.pass.seat.me c.load_link-left.result c.requires.secured
     c.load_link-left.ensures.led c.load_link-left.ensures.secured)) a.remembered) a.row_is
 
-pub level_of-level-requires-clause-remembered : goal.level_of-level-requires-clause-remembered
-level_of-level-requires-clause-remembered c = let z = c.args.space.now.table.shared.key in let m = c.args.pass.now.seat.me in
+pub route_level-level-requires-clause-remembered : goal.route_level-level-requires-clause-remembered
+route_level-level-requires-clause-remembered c = let z = c.args.space.now.table.shared.key in let m = c.args.pass.now.seat.me in
     let x = attempt_of c.args.attempt.route c.args.attempt.number in
     let n = c.load_link-right.new.pass.seat.me in let left = c.load_link-left.result in let right = c.load_link-right.result in
     let h : AreBoth z x m n left right = both_loaded z x m c.load_link-left.new.pass.seat.me c.load_link-right.new.pass.seat.me left right
@@ -52,8 +52,8 @@ level_of-level-requires-clause-remembered c = let z = c.args.space.now.table.sha
 pub returns-in-Err-clause-frame : goal.returns-in-Err-clause-frame
 returns-in-Err-clause-frame c = let z = c.args.space.now.table.shared.key in let m = c.args.pass.now.seat.me in
     let x = attempt_of c.args.attempt.route c.args.attempt.number in
-    let n = c.level_of-level.new.pass.seat.me in let left = c.load_link-left.result in let right = c.load_link-right.result in
-    let h : AreBoth z x m n left right = subst (λ (y : MyTree). AreBoth z x m y left right) (sym c.level_of-level.ensures.frame.still)
+    let n = c.route_level-level.new.pass.seat.me in let left = c.load_link-left.result in let right = c.load_link-right.result in
+    let h : AreBoth z x m n left right = subst (λ (y : MyTree). AreBoth z x m y left right) (sym c.route_level-level.ensures.frame.still)
     (both_loaded z x m c.load_link-left.new.pass.seat.me c.load_link-right.new.pass.seat.me left right c.requires.leaf (record {
       sizes = c.requires.ready.own.1;
       some_rows = c.args.space.now.few.0;
@@ -63,7 +63,7 @@ returns-in-Err-clause-frame c = let z = c.args.space.now.table.shared.key in let
       led_right = c.load_link-right.ensures.led;
       secured_right = c.load_link-right.ensures.secured;
     })) in
-    let kept = c.level_of-level.ensures.frame.kept ∙ (c.load_link-right.ensures.frame.kept ∙ c.load_link-left.ensures.frame.kept) in
+    let kept = c.route_level-level.ensures.frame.kept ∙ (c.load_link-right.ensures.frame.kept ∙ c.load_link-left.ensures.frame.kept) in
     let none = subst (λ (k : KeptRows). AreHeld z.rows k.rows n.0 []) (sym kept) (h.held z.rows c.args.pass.now.kept [] c.requires.ready.none) in
     record {
       same = search rules;
@@ -79,8 +79,8 @@ returns-in-Err-clause-frame c = let z = c.args.space.now.table.shared.key in let
 pub returns-in-Err-clause-finished : goal.returns-in-Err-clause-finished
 returns-in-Err-clause-finished c = let z = c.args.space.now.table.shared.key in let m = c.args.pass.now.seat.me in
     let x = attempt_of c.args.attempt.route c.args.attempt.number in
-    let n = c.level_of-level.new.pass.seat.me in let left = c.load_link-left.result in let right = c.load_link-right.result in
-    let h : AreBoth z x m n left right = subst (λ (y : MyTree). AreBoth z x m y left right) (sym c.level_of-level.ensures.frame.still)
+    let n = c.route_level-level.new.pass.seat.me in let left = c.load_link-left.result in let right = c.load_link-right.result in
+    let h : AreBoth z x m n left right = subst (λ (y : MyTree). AreBoth z x m y left right) (sym c.route_level-level.ensures.frame.still)
     (both_loaded z x m c.load_link-left.new.pass.seat.me c.load_link-right.new.pass.seat.me left right c.requires.leaf (record {
       sizes = c.requires.ready.own.1;
       some_rows = c.args.space.now.few.0;
@@ -96,8 +96,8 @@ returns-in-Err-clause-finished c = let z = c.args.space.now.table.shared.key in 
 pub returns-in-Err-clause-counted : goal.returns-in-Err-clause-counted
 returns-in-Err-clause-counted c = let z = c.args.space.now.table.shared.key in let m = c.args.pass.now.seat.me in
     let x = attempt_of c.args.attempt.route c.args.attempt.number in
-    let n = c.level_of-level.new.pass.seat.me in let left = c.load_link-left.result in let right = c.load_link-right.result in
-    let h : AreBoth z x m n left right = subst (λ (y : MyTree). AreBoth z x m y left right) (sym c.level_of-level.ensures.frame.still)
+    let n = c.route_level-level.new.pass.seat.me in let left = c.load_link-left.result in let right = c.load_link-right.result in
+    let h : AreBoth z x m n left right = subst (λ (y : MyTree). AreBoth z x m y left right) (sym c.route_level-level.ensures.frame.still)
     (both_loaded z x m c.load_link-left.new.pass.seat.me c.load_link-right.new.pass.seat.me left right c.requires.leaf (record {
       sizes = c.requires.ready.own.1;
       some_rows = c.args.space.now.few.0;
@@ -114,8 +114,8 @@ returns-in-Err-clause-counted c = let z = c.args.space.now.table.shared.key in l
 pub write_joined-requires-clause-row : goal.write_joined-requires-clause-row
 write_joined-requires-clause-row c = let z = c.args.space.now.table.shared.key in let m = c.args.pass.now.seat.me in
     let x = attempt_of c.args.attempt.route c.args.attempt.number in
-    let n = c.level_of-level.new.pass.seat.me in let left = c.load_link-left.result in let right = c.load_link-right.result in
-    let h : AreBoth z x m n left right = subst (λ (y : MyTree). AreBoth z x m y left right) (sym c.level_of-level.ensures.frame.still)
+    let n = c.route_level-level.new.pass.seat.me in let left = c.load_link-left.result in let right = c.load_link-right.result in
+    let h : AreBoth z x m n left right = subst (λ (y : MyTree). AreBoth z x m y left right) (sym c.route_level-level.ensures.frame.still)
     (both_loaded z x m c.load_link-left.new.pass.seat.me c.load_link-right.new.pass.seat.me left right c.requires.leaf (record {
       sizes = c.requires.ready.own.1;
       some_rows = c.args.space.now.few.0;
@@ -125,14 +125,14 @@ write_joined-requires-clause-row c = let z = c.args.space.now.table.shared.key i
       led_right = c.load_link-right.ensures.led;
       secured_right = c.load_link-right.ensures.secured;
     })) in
-    let kept = c.level_of-level.ensures.frame.kept ∙ (c.load_link-right.ensures.frame.kept ∙ c.load_link-left.ensures.frame.kept) in
+    let kept = c.route_level-level.ensures.frame.kept ∙ (c.load_link-right.ensures.frame.kept ∙ c.load_link-left.ensures.frame.kept) in
     let none = subst (λ (k : KeptRows). AreHeld z.rows k.rows n.0 []) (sym kept) (h.held z.rows c.args.pass.now.kept [] c.requires.ready.none) in
     let taken = c.in-Ok.ensures.taken [] (omega arith) none in
     let each = taken.1.0.each c.in-Ok.row (0, refl) in
     record {
       reading = record {
         own = (
-          c.take.ensures.frame.same.0 ∙ (c.level_of-level.ensures.frame.same.0 ∙ (c.load_link-right.ensures.frame.same.0
+          c.take.ensures.frame.same.0 ∙ (c.route_level-level.ensures.frame.same.0 ∙ (c.load_link-right.ensures.frame.same.0
               ∙ (c.load_link-left.ensures.frame.same.0 ∙ c.requires.ready.own.0))),
           c.take.ensures.frame.same.2 ∙ (h.sizes ∙ c.requires.ready.own.1),
         );
@@ -144,8 +144,8 @@ write_joined-requires-clause-row c = let z = c.args.space.now.table.shared.key i
 pub write_joined-requires-clause-shown : goal.write_joined-requires-clause-shown
 write_joined-requires-clause-shown c = let z = c.args.space.now.table.shared.key in let m = c.args.pass.now.seat.me in
     let x = attempt_of c.args.attempt.route c.args.attempt.number in
-    let n = c.level_of-level.new.pass.seat.me in let left = c.load_link-left.result in let right = c.load_link-right.result in
-    let h : AreBoth z x m n left right = subst (λ (y : MyTree). AreBoth z x m y left right) (sym c.level_of-level.ensures.frame.still)
+    let n = c.route_level-level.new.pass.seat.me in let left = c.load_link-left.result in let right = c.load_link-right.result in
+    let h : AreBoth z x m n left right = subst (λ (y : MyTree). AreBoth z x m y left right) (sym c.route_level-level.ensures.frame.still)
     (both_loaded z x m c.load_link-left.new.pass.seat.me c.load_link-right.new.pass.seat.me left right c.requires.leaf (record {
       sizes = c.requires.ready.own.1;
       some_rows = c.args.space.now.few.0;
@@ -161,8 +161,8 @@ write_joined-requires-clause-shown c = let z = c.args.space.now.table.shared.key
 pub put_joined-requires-clause-unlinking : goal.put_joined-requires-clause-unlinking
 put_joined-requires-clause-unlinking c = let z = c.args.space.now.table.shared.key in let m = c.args.pass.now.seat.me in
     let x = attempt_of c.args.attempt.route c.args.attempt.number in
-    let n = c.level_of-level.new.pass.seat.me in let left = c.load_link-left.result in let right = c.load_link-right.result in
-    let h : AreBoth z x m n left right = subst (λ (y : MyTree). AreBoth z x m y left right) (sym c.level_of-level.ensures.frame.still)
+    let n = c.route_level-level.new.pass.seat.me in let left = c.load_link-left.result in let right = c.load_link-right.result in
+    let h : AreBoth z x m n left right = subst (λ (y : MyTree). AreBoth z x m y left right) (sym c.route_level-level.ensures.frame.still)
     (both_loaded z x m c.load_link-left.new.pass.seat.me c.load_link-right.new.pass.seat.me left right c.requires.leaf (record {
       sizes = c.requires.ready.own.1;
       some_rows = c.args.space.now.few.0;
@@ -175,20 +175,20 @@ put_joined-requires-clause-unlinking c = let z = c.args.space.now.table.shared.k
     let join = subst (λ (u : TreeView). AreJoinable z u left right h.first h.second) (sym c.take.ensures.frame.same.4) h.joinable in
     let w = c.write_joined.ensures.written h.first h.second join in
     let s = is_written z c.args.above c.args.counted m n c.take.new.pass.seat.me c.write_joined.new.pass.seat.me
-    (record { attempt = c.args.attempt; left = left; right = right; new = c.in-Ok.row }) c.level_of-level.result w.0 h c.requires.above
+    (record { attempt = c.args.attempt; left = left; right = right; new = c.in-Ok.row }) c.route_level-level.result w.0 h c.requires.above
     c.take.ensures.frame.same.4 c.take.ensures.frame.same.3 c.write_joined.ensures.frame.same.4 c.write_joined.ensures.frame.same.3
     c.requires.ready.pinned c.requires.ready.number c.requires.secured c.requires.decided
-    (subst (λ (y : MyTree). (way : Way) → IsIn way y.0.upper.ways → way.row ≡ c.args.attempt.route → c.level_of-level.result ≡ level way.its)
-    (sym c.level_of-level.ensures.frame.still) c.level_of-level.ensures.level) w.2.here w.1 in
+    (subst (λ (y : MyTree). (way : Way) → IsIn way y.0.upper.ways → way.row ≡ c.args.attempt.route → c.route_level-level.result ≡ level way.its)
+    (sym c.route_level-level.ensures.frame.still) c.route_level-level.ensures.level) w.2.here w.1 in
     unlinks z c.args.above c.args.counted m n c.write_joined.new.pass.seat.me
     (record { attempt = c.args.attempt; left = left; right = right; new = c.in-Ok.row })
-    c.level_of-level.result w.0 s
+    c.route_level-level.result w.0 s
 
 pub put_joined-requires-clause-rows : goal.put_joined-requires-clause-rows
 put_joined-requires-clause-rows c = let z = c.args.space.now.table.shared.key in let m = c.args.pass.now.seat.me in
     let x = attempt_of c.args.attempt.route c.args.attempt.number in
-    let n = c.level_of-level.new.pass.seat.me in let left = c.load_link-left.result in let right = c.load_link-right.result in
-    let h : AreBoth z x m n left right = subst (λ (y : MyTree). AreBoth z x m y left right) (sym c.level_of-level.ensures.frame.still)
+    let n = c.route_level-level.new.pass.seat.me in let left = c.load_link-left.result in let right = c.load_link-right.result in
+    let h : AreBoth z x m n left right = subst (λ (y : MyTree). AreBoth z x m y left right) (sym c.route_level-level.ensures.frame.still)
     (both_loaded z x m c.load_link-left.new.pass.seat.me c.load_link-right.new.pass.seat.me left right c.requires.leaf (record {
       sizes = c.requires.ready.own.1;
       some_rows = c.args.space.now.few.0;
@@ -201,20 +201,20 @@ put_joined-requires-clause-rows c = let z = c.args.space.now.table.shared.key in
     let join = subst (λ (u : TreeView). AreJoinable z u left right h.first h.second) (sym c.take.ensures.frame.same.4) h.joinable in
     let w = c.write_joined.ensures.written h.first h.second join in
     let s = is_written z c.args.above c.args.counted m n c.take.new.pass.seat.me c.write_joined.new.pass.seat.me
-    (record { attempt = c.args.attempt; left = left; right = right; new = c.in-Ok.row }) c.level_of-level.result w.0 h c.requires.above
+    (record { attempt = c.args.attempt; left = left; right = right; new = c.in-Ok.row }) c.route_level-level.result w.0 h c.requires.above
     c.take.ensures.frame.same.4 c.take.ensures.frame.same.3 c.write_joined.ensures.frame.same.4 c.write_joined.ensures.frame.same.3
     c.requires.ready.pinned c.requires.ready.number c.requires.secured c.requires.decided
-    (subst (λ (y : MyTree). (way : Way) → IsIn way y.0.upper.ways → way.row ≡ c.args.attempt.route → c.level_of-level.result ≡ level way.its)
-    (sym c.level_of-level.ensures.frame.still) c.level_of-level.ensures.level) w.2.here w.1 in
+    (subst (λ (y : MyTree). (way : Way) → IsIn way y.0.upper.ways → way.row ≡ c.args.attempt.route → c.route_level-level.result ≡ level way.its)
+    (sym c.route_level-level.ensures.frame.still) c.route_level-level.ensures.level) w.2.here w.1 in
     rows_are z c.args.above c.args.counted m n c.write_joined.new.pass.seat.me
     (record { attempt = c.args.attempt; left = left; right = right; new = c.in-Ok.row })
-    c.level_of-level.result w.0 s
+    c.route_level-level.result w.0 s
 
 pub put_joined-requires-clause-link : goal.put_joined-requires-clause-link
 put_joined-requires-clause-link c = let z = c.args.space.now.table.shared.key in let m = c.args.pass.now.seat.me in
     let x = attempt_of c.args.attempt.route c.args.attempt.number in
-    let n = c.level_of-level.new.pass.seat.me in let left = c.load_link-left.result in let right = c.load_link-right.result in
-    let h : AreBoth z x m n left right = subst (λ (y : MyTree). AreBoth z x m y left right) (sym c.level_of-level.ensures.frame.still)
+    let n = c.route_level-level.new.pass.seat.me in let left = c.load_link-left.result in let right = c.load_link-right.result in
+    let h : AreBoth z x m n left right = subst (λ (y : MyTree). AreBoth z x m y left right) (sym c.route_level-level.ensures.frame.still)
     (both_loaded z x m c.load_link-left.new.pass.seat.me c.load_link-right.new.pass.seat.me left right c.requires.leaf (record {
       sizes = c.requires.ready.own.1;
       some_rows = c.args.space.now.few.0;
@@ -227,20 +227,20 @@ put_joined-requires-clause-link c = let z = c.args.space.now.table.shared.key in
     let join = subst (λ (u : TreeView). AreJoinable z u left right h.first h.second) (sym c.take.ensures.frame.same.4) h.joinable in
     let w = c.write_joined.ensures.written h.first h.second join in
     let s = is_written z c.args.above c.args.counted m n c.take.new.pass.seat.me c.write_joined.new.pass.seat.me
-    (record { attempt = c.args.attempt; left = left; right = right; new = c.in-Ok.row }) c.level_of-level.result w.0 h c.requires.above
+    (record { attempt = c.args.attempt; left = left; right = right; new = c.in-Ok.row }) c.route_level-level.result w.0 h c.requires.above
     c.take.ensures.frame.same.4 c.take.ensures.frame.same.3 c.write_joined.ensures.frame.same.4 c.write_joined.ensures.frame.same.3
     c.requires.ready.pinned c.requires.ready.number c.requires.secured c.requires.decided
-    (subst (λ (y : MyTree). (way : Way) → IsIn way y.0.upper.ways → way.row ≡ c.args.attempt.route → c.level_of-level.result ≡ level way.its)
-    (sym c.level_of-level.ensures.frame.still) c.level_of-level.ensures.level) w.2.here w.1 in
+    (subst (λ (y : MyTree). (way : Way) → IsIn way y.0.upper.ways → way.row ≡ c.args.attempt.route → c.route_level-level.result ≡ level way.its)
+    (sym c.route_level-level.ensures.frame.still) c.route_level-level.ensures.level) w.2.here w.1 in
     link_is z c.args.above c.args.counted m n c.write_joined.new.pass.seat.me
     (record { attempt = c.args.attempt; left = left; right = right; new = c.in-Ok.row })
-    c.level_of-level.result w.0 s
+    c.route_level-level.result w.0 s
 
 pub put_joined-requires-clause-held : goal.put_joined-requires-clause-held
 put_joined-requires-clause-held c = let z = c.args.space.now.table.shared.key in let m = c.args.pass.now.seat.me in
     let x = attempt_of c.args.attempt.route c.args.attempt.number in
-    let n = c.level_of-level.new.pass.seat.me in let left = c.load_link-left.result in let right = c.load_link-right.result in
-    let h : AreBoth z x m n left right = subst (λ (y : MyTree). AreBoth z x m y left right) (sym c.level_of-level.ensures.frame.still)
+    let n = c.route_level-level.new.pass.seat.me in let left = c.load_link-left.result in let right = c.load_link-right.result in
+    let h : AreBoth z x m n left right = subst (λ (y : MyTree). AreBoth z x m y left right) (sym c.route_level-level.ensures.frame.still)
     (both_loaded z x m c.load_link-left.new.pass.seat.me c.load_link-right.new.pass.seat.me left right c.requires.leaf (record {
       sizes = c.requires.ready.own.1;
       some_rows = c.args.space.now.few.0;
@@ -250,7 +250,7 @@ put_joined-requires-clause-held c = let z = c.args.space.now.table.shared.key in
       led_right = c.load_link-right.ensures.led;
       secured_right = c.load_link-right.ensures.secured;
     })) in
-    let kept = c.level_of-level.ensures.frame.kept ∙ (c.load_link-right.ensures.frame.kept ∙ c.load_link-left.ensures.frame.kept) in
+    let kept = c.route_level-level.ensures.frame.kept ∙ (c.load_link-right.ensures.frame.kept ∙ c.load_link-left.ensures.frame.kept) in
     let none = subst (λ (k : KeptRows). AreHeld z.rows k.rows n.0 []) (sym kept) (h.held z.rows c.args.pass.now.kept [] c.requires.ready.none) in
     let taken = c.in-Ok.ensures.taken [] (omega arith) none in
     let join = subst (λ (u : TreeView). AreJoinable z u left right h.first h.second) (sym c.take.ensures.frame.same.4) h.joinable in
@@ -261,8 +261,8 @@ put_joined-requires-clause-held c = let z = c.args.space.now.table.shared.key in
 pub returns-clause-frame : goal.returns-clause-frame
 returns-clause-frame c = let z = c.args.space.now.table.shared.key in let m = c.args.pass.now.seat.me in
     let x = attempt_of c.args.attempt.route c.args.attempt.number in
-    let n = c.level_of-level.new.pass.seat.me in let left = c.load_link-left.result in let right = c.load_link-right.result in
-    let h : AreBoth z x m n left right = subst (λ (y : MyTree). AreBoth z x m y left right) (sym c.level_of-level.ensures.frame.still)
+    let n = c.route_level-level.new.pass.seat.me in let left = c.load_link-left.result in let right = c.load_link-right.result in
+    let h : AreBoth z x m n left right = subst (λ (y : MyTree). AreBoth z x m y left right) (sym c.route_level-level.ensures.frame.still)
     (both_loaded z x m c.load_link-left.new.pass.seat.me c.load_link-right.new.pass.seat.me left right c.requires.leaf (record {
       sizes = c.requires.ready.own.1;
       some_rows = c.args.space.now.few.0;
@@ -275,16 +275,16 @@ returns-clause-frame c = let z = c.args.space.now.table.shared.key in let m = c.
     let join = subst (λ (u : TreeView). AreJoinable z u left right h.first h.second) (sym c.take.ensures.frame.same.4) h.joinable in
     let w = c.write_joined.ensures.written h.first h.second join in
     let s = is_written z c.args.above c.args.counted m n c.take.new.pass.seat.me c.write_joined.new.pass.seat.me
-    (record { attempt = c.args.attempt; left = left; right = right; new = c.in-Ok.row }) c.level_of-level.result w.0 h c.requires.above
+    (record { attempt = c.args.attempt; left = left; right = right; new = c.in-Ok.row }) c.route_level-level.result w.0 h c.requires.above
     c.take.ensures.frame.same.4 c.take.ensures.frame.same.3 c.write_joined.ensures.frame.same.4 c.write_joined.ensures.frame.same.3
     c.requires.ready.pinned c.requires.ready.number c.requires.secured c.requires.decided
-    (subst (λ (y : MyTree). (way : Way) → IsIn way y.0.upper.ways → way.row ≡ c.args.attempt.route → c.level_of-level.result ≡ level way.its)
-    (sym c.level_of-level.ensures.frame.still) c.level_of-level.ensures.level) w.2.here w.1 in
+    (subst (λ (y : MyTree). (way : Way) → IsIn way y.0.upper.ways → way.row ≡ c.args.attempt.route → c.route_level-level.result ≡ level way.its)
+    (sym c.route_level-level.ensures.frame.still) c.route_level-level.ensures.level) w.2.here w.1 in
     let by = unlinking_of c.write_joined.new.pass.seat.me (record { attempt = c.args.attempt; left = left; right = right; new = c.in-Ok.row }) c.args.counted
     (link_word c.args.above) in
     let route = (rows_are z c.args.above c.args.counted m n c.write_joined.new.pass.seat.me
     (record { attempt = c.args.attempt; left = left; right = right; new = c.in-Ok.row })
-    c.level_of-level.result w.0 s).route in
+    c.route_level-level.result w.0 s).route in
     let other : own_behind (attempt_by by) n.0.upper.ranges.own ≡ n.0.upper.ranges.own = behind_else (attempt_by by) n.0.upper.ranges.own
     (λ e. c.requires.other (ap (λ (r : KnownRanges). r.own) (sym h.tried.ranges) ∙ (e ∙ ap (λ (r : ℕ). Secured (attempt_of r c.args.attempt.number)) route))) in
     let upper = c.write_joined.ensures.frame.same.4 ∙ c.take.ensures.frame.same.4 in record {
@@ -302,11 +302,15 @@ returns-clause-frame c = let z = c.args.space.now.table.shared.key in let m = c.
       none = c.put_joined.ensures.none;
     }
 
-pub returns-clause-finished : goal.returns-clause-finished
-returns-clause-finished c = let z = c.args.space.now.table.shared.key in let m = c.args.pass.now.seat.me in
+pub returns-in-Err-clause-united : goal.returns-in-Err-clause-united
+returns-in-Err-clause-united c = let m = c.args.pass.now.seat.me in let x = attempt_of c.args.attempt.route c.args.attempt.number in
+    subst (λ (r : Finish). HasUnitedBy x r m c.take.new.pass.seat.me) (sym c.lacking.ensures) (none_united x c.in-Err.why m c.take.new.pass.seat.me)
+
+pub returns-clause-united : goal.returns-clause-united
+returns-clause-united c = let z = c.args.space.now.table.shared.key in let m = c.args.pass.now.seat.me in
     let x = attempt_of c.args.attempt.route c.args.attempt.number in
-    let n = c.level_of-level.new.pass.seat.me in let left = c.load_link-left.result in let right = c.load_link-right.result in
-    let h : AreBoth z x m n left right = subst (λ (y : MyTree). AreBoth z x m y left right) (sym c.level_of-level.ensures.frame.still)
+    let n = c.route_level-level.new.pass.seat.me in let left = c.load_link-left.result in let right = c.load_link-right.result in
+    let h : AreBoth z x m n left right = subst (λ (y : MyTree). AreBoth z x m y left right) (sym c.route_level-level.ensures.frame.still)
     (both_loaded z x m c.load_link-left.new.pass.seat.me c.load_link-right.new.pass.seat.me left right c.requires.leaf (record {
       sizes = c.requires.ready.own.1;
       some_rows = c.args.space.now.few.0;
@@ -319,16 +323,50 @@ returns-clause-finished c = let z = c.args.space.now.table.shared.key in let m =
     let join = subst (λ (u : TreeView). AreJoinable z u left right h.first h.second) (sym c.take.ensures.frame.same.4) h.joinable in
     let w = c.write_joined.ensures.written h.first h.second join in
     let s = is_written z c.args.above c.args.counted m n c.take.new.pass.seat.me c.write_joined.new.pass.seat.me
-    (record { attempt = c.args.attempt; left = left; right = right; new = c.in-Ok.row }) c.level_of-level.result w.0 h c.requires.above
+    (record { attempt = c.args.attempt; left = left; right = right; new = c.in-Ok.row }) c.route_level-level.result w.0 h c.requires.above
     c.take.ensures.frame.same.4 c.take.ensures.frame.same.3 c.write_joined.ensures.frame.same.4 c.write_joined.ensures.frame.same.3
     c.requires.ready.pinned c.requires.ready.number c.requires.secured c.requires.decided
-    (subst (λ (y : MyTree). (way : Way) → IsIn way y.0.upper.ways → way.row ≡ c.args.attempt.route → c.level_of-level.result ≡ level way.its)
-    (sym c.level_of-level.ensures.frame.still) c.level_of-level.ensures.level) w.2.here w.1 in
+    (subst (λ (y : MyTree). (way : Way) → IsIn way y.0.upper.ways → way.row ≡ c.args.attempt.route → c.route_level-level.result ≡ level way.its)
+    (sym c.route_level-level.ensures.frame.still) c.route_level-level.ensures.level) w.2.here w.1 in
     let by = unlinking_of c.write_joined.new.pass.seat.me (record { attempt = c.args.attempt; left = left; right = right; new = c.in-Ok.row }) c.args.counted
     (link_word c.args.above) in
     let route = (rows_are z c.args.above c.args.counted m n c.write_joined.new.pass.seat.me
     (record { attempt = c.args.attempt; left = left; right = right; new = c.in-Ok.row })
-    c.level_of-level.result w.0 s).route in
+    c.route_level-level.result w.0 s).route in
+    let put = unlinks z c.args.above c.args.counted m n c.write_joined.new.pass.seat.me
+    (record { attempt = c.args.attempt; left = left; right = right; new = c.in-Ok.row }) c.route_level-level.result w.0 s in
+    let had : HasFound {T = ℕ} (Ok c.in-Ok.row) n c.take.new.pass.seat.me = c.in-Ok.ensures.found in
+    finished_united x m n c.write_joined.new.pass.seat.me c.put_joined.new.pass.seat.me c.in-Ok.row by c.put_joined.result h.tried
+    (c.write_joined.ensures.frame.same.4 ∙ c.take.ensures.frame.same.4) (ap losses w.2.only ∙ (had.1 ∙ h.lost))
+    (ap (λ (r : ℕ). attempt_of r c.args.attempt.number) route) put.remembered c.put_joined.ensures.done
+
+pub returns-clause-finished : goal.returns-clause-finished
+returns-clause-finished c = let z = c.args.space.now.table.shared.key in let m = c.args.pass.now.seat.me in
+    let x = attempt_of c.args.attempt.route c.args.attempt.number in
+    let n = c.route_level-level.new.pass.seat.me in let left = c.load_link-left.result in let right = c.load_link-right.result in
+    let h : AreBoth z x m n left right = subst (λ (y : MyTree). AreBoth z x m y left right) (sym c.route_level-level.ensures.frame.still)
+    (both_loaded z x m c.load_link-left.new.pass.seat.me c.load_link-right.new.pass.seat.me left right c.requires.leaf (record {
+      sizes = c.requires.ready.own.1;
+      some_rows = c.args.space.now.few.0;
+      secured = c.requires.secured;
+      led_left = c.load_link-left.ensures.led;
+      secured_left = c.load_link-left.ensures.secured;
+      led_right = c.load_link-right.ensures.led;
+      secured_right = c.load_link-right.ensures.secured;
+    })) in
+    let join = subst (λ (u : TreeView). AreJoinable z u left right h.first h.second) (sym c.take.ensures.frame.same.4) h.joinable in
+    let w = c.write_joined.ensures.written h.first h.second join in
+    let s = is_written z c.args.above c.args.counted m n c.take.new.pass.seat.me c.write_joined.new.pass.seat.me
+    (record { attempt = c.args.attempt; left = left; right = right; new = c.in-Ok.row }) c.route_level-level.result w.0 h c.requires.above
+    c.take.ensures.frame.same.4 c.take.ensures.frame.same.3 c.write_joined.ensures.frame.same.4 c.write_joined.ensures.frame.same.3
+    c.requires.ready.pinned c.requires.ready.number c.requires.secured c.requires.decided
+    (subst (λ (y : MyTree). (way : Way) → IsIn way y.0.upper.ways → way.row ≡ c.args.attempt.route → c.route_level-level.result ≡ level way.its)
+    (sym c.route_level-level.ensures.frame.still) c.route_level-level.ensures.level) w.2.here w.1 in
+    let by = unlinking_of c.write_joined.new.pass.seat.me (record { attempt = c.args.attempt; left = left; right = right; new = c.in-Ok.row }) c.args.counted
+    (link_word c.args.above) in
+    let route = (rows_are z c.args.above c.args.counted m n c.write_joined.new.pass.seat.me
+    (record { attempt = c.args.attempt; left = left; right = right; new = c.in-Ok.row })
+    c.route_level-level.result w.0 s).route in
     let other : own_behind (attempt_by by) n.0.upper.ranges.own ≡ n.0.upper.ranges.own = behind_else (attempt_by by) n.0.upper.ranges.own
     (λ e. c.requires.other (ap (λ (r : KnownRanges). r.own) (sym h.tried.ranges) ∙ (e ∙ ap (λ (r : ℕ). Secured (attempt_of r c.args.attempt.number)) route))) in
     let had : HasFound {T = ℕ} (Ok c.in-Ok.row) n c.take.new.pass.seat.me = c.in-Ok.ensures.found in
@@ -341,8 +379,8 @@ returns-clause-finished c = let z = c.args.space.now.table.shared.key in let m =
 pub returns-clause-counted : goal.returns-clause-counted
 returns-clause-counted c = let z = c.args.space.now.table.shared.key in let m = c.args.pass.now.seat.me in
     let x = attempt_of c.args.attempt.route c.args.attempt.number in
-    let n = c.level_of-level.new.pass.seat.me in let left = c.load_link-left.result in let right = c.load_link-right.result in
-    let h : AreBoth z x m n left right = subst (λ (y : MyTree). AreBoth z x m y left right) (sym c.level_of-level.ensures.frame.still)
+    let n = c.route_level-level.new.pass.seat.me in let left = c.load_link-left.result in let right = c.load_link-right.result in
+    let h : AreBoth z x m n left right = subst (λ (y : MyTree). AreBoth z x m y left right) (sym c.route_level-level.ensures.frame.still)
     (both_loaded z x m c.load_link-left.new.pass.seat.me c.load_link-right.new.pass.seat.me left right c.requires.leaf (record {
       sizes = c.requires.ready.own.1;
       some_rows = c.args.space.now.few.0;
@@ -364,8 +402,8 @@ returns-clause-counted c = let z = c.args.space.now.table.shared.key in let m = 
 pub returns-in-Err-clause-back : goal.returns-in-Err-clause-back
 returns-in-Err-clause-back c = let z = c.args.space.now.table.shared.key in let m = c.args.pass.now.seat.me in
     let x = attempt_of c.args.attempt.route c.args.attempt.number in
-    let n = c.level_of-level.new.pass.seat.me in let left = c.load_link-left.result in let right = c.load_link-right.result in
-    let h : AreBoth z x m n left right = subst (λ (y : MyTree). AreBoth z x m y left right) (sym c.level_of-level.ensures.frame.still)
+    let n = c.route_level-level.new.pass.seat.me in let left = c.load_link-left.result in let right = c.load_link-right.result in
+    let h : AreBoth z x m n left right = subst (λ (y : MyTree). AreBoth z x m y left right) (sym c.route_level-level.ensures.frame.still)
     (both_loaded z x m c.load_link-left.new.pass.seat.me c.load_link-right.new.pass.seat.me left right c.requires.leaf (record {
       sizes = c.requires.ready.own.1;
       some_rows = c.args.space.now.few.0;
@@ -375,16 +413,16 @@ returns-in-Err-clause-back c = let z = c.args.space.now.table.shared.key in let 
       led_right = c.load_link-right.ensures.led;
       secured_right = c.load_link-right.ensures.secured;
     })) in
-    let kept = c.level_of-level.ensures.frame.kept ∙ (c.load_link-right.ensures.frame.kept ∙ c.load_link-left.ensures.frame.kept) in
+    let kept = c.route_level-level.ensures.frame.kept ∙ (c.load_link-right.ensures.frame.kept ∙ c.load_link-left.ensures.frame.kept) in
     subst (λ (r : Finish). KeepsFinished c.args.attempt.route r m c.take.new.pass.seat.me c.args.pass.now.kept c.take.new.pass.kept)
     (sym c.lacking.ensures) (kept_not c.args.attempt.route c.in-Err.why m n c.take.new.pass.seat.me c.args.pass.now.kept
-    c.level_of-level.new.pass.kept c.take.new.pass.kept h.lost h.pin kept c.in-Err.ensures.back)
+    c.route_level-level.new.pass.kept c.take.new.pass.kept h.lost h.pin kept c.in-Err.ensures.back)
 
 pub returns-clause-back : goal.returns-clause-back
 returns-clause-back c = let z = c.args.space.now.table.shared.key in let m = c.args.pass.now.seat.me in
     let x = attempt_of c.args.attempt.route c.args.attempt.number in
-    let n = c.level_of-level.new.pass.seat.me in let left = c.load_link-left.result in let right = c.load_link-right.result in
-    let h : AreBoth z x m n left right = subst (λ (y : MyTree). AreBoth z x m y left right) (sym c.level_of-level.ensures.frame.still)
+    let n = c.route_level-level.new.pass.seat.me in let left = c.load_link-left.result in let right = c.load_link-right.result in
+    let h : AreBoth z x m n left right = subst (λ (y : MyTree). AreBoth z x m y left right) (sym c.route_level-level.ensures.frame.still)
     (both_loaded z x m c.load_link-left.new.pass.seat.me c.load_link-right.new.pass.seat.me left right c.requires.leaf (record {
       sizes = c.requires.ready.own.1;
       some_rows = c.args.space.now.few.0;
@@ -396,9 +434,9 @@ returns-clause-back c = let z = c.args.space.now.table.shared.key in let m = c.a
     })) in
     let join = subst (λ (u : TreeView). AreJoinable z u left right h.first h.second) (sym c.take.ensures.frame.same.4) h.joinable in
     let w = c.write_joined.ensures.written h.first h.second join in
-    let kept = c.level_of-level.ensures.frame.kept ∙ (c.load_link-right.ensures.frame.kept ∙ c.load_link-left.ensures.frame.kept) in
+    let kept = c.route_level-level.ensures.frame.kept ∙ (c.load_link-right.ensures.frame.kept ∙ c.load_link-left.ensures.frame.kept) in
     let had : HasFound {T = ℕ} (Ok c.in-Ok.row) n c.take.new.pass.seat.me = c.in-Ok.ensures.found in
     kept_then (record { attempt = c.args.attempt; left = left; right = right; new = c.in-Ok.row }) m n c.write_joined.new.pass.seat.me
-    c.put_joined.new.pass.seat.me c.args.pass.now.kept c.level_of-level.new.pass.kept c.take.new.pass.kept c.write_joined.new.pass.kept
+    c.put_joined.new.pass.seat.me c.args.pass.now.kept c.route_level-level.new.pass.kept c.take.new.pass.kept c.write_joined.new.pass.kept
     c.put_joined.new.pass.kept (ap losses w.2.only ∙ (had.1 ∙ h.lost)) h.pin kept c.in-Ok.ensures.back c.write_joined.ensures.frame.kept
     c.put_joined.ensures.back

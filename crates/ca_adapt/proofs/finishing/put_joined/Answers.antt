@@ -1,4 +1,4 @@
-use Rattle.std.proofs.Common.{[], ◌∷◌, true, false, not, Bool, ap, sym, refl, ◌≡◌, ◌∙◌, inl, inr, arith, rules}
+use Rattle.std.proofs.Common.{[], ◌∷◌, true, false, not, Bool, ap, sym, refl, ◌≡◌, ◌∙◌, arith, rules}
 use Rattle.ca_base.specs.Counting.{losses}
 use Rattle.ca_base.proofs.Counts.{met_both, one_spent, spent_both}
 use Rattle.ca_base.proofs.Unlinking.{none_left}
@@ -6,7 +6,8 @@ use Rattle.ca_node.specs.Laws.{in_nothing}
 use Rattle.ca_node.specs.Told.{MyTree}
 use Rattle.ca_node.specs.TreeView.{TreeView}
 use Rattle.ca_node.specs.Unlinks.{turns_after}
-use Rattle.ca_adapt.proofs.JoinedRows.{held_lost, joined_apart, joined_rows, none_met, on_joined, on_lost, on_still, tallied_joined}
+use Rattle.ca_adapt.proofs.JoinedRows.{held_lost, joined_apart, joined_rows, none_met, on_joined, tallied_joined}
+use Rattle.ca_base.proofs.Spends.{on_lost, on_still}
 use Rattle.ca_adapt.proofs.KeptJoins.{kept_lost, kept_won}
 use Rattle.ca_adapt.proofs.finishing.put_joined.Goals as goal
 
@@ -30,7 +31,8 @@ returns-then-not-unlink_route-clause-frame g c = let back = c.give_back.ensures.
 
 pub returns-then-not-unlink_route-clause-none : goal.returns-then-not-unlink_route-clause-none
 returns-then-not-unlink_route-clause-none g c = let done = c.if-not-unlink_route.ensures.done in
-    c.give_back.ensures.given [] (in_nothing c.args.rows.new [] refl) (held_lost g.K.Unlinks.unlinking c.args.space.now.table.shared.key.rows c.args.pass.now.kept
+    c.give_back.ensures.given [] (in_nothing c.args.rows.new [] refl) (held_lost g.K.Unlinks.unlinking c.args.space.now.table.shared.key.rows
+    c.args.pass.now.kept
     c.unlink_route.new.pass.kept c.args.pass.now.seat.me c.unlink_route.new.pass.seat.me (c.args.rows.new ∷ []) done
     c.unlink_route.ensures.frame.kept c.requires.held)
 
@@ -210,11 +212,13 @@ returns-then-not-unlink_route-clause-own g c = ap (λ (u : TreeView). u.ranges.o
 
 pub returns-then-not-counted-clause-own : goal.returns-then-not-counted-clause-own
 returns-then-not-counted-clause-own g c = ap (λ (u : TreeView). u.ranges.own) (c.retire_unlinked-3.ensures.frame.same.4
-    ∙ (c.retire_unlinked-2.ensures.frame.same.4 ∙ (c.retire_unlinked.ensures.frame.same.4 ∙ ap (λ (m : MyTree). m.0.upper) c.if-not-unlink_route.ensures.done.now)))
+    ∙ (c.retire_unlinked-2.ensures.frame.same.4 ∙ (c.retire_unlinked.ensures.frame.same.4 ∙ ap (λ
+    (m : MyTree). m.0.upper) c.if-not-unlink_route.ensures.done.now)))
 
 pub returns-clause-own : goal.returns-clause-own
 returns-clause-own g c = ap (λ (u : TreeView). u.ranges.own) (c.retire_unlinked-3.ensures.frame.same.4
-    ∙ (c.retire_unlinked-2.ensures.frame.same.4 ∙ (c.retire_unlinked.ensures.frame.same.4 ∙ ap (λ (m : MyTree). m.0.upper) c.if-not-unlink_route.ensures.done.now)))
+    ∙ (c.retire_unlinked-2.ensures.frame.same.4 ∙ (c.retire_unlinked.ensures.frame.same.4 ∙ ap (λ
+    (m : MyTree). m.0.upper) c.if-not-unlink_route.ensures.done.now)))
 
 pub returns-then-not-unlink_route-clause-won : goal.returns-then-not-unlink_route-clause-won
 returns-then-not-unlink_route-clause-won g c _ = c.if-not-unlink_route.ensures.several refl

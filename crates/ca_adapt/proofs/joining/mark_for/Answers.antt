@@ -28,21 +28,24 @@ returns-in_err-row-clause-frame c = record {
 }
 
 pub write_marked-requires-clause-row : goal.write_marked-requires-clause-row
-write_marked-requires-clause-row c = let each = (c.in_ok-row.ensures.taken [] (omega arith) c.requires.ready.none).1.0.each c.in_ok-row.row (0, refl) in record {
-  reading = record {
-    own = (c.take.ensures.frame.same.0 ∙ c.requires.ready.own.0, c.take.ensures.frame.same.2 ∙ c.requires.ready.own.1);
-    pinned = ap (λ (p : Pin). p.pinned) c.take.ensures.frame.same.3 ∙ c.requires.ready.pinned;
-  };
-  held = (each.1, each.2);
-}
+write_marked-requires-clause-row c = let each = (c.in_ok-row.ensures.taken [] (omega arith) c.requires.ready.none).1.0.each c.in_ok-row.row
+    (0, refl) in record {
+      reading = record {
+        own = (c.take.ensures.frame.same.0 ∙ c.requires.ready.own.0, c.take.ensures.frame.same.2 ∙ c.requires.ready.own.1);
+        pinned = ap (λ (p : Pin). p.pinned) c.take.ensures.frame.same.3 ∙ c.requires.ready.pinned;
+      };
+      held = (each.1, each.2);
+    }
 
 pub put_marked-requires-clause-copy : goal.put_marked-requires-clause-copy
 put_marked-requires-clause-copy c = let w = c.write_marked.ensures.written (last_on (link_word c.args.cursor.link) c.args.pass.now.seat.me.0.upper.notes)
     (kept_shown c.args.space.now.table.shared.key c.args.pass.now.seat.me c.take.new.pass.seat.me c.args.cursor.base c.take.ensures.frame.same.4
     (last_on (link_word c.args.cursor.link) c.args.pass.now.seat.me.0.upper.notes) c.requires.shown) in
     is_join_copy c.args.space.now.table.shared.key c.args.pass.now.seat.me c.write_marked.new.pass.seat.me
-    c.in_ok-row.row c.args.cursor.base (link_word c.args.cursor.link) w.0 c.args.attempt (c.write_marked.ensures.frame.same.4 ∙ c.take.ensures.frame.same.4) w.2.here w.1 c.requires.link
-    (c.write_marked.ensures.frame.same.3 ∙ c.take.ensures.frame.same.3) c.requires.at.link c.requires.ready.pinned c.requires.ready.number c.requires.shown c.requires.settled
+    c.in_ok-row.row c.args.cursor.base (link_word c.args.cursor.link) w.0 c.args.attempt (c.write_marked.ensures.frame.same.4 ∙
+    c.take.ensures.frame.same.4) w.2.here w.1 c.requires.link
+    (c.write_marked.ensures.frame.same.3 ∙ c.take.ensures.frame.same.3) c.requires.at.link c.requires.ready.pinned c.requires.ready.number
+    c.requires.shown c.requires.settled
     c.requires.begun
 
 pub put_marked-requires-clause-held : goal.put_marked-requires-clause-held
@@ -83,7 +86,8 @@ returns-in-Ok-clause-marked c = let w = c.write_marked.ensures.written (last_on 
     (last_on (link_word c.args.cursor.link) c.args.pass.now.seat.me.0.upper.notes) c.requires.shown) in
     let each = (c.in_ok-row.ensures.taken [] (omega arith) c.requires.ready.none).1.0.each c.in_ok-row.row (0, refl) in
     marked_copy c.args.space.now.table.shared.key c.args.pass.now.seat.me c.write_marked.new.pass.seat.me
-    c.in_ok-row.row c.args.cursor.base (link_word c.args.cursor.link) w.0 c.args.attempt (c.write_marked.ensures.frame.same.4 ∙ c.take.ensures.frame.same.4) w.2.here w.1 c.requires.link
+    c.in_ok-row.row c.args.cursor.base (link_word c.args.cursor.link) w.0 c.args.attempt (c.write_marked.ensures.frame.same.4 ∙
+    c.take.ensures.frame.same.4) w.2.here w.1 c.requires.link
     c.put_marked.new.pass.seat.me.0.upper c.requires.shown each.0 each.1 c.in-Ok.ensures.done
 
 pub returns-in-Ok-clause-counted : goal.returns-in-Ok-clause-counted

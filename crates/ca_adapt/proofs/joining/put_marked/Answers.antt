@@ -40,7 +40,8 @@ returns-clause-frame g c = record {
       (c.retire_unlinked.ensures.frame.tally ∙ c.mark_for_join.ensures.frame.tally) (ap (λ (y : TreeView). y.splits) now)
       (ap (λ (y : TreeView). y.joins) now);
   pin = search rules;
-  own_range = ap (λ (u : TreeView). u.ranges.own) (c.retire_unlinked.ensures.frame.same.4 ∙ ap (λ (m : MyTree). m.0.upper) c.if-not-mark_for_join.ensures.done.now);
+  own_range = ap (λ (u : TreeView). u.ranges.own) (c.retire_unlinked.ensures.frame.same.4 ∙ ap (λ
+      (m : MyTree). m.0.upper) c.if-not-mark_for_join.ensures.done.now);
   none = let rows = c.args.space.now.table.shared.key.rows in
       none_left rows c.retire_unlinked.new.pass.kept.rows c.retire_unlinked.new.pass.seat.me.0
       (c.retire_unlinked.ensures.retired [] (in_nothing c.args.cursor.base [] refl)

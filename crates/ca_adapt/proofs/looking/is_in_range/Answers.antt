@@ -1,6 +1,6 @@
-use Rattle.std.proofs.Common.{◌≡◌, ℕ, ◌∙◌, get_or, sym, refl, ap, subst, inl, arith}
+use Rattle.std.proofs.Common.{ℕ, ◌∙◌, get_or, sym, subst, inl, arith}
 use Rattle.ca_base.proofs.ShownWords.{base_word, some_word}
-use Rattle.ca_node.specs.Told.{MyTree, HasWatched, IsShownWord}
+use Rattle.ca_node.specs.Told.{MyTree, IsShownWord}
 use Rattle.ca_adapt.specs.Trying.{IsFoundInUse}
 use Rattle.ca_adapt.proofs.Ranged.{found_by, owner_in}
 use Rattle.ca_adapt.proofs.looking.is_in_range.Goals as goal

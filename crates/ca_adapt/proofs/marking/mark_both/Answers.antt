@@ -1,4 +1,4 @@
-use Rattle.std.proofs.Common.{◌≡◌, ◌≤◌, ◌+◌, ℕ, List, ◌∷◌, [], Result, Ok, Err, ap, sym, refl, ◌∙◌, subst, arith}
+use Rattle.std.proofs.Common.{List, ◌∷◌, Result, Err, ap, sym, ◌∙◌, subst, arith}
 use Rattle.std.proofs.lemmas.Result.{err_from_is_err_and}
 use Rattle.ca_base.proofs.Counts.{ended_after}
 use Rattle.ca_node.specs.Told.{link_word}
@@ -11,7 +11,7 @@ use Rattle.ca_adapt.proofs.MarkedPairs.{last_still, markable_still, marks_both, 
 use Rattle.ca_adapt.proofs.Readied.{ready_marked, stays_both}
 use Rattle.ca_adapt.proofs.LoneTries.{lone_both, sibling_there}
 use Rattle.ca_node.specs.States.{IsAlone}
-use Rattle.ca_adapt.specs.Pairs.{IsLoneMark, IsThere}
+use Rattle.ca_adapt.specs.Pairs.{IsThere}
 use Rattle.ca_node.specs.TreeView.{TreeView}
 use Rattle.ca_adapt.proofs.marking.mark_both.Goals as goal
 

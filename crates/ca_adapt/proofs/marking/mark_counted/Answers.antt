@@ -1,4 +1,4 @@
-use Rattle.std.proofs.Common.{Ok, Err, ap, refl, ◌∙◌, arith}
+use Rattle.std.proofs.Common.{Ok, Err, arith}
 use Rattle.ca_node.specs.Told.{link_word}
 use Rattle.ca_adapt.specs.Joins.{last_on}
 use Rattle.ca_adapt.proofs.MarkedPairs.{marked_one, tried_lost, tried_passed}
@@ -17,7 +17,8 @@ pub returns-in-Ok-clause-counted : goal.returns-in-Ok-clause-counted
 returns-in-Ok-clause-counted c = let one = marked_one c.args.space.now.table.shared.key
     (last_on (link_word c.args.cursor.link) c.args.pass.now.seat.me.0.upper.notes)
     c.args.attempt (Ok c.in-Ok.row) c.args.pass.now.seat.me.0.upper c.mark_for.new.pass.seat.me.0.upper c.in-Ok.ensures.marked in
-    tried_passed c.args.spent.now c.mark_for.new.spent c.saturating_add-spent.result c.args.pass.now.seat.me c.mark_for.new.pass.seat.me c.mark_for.ensures.counted
+    tried_passed c.args.spent.now c.mark_for.new.spent c.saturating_add-spent.result c.args.pass.now.seat.me c.mark_for.new.pass.seat.me
+    c.mark_for.ensures.counted
     one.0.passed (omega (arith, c.saturating_add-spent.ensures))
 
 pub returns-in-Err-clause-counted : goal.returns-in-Err-clause-counted

@@ -1,14 +1,10 @@
-use Rattle.std.proofs.Common.{◌≡◌, ◌≤◌, ℕ, ap, sym, refl, ◌∙◌, subst, arith}
+use Rattle.std.proofs.Common.{sym, ◌∙◌, subst, arith}
 use Rattle.ca_base.specs.Finding.{IsAtCursor, IsBaseShown}
-use Rattle.ca_base.specs.Putting.{first_note}
 use Rattle.ca_node.specs.Told.{IsSettled, link_word}
 use Rattle.ca_node.specs.TreeView.{Note}
-use Rattle.ca_adapt.specs.Trying.{IsJoinOutcome}
+use Rattle.ca_adapt.specs.Trying.{IsJoinOutcome, IsLoneTry}
 use Rattle.ca_adapt.specs.declared.adapted.Adapted.{Adapted}
 use Rattle.ca_adapt.proofs.LastOn.{shown_first}
-use Rattle.ca_adapt.proofs.MarkedPairs.{tried_none}
-use Rattle.ca_adapt.proofs.TrySteps.{no_steps}
-use Rattle.ca_adapt.proofs.LoneTries.{lone_none}
 use Rattle.ca_node.specs.Inventory.{IsListed}
 use Rattle.ca_adapt.proofs.trying.try_join.Goals as goal
 
@@ -49,5 +45,6 @@ returns-clause-joined c = let u = c.args.pass.now.seat.me.0.upper in let z = c.a
 
 pub returns-clause-alone : goal.returns-clause-alone
 returns-clause-alone c alone known listed = let u = c.args.pass.now.seat.me.0.upper in
-    c.join_under.ensures.alone alone (subst (λ (n : Note). IsListed u.inventory n)
-    (sym (shown_first (link_word c.args.cursor.link) u.notes c.requires.at.link)) listed)
+    subst (λ (a : Adapted). IsLoneTry a c.args.pass.now.seat.me c.join_under.new.pass.seat.me) (sym c.outcome.ensures)
+    (c.join_under.ensures.alone alone known (subst (λ (n : Note). IsListed u.inventory n)
+    (sym (shown_first (link_word c.args.cursor.link) u.notes c.requires.at.link)) listed))

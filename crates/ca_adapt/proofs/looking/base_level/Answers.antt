@@ -1,6 +1,6 @@
 use Rattle.std.proofs.Common.{ℕ, ◌/◌, ◌%◌, ◌∙◌, get_or, ap}
 use Rattle.ca_base.proofs.ShownWords.{base_word, some_word}
-use Rattle.ca_adapt.proofs.looking.level_of.Goals as goal
+use Rattle.ca_adapt.proofs.looking.base_level.Goals as goal
 
 pub load_word-requires-clause-shown : goal.load_word-requires-clause-shown
 load_word-requires-clause-shown c = some_word c.args.space.now.table.shared.key c.args.pass.now.seat.me.0.upper c.args.base 0 c.requires.shown

@@ -1,6 +1,6 @@
 use Rattle.std.proofs.Common.{◌/◌, ◌%◌, ℕ, get_or, ap}
 use Rattle.ca_adapt.proofs.JoinedRows.{way_word}
-use Rattle.ca_adapt.proofs.finishing.level_of.Goals as goal
+use Rattle.ca_adapt.proofs.finishing.route_level.Goals as goal
 
 pub load_word-requires-clause-shown : goal.load_word-requires-clause-shown
 load_word-requires-clause-shown c = let s = c.requires.remembered in
