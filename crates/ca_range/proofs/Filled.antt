@@ -22,7 +22,7 @@ use Rattle.ca_node.specs.Told.{MyTree, with_upper}
 use Rattle.ca_node.specs.TreeView.{Note, Way, Unfinished, TreeView}
 use Rattle.ca_node.specs.Walking.{IsAbove, IsHighRoute}
 use Rattle.ca_rows.specs.declared.sizes.Sizes.{Sizes}
-use Rattle.ca_range.specs.Ahead.{IsAtLast, IsAtMarked, IsKnownOver}
+use Rattle.ca_range.specs.Ahead.{IsAtLast, IsAtMarked, IsFoundOver}
 use Rattle.ca_range.specs.Filling.{RemembersAll}
 use Rattle.ca_range.specs.Marked.{IsMarkedNow}
 use Rattle.ca_range.specs.Staying.{HasJoined, IsCounted, OnlySteps}
@@ -94,28 +94,38 @@ raised_met m m' u is = let e = ap (λ (x : MyTree). x.0.empty) is in let w = ap 
 joined_after : {z : Sizes} {n : ℕ} (u v w : TreeView) → OnlySteps z n u v → HasJoined v w → HasJoined u w
 joined_after u v w a j = let joins = a.joins in let helped = a.helped in let more = j.0 in let one = j.1 in (omega arith, omega arith)
 
+-- A range was found over behind steps.
+over_after : {z : Sizes} (range : Range) (u v w : TreeView) → OnlySteps z 0 u v → v.turns.helped ≤ w.turns.helped → reach u ≤ reach v
+    → IsFoundOver range v w → IsFoundOver range u w
+over_after range u v w steps more far o = record {
+  over = o.over;
+  counted = counted_both range u v w steps more o.counted;
+  marked = o.marked;
+  far = let then = o.far in omega arith;
+}
+
 -- A step came after others that met nothing of the pool.
 ended_after : (z : Sizes) (range : Range) (h : Helped) (k m n : MyTree) → HasMet 0 0 k m → OnlySteps z 0 k.0.upper m.0.upper → losses k ≤ losses m
-    → m.0.upper.turns.helped ≤ n.0.upper.turns.helped → IsEnded z range h m n → IsEnded z range h k n
-ended_after z range helped.Finished k m n met steps lost more e = (
-  ⊎_elim (λ (o : IsKnownOver n.0.upper range × IsCounted range m.0.upper n.0.upper).
-      inl (o.0, counted_both range k.0.upper m.0.upper n.0.upper steps more o.1))
+    → m.0.upper.turns.helped ≤ n.0.upper.turns.helped → reach k.0.upper ≤ reach m.0.upper → IsEnded z range h m n → IsEnded z range h k n
+ended_after z range helped.Finished k m n met steps lost more far e = (
+  ⊎_elim (λ (o : IsFoundOver range m.0.upper n.0.upper). inl (over_after range k.0.upper m.0.upper n.0.upper steps more far o))
       (λ (j : HasJoined m.0.upper n.0.upper). inr (joined_after k.0.upper m.0.upper n.0.upper steps j)) e.0,
   met_both 0 0 0 0 k m n met e.1,
 )
-ended_after z range (helped.Lost exchange) k m n met steps lost more e = let some = e.0 in (omega arith, met_both 0 0 0 0 k m n met e.1)
-ended_after z range (helped.Busy spent) k m n met steps lost more e = e
-ended_after z range helped.NoRow k m n met steps lost more e = met_both 0 0 1 0 k m n met e
-ended_after z range (helped.Worn counter) k m n met steps lost more e = met_both 0 0 0 1 k m n met e
+ended_after z range (helped.Lost exchange) k m n met steps lost more far e = let some = e.0 in (omega arith, met_both 0 0 0 0 k m n met e.1)
+ended_after z range (helped.Busy spent) k m n met steps lost more far e = e
+ended_after z range helped.NoRow k m n met steps lost more far e = met_both 0 0 1 0 k m n met e
+ended_after z range (helped.Worn which) k m n met steps lost more far e = (met_both 0 0 0 1 k m n met e.0, e.1)
 
 pub stepped_after : (z : Sizes) (range : Range) (s : Step) (k m n : MyTree) → m ≡ with_upper k m.0.upper → OnlySteps z 0 k.0.upper m.0.upper
-    → losses k ≤ losses m → k.0.upper.turns.passed ≤ m.0.upper.turns.passed → m.0.upper.turns.helped ≤ n.0.upper.turns.helped → HasStepped z range s m n
-    → HasStepped z range s k n
-stepped_after z range (step.Marked next) k m n raised steps lost passed more h = let less = h.1 in
+    → losses k ≤ losses m → k.0.upper.turns.passed ≤ m.0.upper.turns.passed → m.0.upper.turns.helped ≤ n.0.upper.turns.helped
+    → reach k.0.upper ≤ reach m.0.upper → HasStepped z range s m n → HasStepped z range s k n
+stepped_after z range (step.Marked next) k m n raised steps lost passed more far h = let less = h.1 in
     (h.0, omega arith, met_both 0 0 0 0 k m n (raised_met k m m.0.upper raised) h.2)
-stepped_after z range (step.Met next) k m n raised steps lost passed more h =
+stepped_after z range (step.Met next) k m n raised steps lost passed more far h =
     (h.0, h.1, met_both 0 0 0 0 k m n (raised_met k m m.0.upper raised) h.2)
-stepped_after z range (step.Ended h) k m n raised steps lost passed more e = ended_after z range h k m n (raised_met k m m.0.upper raised) steps lost more e
+stepped_after z range (step.Ended h) k m n raised steps lost passed more far e =
+    ended_after z range h k m n (raised_met k m m.0.upper raised) steps lost more far e
 
 -- The help goes on with this range: it is the one that it began with, or was found unfinished, or one was counted.
 abbrev pub IsHelpedNow : Range → Range → TreeView → TreeView → Type 0
@@ -133,36 +143,67 @@ now_still first now u v w a b (inr (inr more)) = let less = b.helped in inr (inr
 
 -- Its end is counted.
 pub one_over : {z : Sizes} (first now : Range) (u v w : TreeView) → OnlySteps z 0 u v → v.turns.helped ≤ w.turns.helped → IsHelpedNow first now u v
-    → IsKnownOver w now → IsCounted now v w → IsOneOver first u w
-one_over first now u v w a more (inl same) over counted = record {
+    → reach u ≤ reach v → IsFoundOver now v w → IsOneOver first u w
+one_over first now u v w a more (inl same) far o = record {
   last = now;
-  over = over;
+  over = o.over;
   which = inl same;
-  counted = counted_both first u v w a more (subst (λ (r : Range). IsCounted r v w) same counted);
+  counted = counted_both first u v w a more (subst (λ (r : Range). IsCounted r v w) same o.counted);
+  marked = o.marked;
+  far = let then = o.far in omega arith;
 }
-one_over first now u v w a more (inr (inl met)) over counted = let less = a.helped in let then = counted met in record {
+one_over first now u v w a more (inr (inl met)) far o = let less = a.helped in let then = o.counted met in record {
   last = now;
-  over = over;
+  over = o.over;
   which = inr (omega arith);
   counted = λ i. omega arith;
+  marked = o.marked;
+  far = let on = o.far in omega arith;
 }
-one_over first now u v w a more (inr (inr one)) over counted = record { last = now; over = over; which = inr (omega arith); counted = λ i. omega arith }
+one_over first now u v w a more (inr (inr one)) far o = record {
+  last = now;
+  over = o.over;
+  which = inr (omega arith);
+  counted = λ i. omega arith;
+  marked = o.marked;
+  far = let on = o.far in omega arith;
+}
 
 -- So the help ended.
 pub helped_after : (z : Sizes) (first now : Range) (budget : ℕ) (spent : Spent) (h : Helped) (k m n : MyTree) → HasMet 0 0 k m
     → OnlySteps z 0 k.0.upper m.0.upper → losses k ≤ losses m → m.0.upper.turns.helped ≤ n.0.upper.turns.helped
-    → IsHelpedNow first now k.0.upper m.0.upper → IsEnded z now h m n → IsHelpedTo z first budget spent h k n
-helped_after z first now budget spent helped.Finished k m n met steps lost more goes e = (
-  ⊎_elim (λ (o : IsKnownOver n.0.upper now × IsCounted now m.0.upper n.0.upper).
-      inl (one_over first now k.0.upper m.0.upper n.0.upper steps more goes o.0 o.1))
+    → IsHelpedNow first now k.0.upper m.0.upper → reach k.0.upper ≤ reach m.0.upper → IsEnded z now h m n → IsHelpedTo z first budget spent h k n
+helped_after z first now budget spent helped.Finished k m n met steps lost more goes far e = (
+  ⊎_elim (λ (o : IsFoundOver now m.0.upper n.0.upper). inl (one_over first now k.0.upper m.0.upper n.0.upper steps more goes far o))
       (λ (j : HasJoined m.0.upper n.0.upper). inr (joined_after k.0.upper m.0.upper n.0.upper steps j)) e.0,
   met_both 0 0 0 0 k m n met e.1,
 )
-helped_after z first now budget spent (helped.Lost exchange) k m n met steps lost more goes e = let some = e.0 in
+helped_after z first now budget spent (helped.Lost exchange) k m n met steps lost more goes far e = let some = e.0 in
     (omega arith, met_both 0 0 0 0 k m n met e.1)
-helped_after z first now budget spent (helped.Busy told) k m n met steps lost more goes e = absurd e
-helped_after z first now budget spent helped.NoRow k m n met steps lost more goes e = met_both 0 0 1 0 k m n met e
-helped_after z first now budget spent (helped.Worn counter) k m n met steps lost more goes e = met_both 0 0 0 1 k m n met e
+helped_after z first now budget spent (helped.Busy told) k m n met steps lost more goes far e = absurd e
+helped_after z first now budget spent helped.NoRow k m n met steps lost more goes far e = met_both 0 0 1 0 k m n met e
+helped_after z first now budget spent (helped.Worn which) k m n met steps lost more goes far e = (met_both 0 0 0 1 k m n met e.0, e.1)
+
+-- So it ended behind steps that counted no operation.
+pub helped_behind : (z : Sizes) (range : Range) (budget : ℕ) (spent : Spent) (h : Helped) (k m n : MyTree) → HasMet 0 0 k m → OnlySteps z 0 k.0.upper m.0.upper
+    → losses k ≤ losses m → reach k.0.upper ≤ reach m.0.upper
+    → m.0.upper.turns.helped ≤ n.0.upper.turns.helped → IsHelpedTo z range budget spent h m n → IsHelpedTo z range budget spent h k n
+helped_behind z range budget spent helped.Finished k m n met steps lost far more e = (
+  ⊎_elim (λ (o : IsOneOver range m.0.upper n.0.upper). let less = steps.helped in inl (record {
+    last = o.last;
+    over = o.over;
+    which = ⊎_elim (λ (same : o.last ≡ range). inl same) (λ (one : m.0.upper.turns.helped < n.0.upper.turns.helped). inr (omega arith)) o.which;
+    counted = counted_both range k.0.upper m.0.upper n.0.upper steps more o.counted;
+    marked = o.marked;
+    far = let then = o.far in omega arith;
+  })) (λ (j : HasJoined m.0.upper n.0.upper). inr (joined_after k.0.upper m.0.upper n.0.upper steps j)) e.0,
+  met_both 0 0 0 0 k m n met e.1,
+)
+helped_behind z range budget spent (helped.Lost exchange) k m n met steps lost far more e = let some = e.0 in
+    (omega arith, met_both 0 0 0 0 k m n met e.1)
+helped_behind z range budget spent (helped.Busy told) k m n met steps lost far more e = (e.0, e.1, met_both 0 0 0 0 k m n met e.2)
+helped_behind z range budget spent helped.NoRow k m n met steps lost far more e = met_both 0 0 1 0 k m n met e
+helped_behind z range budget spent (helped.Worn which) k m n met steps lost far more e = (met_both 0 0 0 1 k m n met e.0, e.1)
 
 -- The base of another range was marked by it.
 pub at_met : (z : Sizes) (u : TreeView) (next : MarkedBase) → IsAtLast z u next.cursor → IsInUse u (first_note u.notes) next.range

@@ -8,7 +8,7 @@ use Rattle.ca_node.specs.Told.{MyTree, given, taken_out}
 use Rattle.ca_node.specs.TreeView.{Begun, Unmarked}
 use Rattle.ca_node.proofs.HeldRows.{given_fewer, taken_out_more}
 use Rattle.ca_node.proofs.Members.{given_else, in_first, in_rest, taken_else}
-use Rattle.ca_base.specs.Taking.{AreHeld, AreUnlinked, HasUnlinked, lent_of}
+use Rattle.ca_base.specs.Taking.{AreHeld, AreUnlinked, HasTakenOut, lent_of}
 use Rattle.ca_base.proofs.Held.{either_first}
 use Rattle.ca_base.proofs.LentRows.{unlinked_lending}
 use Rattle.ca_base.proofs.Rest.{is_one}
@@ -38,7 +38,7 @@ first_rows rows kept kept' m m' new x begun its base same own apart d too h =
     (taken_else goes (given comes m.0.claims) begun.top not_out ∙ (given_else comes m.0.claims begun.top not_in ∙ border.2)) in
     let before = h.1.now in let ever = h.1.ever in
     let now = subst (λ (y : MyTree × KeptRows). AreUnlinked rows y.1.rows y.0.0 goes) (λ i. (sym d.now i, sym too i)) (
-      subst (λ (rest : List ℕ). HasUnlinked rows kept.rows (claimed begun.top Lends (taken_out goes (given comes m.0.claims))) (begun.top ∷ rest) goes)
+      subst (λ (rest : List ℕ). HasTakenOut rows kept.rows (claimed begun.top Lends (taken_out goes (given comes m.0.claims))) (begun.top ∷ rest) goes)
           (ap lent_of own) then,
       record { now = omega arith; ever = omega arith },
     ) in

@@ -1,5 +1,5 @@
 -- A pass's own range goes on: what is left of a pass behind each step.
-use Rattle.std.proofs.Common.{◌≡◌, ℕ, Bool, List, sym, refl, ap, ◌∙◌}
+use Rattle.std.proofs.Common.{◌≡◌, ◌<◌, ℕ, Bool, List, sym, refl, ap, ◌∙◌, subst}
 use denote.Ref.{Bor}
 use denote.Param.Members.{Shared}
 use Rattle.ca_base.specs.Counting.{HasMet, HasStoppedBy}
@@ -21,13 +21,16 @@ use Rattle.ca_rows.specs.Passes.{KeepsList}
 use Rattle.ca_rows.specs.declared.sizes.Sizes.{Sizes}
 use Rattle.ca_rows.specs.declared.space.Pass.{Pass}
 use Rattle.ca_rows.specs.declared.space.Space.{Space}
-use Rattle.ca_range.specs.Gathering.{HasEnded, IsFurther, IsMarking, refused_by}
-use Rattle.ca_range.specs.Snapping.{GoesOn, IsRefused, StaysPinned}
-use Rattle.ca_range.specs.Snapshots.{OnlyRanges}
+use Rattle.ca_range.specs.Filling.{turns_of}
+use Rattle.ca_range.specs.Gathering.{EndsUnspent, HasEnded, HasNoRun, IsFurther, IsMarking, refused_by}
+use Rattle.ca_range.specs.Snapping.{GoesOn, IsRefused, StaysPinned, snapped_so}
+use Rattle.ca_range.specs.Snapshots.{IsInBudget, OnlyRanges}
 use Rattle.ca_base.specs.Spending.{IsSpentOn}
 use Rattle.ca_range.specs.Staying.{OnlySteps}
 use Rattle.ca_range.specs.declared.gathering.Further.{Further}
 use Rattle.ca_range.specs.declared.gathering.Further.TheVariants as further
+use Rattle.ca_range.specs.declared.helped.Helped.{Helped}
+use Rattle.ca_range.specs.declared.helped.Helped.TheVariants as helped
 use Rattle.ca_range.specs.declared.own.Own.{Own}
 use Rattle.ca_range.specs.declared.sought.Snapped.{Snapped}
 use Rattle.ca_range.specs.declared.sought.Snapped.TheVariants as snapped
@@ -81,6 +84,51 @@ stopped_unfinished (stop.Lost exchange.Head) u = refl
 stopped_unfinished stop.Empty u = refl
 stopped_unfinished stop.Worn u = refl
 
+-- Where a step ended with a run, nothing was spent.
+pub ends_unspent : (s : Snapped) (a b : Spent) → b ≡ a → EndsUnspent (further.Ended s) a b
+ends_unspent (snapped.Run run) a b same = same
+ends_unspent snapped.Again a b same = tt
+ends_unspent snapped.Busy a b same = tt
+ends_unspent snapped.NoRow a b same = tt
+ends_unspent (snapped.Worn which) a b same = tt
+
+-- So it is where it didn't end with one.
+pub no_run_unspent : (f : Further) (a b : Spent) → HasNoRun f → EndsUnspent f a b
+no_run_unspent (further.On next) a b none = tt
+no_run_unspent (further.Ended (snapped.Run run)) a b none = absurd none
+no_run_unspent (further.Ended snapped.Again) a b none = tt
+no_run_unspent (further.Ended snapped.Busy) a b none = tt
+no_run_unspent (further.Ended snapped.NoRow) a b none = tt
+no_run_unspent (further.Ended (snapped.Worn which)) a b none = tt
+
+-- A refusal is no run, nor is what becomes of help, or of a base that couldn't be marked.
+pub no_run_refused : (budget : ℕ) (spent : Spent) (s : Snapped) (m n : MyTree) → IsRefused budget spent s m n → HasNoRun (further.Ended s)
+no_run_refused budget spent (snapped.Run run) m n r = r
+no_run_refused budget spent snapped.Again m n r = tt
+no_run_refused budget spent snapped.Busy m n r = tt
+no_run_refused budget spent snapped.NoRow m n r = tt
+no_run_refused budget spent (snapped.Worn which) m n r = tt
+
+pub no_run_so : (h : Helped) → HasNoRun (further.Ended (snapped_so h))
+no_run_so helped.Finished = tt
+no_run_so (helped.Lost exchange) = tt
+no_run_so (helped.Busy spent) = tt
+no_run_so helped.NoRow = tt
+no_run_so (helped.Worn which) = tt
+
+pub no_run_stopped : (why : Stop) → HasNoRun (further.Ended (refused_by why))
+no_run_stopped (stop.Lost exchange) = tt
+no_run_stopped stop.Empty = tt
+no_run_stopped stop.Worn = tt
+
+-- Where the budget wasn't spent before such a step, it isn't then.
+pub in_budget : (s : Snapped) (budget : ℕ) (a b : Spent) → turns_of a < budget → EndsUnspent (further.Ended s) a b → IsInBudget budget b s
+in_budget (snapped.Run run) budget a b room same = subst (λ (x : Spent). turns_of x < budget) (sym same) room
+in_budget snapped.Again budget a b room same = tt
+in_budget snapped.Busy budget a b room same = tt
+in_budget snapped.NoRow budget a b room same = tt
+in_budget (snapped.Worn which) budget a b room same = tt
+
 module _ {F : Type 0} (g : Shared F (Bor (List ℕ) × Unit {0}) Bool) (sought : Sought F) where
   pub stopped_ends : (z : Sizes) (budget : ℕ) (spent : Spent) (why : Stop) (k m n l : MyTree) → HasMet 0 0 k m → HasStoppedBy why m n → HasMet 0 0 n l
       → HasEnded g sought z budget spent (refused_by why) k l
@@ -89,7 +137,8 @@ module _ {F : Type 0} (g : Shared F (Bor (List ℕ) × Unit {0}) Bool) (sought :
   stopped_ends z budget spent stop.Worn k m n l before s behind = met_both 0 0 0 1 k m l before (met_both 0 1 0 0 m n l s behind)
 
   -- So is a refusal of help.
-  pub refused_ends : (z : Sizes) (budget : ℕ) (spent : Spent) (s : Snapped) (m n : MyTree) → IsRefused budget spent s m n → HasEnded g sought z budget spent s m n
+  pub refused_ends : (z : Sizes) (budget : ℕ) (spent : Spent) (s : Snapped) (m n : MyTree) → IsRefused budget spent s m n → HasEnded g sought z budget spent
+      s m n
   refused_ends z budget spent (snapped.Run run) m n r = absurd r
   refused_ends z budget spent snapped.Again m n r = r.0
   refused_ends z budget spent snapped.Busy m n r = r

@@ -1,5 +1,5 @@
 -- What comes of an attempt to join that was secured, and was to be carried out.
-use Rattle.std.proofs.Common.{◌≡◌, ◌≢◌, ◌⊎◌, ℕ, ◌+◌, ◌-◌, ◌*◌, ◌<◌, ◌≤◌, ◌++◌, min, IsTrue, nat_lt, ◌↔◌, Bool, true, false, cond, List, Option, None, Some, sym, refl, ap, ◌∙◌, subst, inl, inr, ⊎_elim, arith}
+use Rattle.std.proofs.Common.{◌≡◌, ◌⊎◌, ℕ, ◌+◌, ◌-◌, ◌*◌, ◌<◌, ◌≤◌, ◌++◌, min, IsTrue, nat_lt, ◌↔◌, Bool, true, false, cond, List, Option, None, Some, sym, refl, ap, ◌∙◌, subst, inl, inr, ⊎_elim, arith}
 use Rattle.std.proofs.lemmas.Bool.Decides.{nat_tests}
 use Rattle.ca_adapt.specs.Finishing.{HasFinished, HasTriedNone, IsHungBy, IsSteps}
 use Rattle.ca_adapt.specs.declared.finishing.Finish.{Finish}
@@ -9,15 +9,13 @@ use Rattle.ca_base.proofs.Counts.{met_both}
 use Rattle.ca_base.specs.Counting.{losses, HasMet}
 use Rattle.ca_base.specs.Finding.{IsBaseShown}
 use Rattle.ca_base.specs.Spending.{RisesBy, IsSpentOn}
-use Rattle.ca_base.specs.declared.stop.Exchange.TheVariants as exchange
 use Rattle.ca_model.specs.declared.outcome.Spent.{Spent}
-use Rattle.ca_model.specs.History.{History}
 use Rattle.ca_node.specs.Layout.{root_word}
 use Rattle.ca_node.specs.Links.{IsIn}
 use Rattle.ca_node.specs.Place.{IsLinkOf, all_keys, left_of, right_of}
-use Rattle.ca_node.specs.Row.{route_key, IsMarkedFor}
+use Rattle.ca_node.specs.Row.{mark, route_key, IsMarkedFor}
 use Rattle.ca_node.specs.Told.{MyTree, IsAnyLink, link_word}
-use Rattle.ca_node.specs.TreeView.{Border, Note, KnownRanges, Over, Turns, Unfinished, Way, TreeView, one_helped}
+use Rattle.ca_node.specs.TreeView.{Border, Note, KnownRanges, Turns, Unfinished, Way, TreeView, one_helped}
 use Rattle.ca_node.specs.Walking.{IsAbove, IsHungOn, IsLinkAmong}
 use Rattle.ca_node.specs.declared.link.Link.{Link}
 use Rattle.ca_node.specs.declared.link.Link.TheVariants as link
@@ -26,7 +24,7 @@ use Rattle.ca_rows.specs.Passes.{KeepsList, OnlyReads}
 use Rattle.ca_rows.specs.declared.sizes.Sizes.{Sizes}
 use Rattle.ca_rows.specs.declared.space.Pass.{Pass}
 use Rattle.ca_rows.specs.declared.space.Space.{Space}
-use Rattle.ca_range.specs.Attempts.{CountsJoin, HasCarriedOut, HasEndedJoin, HasFinishedJoin, HasFreed, HasGivenUp, HasTriedJoin, IsNoJoin, LearnsOfJoins, helped_by, joined_more, spent_with}
+use Rattle.ca_range.specs.Attempts.{CountsJoin, HasCarriedOut, HasEndedJoin, HasFinishedJoin, HasFreed, HasGivenUp, HasTriedJoin, IsMarkTold, IsNoJoin, LearnsOfJoins, helped_by, spent_with}
 use Rattle.ca_range.specs.Clearing.{HasGone, none_spent, turns_at}
 use Rattle.ca_range.specs.Filling.{IsEnded, links_lost, links_of}
 use Rattle.ca_range.specs.Staying.{OnlySteps, with_steps_of}
@@ -280,7 +278,7 @@ ended_by_join z range helped.Finished m m' g c = let one = c.0 in let helps = ap
 ended_by_join z range (helped.Lost x) m m' g c = (c.1, g.0)
 ended_by_join z range (helped.Busy spent) m m' g c = c
 ended_by_join z range helped.NoRow m m' g c = g
-ended_by_join z range (helped.Worn which) m m' g c = g
+ended_by_join z range (helped.Worn which) m m' g c = (g, c.0)
 
 module _ {R : Type 0} (space : Space R TreeView) (pass mid new : Pass R TreeView) where
   -- An attempt was carried out behind a load of its join word.
@@ -318,3 +316,11 @@ ended_behind space base end.Unmarked pass mid new r e = freed_behind space base 
 ended_behind space base end.Before pass mid new r e = freed_behind space base false pass mid new r e
 ended_behind space base end.Now pass mid new r e = freed_behind space base true pass mid new r e
 ended_behind space base (end.Gone h) pass mid new r e = finished_read space h pass mid new r e
+
+-- An attempt that was given up, or carried out, had marked the base.
+pub told_given : {R : Type 0} (space : Space R TreeView) (x : Marker) (e : JoinEnd) (pass new : Pass R TreeView) (its : List ℕ)
+    → HasGivenUp space x e pass new → mark its ≡ 2 → IsMarkTold e its
+told_given space x end.Unmarked pass new its g m = absurd g
+told_given space x end.Before pass new its g m = m
+told_given space x end.Now pass new its g m = m
+told_given space x (end.Gone h) pass new its g m = m

@@ -11,7 +11,7 @@ use Rattle.ca_node.specs.TreeView.{Note, KnownRanges, Quiet, Turns, TreeView, Un
 use Rattle.ca_rows.specs.Passes.{KeepsList, OnlyReads}
 use Rattle.ca_rows.specs.declared.sizes.Sizes.{Sizes}
 use Rattle.ca_rows.specs.declared.space.Pass.{Pass}
-use Rattle.ca_range.specs.Clearing.{HasGone, LearnsOfRanges, none_spent}
+use Rattle.ca_range.specs.Clearing.{CountsHelp, HasGone, LearnsOfRanges, none_spent}
 use Rattle.ca_range.specs.Filling.{IsHelpedTo, IsOneOver}
 use Rattle.ca_range.specs.Meeting.{active_of}
 use Rattle.ca_base.specs.Spending.{IsSpentOn}
@@ -102,4 +102,11 @@ module _ (z : Sizes) (range : Range) (budget : ℕ) (spent : Spent) (m m' n : My
       let x = all.lost.now_is (omega arith) in let y = all.helped.now_is (omega arith) in let w = all.passed.now_is (omega arith) in
       (met_both 0 0 0 0 m m' n first h.2, omega arith)
   has_gone helped.NoRow h = met_both 0 0 1 0 m m' n first h
-  has_gone (helped.Worn counter) h = met_both 0 0 0 1 m m' n first h
+  has_gone (helped.Worn which) h = met_both 0 0 0 1 m m' n first h.0
+
+  pub counts_help : (helped : Helped) → IsHelpedTo z range budget spent helped m' n → CountsHelp helped m n
+  counts_help helped.Finished h = let more = one_helped h.0 in omega arith
+  counts_help (helped.Lost exchange) h = let more = h.0 in omega arith
+  counts_help (helped.Busy told) h = tt
+  counts_help helped.NoRow h = tt
+  counts_help (helped.Worn which) h = h.1

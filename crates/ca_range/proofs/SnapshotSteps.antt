@@ -1,5 +1,5 @@
 -- Steps of a snapshot, one after another, and what they come to.
-use Rattle.std.proofs.Common.{◌≡◌, ℕ, ◌≤◌, ◌++◌, sym, ap, ◌∙◌, subst, ◌⊎◌, ⊎_elim, ◌<◌, arith, append_assoc}
+use Rattle.std.proofs.Common.{◌≡◌, ℕ, ◌≤◌, ◌++◌, sym, ap, ◌∙◌, subst, ◌⊎◌, ⊎_elim, arith, append_assoc}
 use denote.Ref.{Bor}
 use denote.Param.Members.{Shared}
 use Rattle.std.specs.Prelude.{Bool, List}
@@ -16,7 +16,7 @@ use Rattle.ca_range.specs.Attempts.{CountsJoin}
 use Rattle.ca_range.specs.Clearing.{HasGone, turns_at}
 use Rattle.ca_range.specs.Gathering.{HasEnded}
 use Rattle.ca_range.specs.Snapping.{IsRefused, snapped_so}
-use Rattle.ca_range.specs.Snapshots.{HasSnapped, OnlyRanges}
+use Rattle.ca_range.specs.Snapshots.{HasSnapped, IsInBudget, OnlyRanges}
 use Rattle.ca_base.specs.Spending.{IsSpentOn}
 use Rattle.ca_range.specs.Filling.{IsHelpedTo, IsOneOver}
 use Rattle.ca_range.specs.Staying.{HasJoined, OnlySteps, with_steps_of}
@@ -71,6 +71,21 @@ refused_after budget spent (snapped.Worn counter.PoolTag) k m n met less r = met
 refused_after budget spent (snapped.Worn counter.Epoch) k m n met less r = r
 refused_after budget spent (snapped.Worn counter.Sequence) k m n met less r = r
 
+-- What comes of help says nothing of the budget, nor does a refusal.
+pub budget_so : (budget : ℕ) (spent : Spent) (h : Helped) → IsInBudget budget spent (snapped_so h)
+budget_so budget spent helped.Finished = tt
+budget_so budget spent (helped.Lost exchange) = tt
+budget_so budget spent (helped.Busy told) = tt
+budget_so budget spent helped.NoRow = tt
+budget_so budget spent (helped.Worn which) = tt
+
+pub budget_refused : (budget : ℕ) (spent : Spent) (s : Snapped) (m n : MyTree) → IsRefused budget spent s m n → IsInBudget budget spent s
+budget_refused budget spent (snapped.Run run) m n r = absurd r
+budget_refused budget spent snapped.Again m n r = tt
+budget_refused budget spent snapped.Busy m n r = tt
+budget_refused budget spent snapped.NoRow m n r = tt
+budget_refused budget spent (snapped.Worn which) m n r = tt
+
 -- So it came to nothing where a range was in the way that was found unfinished, and was helped.
 module _ (z : Sizes) (range : Range) (budget : ℕ) (a spent : Spent) where
   pub refused_by_help : (h : Helped) (m n : MyTree)
@@ -81,7 +96,7 @@ module _ (z : Sizes) (range : Range) (budget : ℕ) (a spent : Spent) where
   refused_by_help (helped.Lost x) m n met all h = let helps = all.helped.more in let passed = all.passed.more in let one = h.0 in (h.1, omega arith)
   refused_by_help (helped.Busy told) m n met all h = (h.2, h.1)
   refused_by_help helped.NoRow m n met all h = h
-  refused_by_help (helped.Worn which) m n met all h = h
+  refused_by_help (helped.Worn which) m n met all h = h.0
 
 module _ {F : Type 0} (g : Shared F (Bor (List ℕ) × Unit {0}) Bool) (sought : Sought F) where
   pub snapped_after : (z : Sizes) (budget : ℕ) (spent : Spent) (s : Snapped) (k m n : MyTree) → HasMet 0 0 k m → turns_at k ≤ turns_at m

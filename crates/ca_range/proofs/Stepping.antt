@@ -259,3 +259,8 @@ over_by_help true range border m m' e = subst (λ (x : MyTree). IsKnownOver x.0.
     (record { pass = range.owner; below = range.number + 1 }, (0, refl), refl, omega arith)
 over_by_help false range border m m' e = subst (λ (x : MyTree). IsKnownOver x.0.upper range) (sym e)
     (record { pass = range.owner; below = range.number + 1 }, (0, refl), refl, omega arith)
+
+-- The same rows are remembered.
+pub notes_by_help : (won : Bool) (pass number border : ℕ) (m m' : MyTree) → HasHelped won pass number border m m' → m'.0.upper.notes ≡ m.0.upper.notes
+notes_by_help true pass number border m m' e = ap (λ (x : MyTree). x.0.upper.notes) e
+notes_by_help false pass number border m m' e = ap (λ (x : MyTree). x.0.upper.notes) e

@@ -1,5 +1,5 @@
 -- What an edit comes to by an attempt to join that marked its base.
-use Rattle.std.proofs.Common.{◌≡◌, ◌≢◌, ◌<◌, Bool, true, false, [], refl, ap, ◌∙◌, sym, subst, inl, arith}
+use Rattle.std.proofs.Common.{◌≡◌, ◌≢◌, ℕ, Bool, true, false, [], refl, ap, sym, subst, inl, inr, arith}
 use Rattle.ca_base.specs.Counting.{losses}
 use Rattle.ca_base.specs.Putting.{first_note}
 use Rattle.ca_base.specs.Readiness.{IsReady}
@@ -7,13 +7,13 @@ use Rattle.ca_model.specs.declared.outcome.Spent.{Spent}
 use Rattle.ca_node.specs.declared.cursor.Cursor.{Cursor}
 use Rattle.ca_node.specs.Row.{mark}
 use Rattle.ca_node.specs.Told.{MyTree, IsKnown, IsSettled}
-use Rattle.ca_node.specs.TreeView.{Note, TreeView}
-use Rattle.ca_rows.specs.Passes.{KeepsList, OnlyReads}
+use Rattle.ca_node.specs.TreeView.{Note, Turns, TreeView}
+use Rattle.ca_rows.specs.Passes.{OnlyReads}
 use Rattle.ca_rows.specs.declared.space.Pass.{Pass}
 use Rattle.ca_rows.specs.declared.space.Space.{Space}
 use Rattle.ca_range.specs.Ahead.{IsAtLast}
 use Rattle.ca_range.specs.Attempts.{HasFinishedJoin, HasFreed, joined_more}
-use Rattle.ca_range.specs.Clearing.{HasGone, IsCleared, LearnsOfRanges, none_spent}
+use Rattle.ca_range.specs.Clearing.{HasGone, IsCleared, IsOfBase, LearnsOfRanges, none_spent}
 use Rattle.ca_range.specs.Filling.{links_lost}
 use Rattle.ca_base.specs.Spending.{IsSpentOn}
 use Rattle.ca_range.specs.Staying.{OnlySteps}
@@ -75,3 +75,24 @@ cleared_behind space pass mid new (way.Helped helped spent) r c = record {
   gone = subst (λ (x : MyTree). HasGone helped x new.seat.me) r.still c.gone;
   several = λ known. c.several (subst (λ (x : MyTree). IsKnown space.table.shared.key x.0.upper) (sym r.still) known);
 }
+
+-- What was helped had the base: an attempt to join.
+module _ {R : Type 0} (space : Space R TreeView) (cursor : Cursor) (budget : ℕ) (pass new : Pass R TreeView) where
+  pub way_now : (spent : Spent) → IsAtLast space.table.shared.key pass.seat.me.0.upper cursor → mark (first_note pass.seat.me.0.upper.notes).its ≡ 2
+      → HasFreed space cursor.base true pass new → IsOfBase space.table.shared.key budget (way.Helped helped.Finished spent) pass.seat.me new.seat.me
+  way_now spent at joins f = let u = pass.seat.me.0.upper in let one = ap (λ (x : MyTree). x.0.upper.turns.helped) f.learnt.1 in
+      (inr (joins, inl (f.unjoined (first_note u.notes) (last_shown space.table.shared.key u cursor at))), omega arith)
+
+  pub way_gone : (h : Helped) (spent : Spent) → mark (first_note pass.seat.me.0.upper.notes).its ≡ 2 → HasFinishedJoin space h pass new
+      → IsOfBase space.table.shared.key budget (way.Helped h spent) pass.seat.me new.seat.me
+  way_gone helped.Finished spent joins f = let join = f.counts.0 in let one = ap (λ (t : Turns). t.helped) f.counts.1 in
+      (inr (joins, inr (omega arith, omega arith)), omega arith)
+  way_gone (helped.Lost exchange) spent joins f = (inr (joins, tt), f.counts.1)
+  way_gone (helped.Busy told) spent joins f = absurd f.counts
+  way_gone helped.NoRow spent joins f = (inr (joins, tt), tt)
+  way_gone (helped.Worn which) spent joins f = (inr (joins, tt), f.counts.0)
+
+-- The same behind loads of words that were shown.
+pub way_behind : {R : Type 0} (space : Space R TreeView) (budget : ℕ) (pass mid new : Pass R TreeView) (w : Way) → OnlyReads pass mid
+    → IsOfBase space.table.shared.key budget w mid.seat.me new.seat.me → IsOfBase space.table.shared.key budget w pass.seat.me new.seat.me
+way_behind space budget pass mid new w r h = subst (λ (x : MyTree). IsOfBase space.table.shared.key budget w x new.seat.me) r.still h

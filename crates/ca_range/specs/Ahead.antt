@@ -11,6 +11,7 @@ use Rattle.ca_node.specs.TreeView.{Note, Over, Unfinished, Border, TreeView}
 use Rattle.ca_node.specs.Walking.{IsAbove, IsHighRoute}
 use Rattle.ca_rows.specs.Layout.{last_sequence}
 use Rattle.ca_rows.specs.declared.sizes.Sizes.{Sizes}
+use Rattle.ca_range.specs.Farther.{reach}
 use Rattle.ca_range.specs.Reaching.{IsBorderShown, reaches_by}
 use Rattle.ca_range.specs.Staying.{IsCounted}
 use Rattle.ca_range.specs.declared.account.Range.{Range}
@@ -32,6 +33,13 @@ pub record IsAtMarked (z : Sizes) (u : TreeView) (range : Range) (cursor : Curso
 -- The range is known to be over.
 abbrev pub IsKnownOver : TreeView → Range → Type 0
 IsKnownOver u range = (x : Over) × IsIn x u.ranges.over × (x.pass ≡ range.owner) × (range.number < x.below)
+
+-- So it is, and was counted where it was found unfinished. It marked the base that was shown last, which goes as far as the one that was shown last before.
+pub record IsFoundOver (range : Range) (u v : TreeView) : Type 0 where
+  pub over : IsKnownOver v range
+  pub counted : IsCounted range u v
+  pub marked : IsMarkedBy (first_note v.notes).its range.owner range.number
+  pub far : reach u ≤ reach v
 
 -- The base that was shown last has all keys up to where the range goes, which was found unfinished.
 pub record IsWhole (u : TreeView) (range : Range) : Type 0 where
@@ -59,6 +67,6 @@ pub record IsBefore (z : Sizes) (range : Range) (next : Cursor) (u v : TreeView)
 
 -- What is ahead of a base that the range marked: nothing, as the range is over; or all is marked; or the next base, which was shown.
 abbrev pub IsAhead : Sizes → Range → Cursor → Ahead → TreeView → TreeView → Type 0
-IsAhead z range left ahead.Over u v = IsKnownOver v range × IsCounted range u v
-IsAhead z range left ahead.Whole u v = IsAtMarked z v range left × IsWhole v range
+IsAhead z range left ahead.Over u v = IsFoundOver range u v
+IsAhead z range left ahead.Whole u v = IsAtMarked z v range left × IsWhole v range × (reach u ≤ reach v)
 IsAhead z range left (ahead.Next next) u v = IsBefore z range next u v

@@ -8,10 +8,9 @@ use Rattle.ca_node.specs.Place.{HasKey}
 use Rattle.ca_node.specs.Row.{mark_bound, IsMarkedBy}
 use Rattle.ca_node.specs.TreeView.{TreeView}
 use Rattle.ca_rows.specs.declared.sizes.Sizes.{Sizes}
-use Rattle.ca_range.specs.Ahead.{GoesBeyond, IsAtLast, IsAtMarked, IsKnownOver, IsWhole}
+use Rattle.ca_range.specs.Ahead.{GoesBeyond, IsAtLast, IsAtMarked, IsFoundOver, IsWhole}
 use Rattle.ca_range.specs.Farther.{reach}
 use Rattle.ca_range.specs.Marked.{second_note}
-use Rattle.ca_range.specs.Staying.{IsCounted}
 use Rattle.ca_range.specs.declared.account.Range.{Range}
 use Rattle.ca_range.specs.declared.along.Reached.{Reached}
 use Rattle.ca_range.specs.declared.along.Reached.TheVariants as reached
@@ -29,8 +28,8 @@ pub record IsGap (z : Sizes) (u : TreeView) (range : Range) (left next : Cursor)
   pub other : ¬ IsMarkedBy (first_note u.notes).its range.owner range.number
 
 -- The range is over, and was counted where it was found unfinished; or all is marked; or there is a gap, and the base behind it goes farther than that which
--- was shown last before.
+-- was shown last before. No base goes less far than that one.
 abbrev pub IsReached : Sizes → Range → Reached → TreeView → TreeView → Type 0
-IsReached z range reached.Over u v = IsKnownOver v range × IsCounted range u v
-IsReached z range (reached.Whole last) u v = IsAtMarked z v range last × IsWhole v range
+IsReached z range reached.Over u v = IsFoundOver range u v
+IsReached z range (reached.Whole last) u v = IsAtMarked z v range last × IsWhole v range × (reach u ≤ reach v)
 IsReached z range (reached.Before left next) u v = IsGap z v range left next × (reach u < reach v)

@@ -1,5 +1,5 @@
 -- Attempts to join that marked bases which a pass was shown.
-use Rattle.std.specs.Prelude.{◌≡◌, ◌≢◌, ℕ, ◌+◌, ◌*◌, ◌<◌, ◌≤◌, Bool, true, false, cond, min, Option, Some, None}
+use Rattle.std.specs.Prelude.{◌≡◌, ◌≢◌, ℕ, ◌+◌, ◌*◌, ◌<◌, ◌≤◌, Bool, true, false, cond, min, List, Option, Some, None}
 use Rattle.ca_adapt.specs.Finishing.{IsSteps}
 use Rattle.ca_adapt.specs.declared.finishing.Finish.{Finish}
 use Rattle.ca_adapt.specs.declared.finishing.Finish.TheVariants as finish
@@ -114,6 +114,13 @@ CountsJoin (helped.Lost exchange) m m' = (m'.0.upper.joins ≡ m.0.upper.joins) 
 CountsJoin (helped.Busy spent) m m' = ⊥
 CountsJoin helped.NoRow m m' = m'.0.upper.joins ≡ m.0.upper.joins
 CountsJoin (helped.Worn which) m m' = (which ≡ counter.PoolTag) × (m'.0.upper.joins ≡ m.0.upper.joins)
+
+-- Whether an attempt marked the base with these words, by what became of it.
+abbrev pub IsMarkTold : JoinEnd → List ℕ → Type 0
+IsMarkTold end.Unmarked its = mark its ≢ 2
+IsMarkTold end.Before its = mark its ≡ 2
+IsMarkTold end.Now its = mark its ≡ 2
+IsMarkTold (end.Gone helped) its = mark its ≡ 2
 
 module _ {R : Type 0} where
   -- The pass learnt of joins alone, and counted one as helped, or not. As it knows then, no join has the base.

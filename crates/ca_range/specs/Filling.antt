@@ -1,5 +1,6 @@
 -- What a base is to a range whose next one it is.
 use Rattle.std.specs.Prelude.{◌≡◌, ◌≢◌, ◌⊎◌, ℕ, ◌+◌, ◌<◌, ◌≤◌, Option, Some, None, slice_index}
+use Rattle.ca_model.specs.declared.outcome.Counter.TheVariants as counter
 use Rattle.ca_model.specs.declared.outcome.Spent.{Spent}
 use Rattle.ca_adapt.specs.Statistics.{IsPastWord}
 use Rattle.ca_adapt.specs.declared.tuning.Tuning.{Tuning}
@@ -12,7 +13,7 @@ use Rattle.ca_node.specs.Row.{IsMarkedBy}
 use Rattle.ca_node.specs.Told.{MyTree, IsSettled}
 use Rattle.ca_node.specs.TreeView.{Note, Unfinished, TreeView}
 use Rattle.ca_rows.specs.declared.sizes.Sizes.{Sizes}
-use Rattle.ca_range.specs.Ahead.{IsAtLast, IsAtMarked, IsKnownOver}
+use Rattle.ca_range.specs.Ahead.{IsAtLast, IsAtMarked, IsFoundOver, IsKnownOver}
 use Rattle.ca_range.specs.Farther.{reach}
 use Rattle.ca_range.specs.Marked.{second_note}
 use Rattle.ca_range.specs.Staying.{HasJoined, IsCounted}
@@ -40,12 +41,11 @@ pub record RemembersAll (u v : TreeView) : Type 0 where
 
 -- This became of the range, given what the pass knew before and behind. Where a join was carried out that was in its way, the help ended, too.
 abbrev pub IsEnded : Sizes → Range → Helped → MyTree → MyTree → Type 0
-IsEnded z range helped.Finished m m' = ((IsKnownOver m'.0.upper range × IsCounted range m.0.upper m'.0.upper) ⊎ HasJoined m.0.upper m'.0.upper)
-    × HasMet 0 0 m m'
+IsEnded z range helped.Finished m m' = (IsFoundOver range m.0.upper m'.0.upper ⊎ HasJoined m.0.upper m'.0.upper) × HasMet 0 0 m m'
 IsEnded z range (helped.Lost exchange) m m' = (losses m < losses m') × HasMet 0 0 m m'
 IsEnded z range (helped.Busy spent) m m' = ⊥
 IsEnded z range helped.NoRow m m' = HasMet 1 0 m m'
-IsEnded z range (helped.Worn counter) m m' = HasMet 0 1 m m'
+IsEnded z range (helped.Worn which) m m' = HasMet 0 1 m m' × (which ≡ counter.PoolTag)
 
 -- One base more was marked, and it was shown last; or a base was shown last that another range has; or the help ended.
 abbrev pub HasStepped : Sizes → Range → Step → MyTree → MyTree → Type 0
@@ -63,7 +63,7 @@ links_lost helped.Finished = 0
 links_lost (helped.Lost exchange) = links_of exchange
 links_lost (helped.Busy spent) = 0
 links_lost helped.NoRow = 0
-links_lost (helped.Worn counter) = 0
+links_lost (helped.Worn which) = 0
 
 abbrev pub step_lost : Step → ℕ
 step_lost (step.Marked next) = 0
@@ -94,12 +94,15 @@ GoesTo least (step.Ended helped) u = Unit {0}
 abbrev pub turns_of : Spent → ℕ
 turns_of spent = spent.lost + spent.helped + spent.passed
 
--- A range is over. Where it is another one than this, or this one was found unfinished, one was counted as helped.
+-- A range is over: this one; or another one that was in its way, and one was counted as helped. So it was where this one was found unfinished. What is over
+-- marked the base that was shown last, which goes as far as the one that was shown last before.
 pub record IsOneOver (range : Range) (u v : TreeView) : Type 0 where
   pub last : Range
   pub over : IsKnownOver v last
   pub which : (last ≡ range) ⊎ (u.turns.helped < v.turns.helped)
   pub counted : IsCounted range u v
+  pub marked : IsMarkedBy (first_note v.notes).its last.owner last.number
+  pub far : reach u ≤ reach v
 
 -- The help ended so, or as the budget was spent. Where a join was carried out that was in the way of a range, it ended, too.
 abbrev pub IsHelpedTo : Sizes → Range → ℕ → Spent → Helped → MyTree → MyTree → Type 0
@@ -107,7 +110,7 @@ IsHelpedTo z range budget spent helped.Finished m m' = (IsOneOver range m.0.uppe
 IsHelpedTo z range budget spent (helped.Lost exchange) m m' = IsEnded z range (helped.Lost exchange) m m'
 IsHelpedTo z range budget spent (helped.Busy told) m m' = (told ≡ spent) × (budget ≤ turns_of spent) × HasMet 0 0 m m'
 IsHelpedTo z range budget spent helped.NoRow m m' = IsEnded z range helped.NoRow m m'
-IsHelpedTo z range budget spent (helped.Worn counter) m m' = IsEnded z range (helped.Worn counter) m m'
+IsHelpedTo z range budget spent (helped.Worn which) m m' = IsEnded z range (helped.Worn which) m m'
 
 -- Turns were spent, unless the budget was spent before, or the help ended for want of a row.
 abbrev pub IsTurned : ℕ → Spent → Spent → Helped → Type 0
@@ -115,4 +118,4 @@ IsTurned budget before now helped.Finished = turns_of before < budget → turns_
 IsTurned budget before now (helped.Lost exchange) = turns_of before < budget → turns_of before < turns_of now
 IsTurned budget before now (helped.Busy spent) = turns_of before < budget → turns_of before < turns_of now
 IsTurned budget before now helped.NoRow = Unit {0}
-IsTurned budget before now (helped.Worn counter) = Unit {0}
+IsTurned budget before now (helped.Worn which) = Unit {0}

@@ -53,6 +53,24 @@ abbrev pub IsOver : Further → TreeView → Type 0
 IsOver (further.On next) u = Unit {0}
 IsOver (further.Ended snapped) u = u.ranges.own ≡ Quiet
 
+-- Where a step ended the range with a run, nothing was spent by it.
+abbrev pub EndsUnspent : Further → Spent → Spent → Type 0
+EndsUnspent (further.On next) before now = Unit {0}
+EndsUnspent (further.Ended (snapped.Run run)) before now = now ≡ before
+EndsUnspent (further.Ended snapped.Again) before now = Unit {0}
+EndsUnspent (further.Ended snapped.Busy) before now = Unit {0}
+EndsUnspent (further.Ended snapped.NoRow) before now = Unit {0}
+EndsUnspent (further.Ended (snapped.Worn which)) before now = Unit {0}
+
+-- It didn't end with a run.
+abbrev pub HasNoRun : Further → Type 0
+HasNoRun (further.On next) = Unit {0}
+HasNoRun (further.Ended (snapped.Run run)) = ⊥
+HasNoRun (further.Ended snapped.Again) = Unit {0}
+HasNoRun (further.Ended snapped.Busy) = Unit {0}
+HasNoRun (further.Ended snapped.NoRow) = Unit {0}
+HasNoRun (further.Ended (snapped.Worn which)) = Unit {0}
+
 -- what a snapshot comes to, where a base couldn't be marked
 abbrev pub refused_by : Stop → Snapped
 refused_by (stop.Lost exchange) = snapped.Again

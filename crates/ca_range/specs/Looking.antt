@@ -1,5 +1,5 @@
 -- What a pass finds in the bases that it goes to for a snapshot.
-use Rattle.std.specs.Prelude.{◌≡◌, ℕ, ◌+◌, ◌≤◌, Bool, true, false, List, map}
+use Rattle.std.specs.Prelude.{◌≡◌, ℕ, ◌+◌, ◌<◌, ◌≤◌, Bool, true, false, List, map}
 use denote.Ref.{Bor}
 use denote.Param.Members.{Shared}
 use Rattle.ca_base.specs.Putting.{first_note}
@@ -51,3 +51,4 @@ module _ {F : Type 0} (g : Shared F (Bor (List ℕ) × Unit {0}) Bool) (sought :
       × (1 ≤ sought.want)
       × ((now : ℕ) × HasAdded counted now note × (sought.want ≤ now))
   HasLooked counted (looked.On now) key note = (note.place.span.high ≡ Excluded key) × HasAdded counted now note
+      × (reaches_to (bound_of sought.hi) note.place.span.high ≡ false) × (1 ≤ sought.want → now < sought.want)

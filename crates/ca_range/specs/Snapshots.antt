@@ -38,6 +38,14 @@ pub record OnlyRanges (z : Sizes) (u v : TreeView) : Type 0 where
   pub joins : u.joins ≤ v.joins
   pub joined : v.joins + u.turns.helped ≤ u.joins + v.turns.helped
 
+-- Where a run came out, the budget wasn't spent.
+abbrev pub IsInBudget : ℕ → Spent → Snapped → Type 0
+IsInBudget budget spent (snapped.Run run) = turns_of spent < budget
+IsInBudget budget spent snapped.Again = Unit {0}
+IsInBudget budget spent snapped.Busy = Unit {0}
+IsInBudget budget spent snapped.NoRow = Unit {0}
+IsInBudget budget spent (snapped.Worn which) = Unit {0}
+
 -- the bases of a run, from the last one on: those on its chain, or the one that was shown last
 abbrev pub bases_of : Run → TreeView → List Note
 bases_of run u = cond run.chained u.ranges.run (first_note u.notes ∷ [])

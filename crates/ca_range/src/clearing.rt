@@ -1,5 +1,5 @@
 //! What an edit does about the mark of the base that it is to exchange.
-ghost use Rattle.std.specs.Prelude.{◌≡◌, ◌≢◌, ◌≤◌, []};
+ghost use Rattle.std.specs.Prelude.{◌≡◌, ◌≢◌, ◌≤◌, ℕ, []};
 ghost use Rattle.ca_adapt.specs.Tuned.{IsTuned};
 ghost use Rattle.ca_base.specs.Putting.{first_note};
 ghost use Rattle.ca_base.specs.Readiness.{IsReady};
@@ -8,8 +8,8 @@ ghost use Rattle.ca_node.specs.Row.{mark};
 ghost use Rattle.ca_node.specs.TreePasses.{tree_of};
 ghost use Rattle.ca_node.specs.TreeView.{Quiet};
 ghost use Rattle.ca_range.specs.Ahead.{IsAtLast};
-ghost use Rattle.ca_range.specs.Clearing.{IsCleared};
-ghost use Rattle.ca_rows.specs.Passes.{sizes};
+ghost use Rattle.ca_range.specs.Clearing.{IsCleared, IsOfBase};
+ghost use Rattle.ca_rows.specs.Passes.{sizes, known};
 
 use crate::account::Account;
 use crate::ahead::is_active;
@@ -49,6 +49,7 @@ pub fn clear(
     requires at { IsAtLast (sizes space.now) (tree_of pass.old) cursor }
     requires budget { 1 ≤ budget }
     ensures cleared { IsCleared space.now result pass.old pass.new }
+    ensures way { IsOfBase (sizes space.now) budget result (known pass.old) (known pass.new) }
 {
     let Some(range) = range_of(space, pass, cursor.base) else {
         return clear_of_join(space, pass, cursor);
@@ -72,6 +73,7 @@ fn clear_of_join(space: &TreeSpace, pass: &mut TreePass, cursor: Cursor) -> Way
     requires unranged { mark (first_note (tree_of pass.old).notes).its ≢ 1 }
     requires other { HasNone (tree_of pass.old).ranges.own }
     ensures cleared { IsCleared space.now result pass.old pass.new }
+    ensures way { (budget : ℕ) → IsOfBase (sizes space.now) budget result (known pass.old) (known pass.new) }
 {
     let mut spent = Spent {
         lost: 0,

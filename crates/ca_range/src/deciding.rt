@@ -34,6 +34,7 @@ pub(crate) fn decide(
     ensures helped { (tree_of pass.old).turns.helped < (tree_of pass.new).turns.helped }
     ensures counted { IsSpentOn account.old.spent account.new.spent (known pass.old) (known pass.new) }
     ensures pool { HasMet 0 0 (known pass.old) (known pass.new) }
+    ensures notes { (tree_of pass.new).notes ≡ (tree_of pass.old).notes }
 {
     finish::<Brand>(space, pass, range, last.base, account);
 }

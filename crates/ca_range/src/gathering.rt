@@ -6,9 +6,10 @@ ghost use Rattle.ca_model.specs.Function.{MayBeAskedForAll};
 ghost use Rattle.ca_node.specs.TreePasses.{tree_of};
 ghost use Rattle.ca_node.specs.TreeView.{Quiet};
 ghost use Rattle.ca_range.specs.Farther.{reach};
-ghost use Rattle.ca_range.specs.Gathering.{HasEnded, IsFurther, IsGathering, IsOver};
+ghost use Rattle.ca_range.specs.Gathering.{EndsUnspent, HasEnded, IsFurther, IsGathering, IsOver};
 ghost use Rattle.ca_range.specs.Meeting.{AreMet};
 ghost use Rattle.ca_range.specs.Snapping.{GoesOn};
+ghost use Rattle.ca_range.specs.Snapshots.{IsInBudget};
 ghost use Rattle.ca_rows.specs.Passes.{sizes, known};
 
 use crate::account::Account;
@@ -48,6 +49,7 @@ pub(crate) fn gather<F: Fn(&[u8]) -> bool>(
     ensures quiet { (tree_of pass.new).ranges.own ≡ Quiet }
     ensures met { AreMet account.new.met.numbers (tree_of pass.new).ranges.unfinished }
     ensures ended { HasEnded F.Fn search.now.sought.now (sizes space.now) search.now.budget account.new.spent result (known pass.old) (known pass.new) }
+    ensures in_budget { IsInBudget search.now.budget account.new.spent result }
 {
     let mut last = first;
     while turns(&account.spent) < u64::from(search.budget) {
@@ -79,6 +81,7 @@ fn go_further<F: Fn(&[u8]) -> bool>(
     ensures further { IsFurther F.Fn search.now.sought.now (sizes space.now) (reach (tree_of pass.old)) search.now.budget account.new.spent result
         (known pass.old) (known pass.new) }
     ensures quiet { IsOver result (tree_of pass.new) }
+    ensures unspent { EndsUnspent result account.old.spent account.new.spent }
 {
     let mut key = Code::new();
     match look(

@@ -10,7 +10,7 @@ ghost use Rattle.ca_node.specs.Told.{IsSettled};
 ghost use Rattle.ca_node.specs.TreePasses.{tree_of};
 ghost use Rattle.ca_node.specs.TreeView.{Note};
 ghost use Rattle.ca_range.specs.Farther.{reach};
-ghost use Rattle.ca_range.specs.Gathering.{IsFurther, IsGatheredNext, IsOver, refused_by};
+ghost use Rattle.ca_range.specs.Gathering.{HasNoRun, IsFurther, IsGatheredNext, IsOver, refused_by};
 ghost use Rattle.ca_range.specs.Meeting.{AreMet};
 ghost use Rattle.ca_range.specs.Snapping.{GoesOn};
 ghost use Rattle.ca_rows.specs.Passes.{IsReading, OnlyReads, sizes, known};
@@ -49,6 +49,7 @@ pub(crate) fn go_to<F: Fn(&[u8]) -> bool>(
     ensures further { (far : ℕ) → far < reach (tree_of pass.old)
         → IsFurther F.Fn search.now.sought.now (sizes space.now) far search.now.budget account.new.spent result (known pass.old) (known pass.new) }
     ensures quiet { IsOver result (tree_of pass.new) }
+    ensures no_run { HasNoRun result }
 {
     match use_of(space, pass, next, account) {
         Use::Free => mark_on(space, pass, from, next, search, account),
@@ -84,6 +85,7 @@ fn follow<F: Fn(&[u8]) -> bool>(
     ensures further { (far budget : ℕ) (spent : Spent) → far < reach (tree_of pass.old)
         → IsFurther F.Fn sought.now (sizes space.now) far budget spent result (known pass.old) (known pass.new) }
     ensures quiet { IsOver result (tree_of pass.new) }
+    ensures no_run { HasNoRun result }
 {
     let _sought = sought;
     let range = Range {
@@ -145,6 +147,7 @@ fn mark_on<F: Fn(&[u8]) -> bool>(
     ensures further { (far : ℕ) → far < reach (tree_of pass.old)
         → IsFurther F.Fn search.now.sought.now (sizes space.now) far search.now.budget account.new.spent result (known pass.old) (known pass.new) }
     ensures quiet { IsOver result (tree_of pass.new) }
+    ensures no_run { HasNoRun result }
 {
     let range = Range {
         owner: pass.number(),

@@ -1,6 +1,7 @@
 //! The attempt to join that marked a base, which is in the way of whoever is to exchange the base.
 ghost use Rattle.std.specs.Prelude.{◌≡◌, ◌<◌, ◌≤◌, ℕ, false, true};
 ghost use Rattle.ca_base.specs.Finding.{IsBaseShown};
+ghost use Rattle.ca_base.specs.Putting.{first_note};
 ghost use Rattle.ca_base.specs.Readiness.{IsReady};
 ghost use Rattle.ca_base.specs.Spending.{IsSpentOn};
 ghost use Rattle.ca_node.specs.JoinSteps.{attempt_of, join_state};
@@ -10,7 +11,7 @@ ghost use Rattle.ca_node.specs.TreePasses.{tree_of};
 ghost use Rattle.ca_node.specs.TreeView.{Note};
 ghost use Rattle.ca_node.specs.Walking.{IsHungOn};
 ghost use Rattle.ca_range.specs.Ahead.{IsAtLast};
-ghost use Rattle.ca_range.specs.Attempts.{HasCarriedOut, HasEndedJoin, HasFoundJoin, HasGivenUp, IsAttemptOn, IsFoundPrepared, IsOnBase, IsProgress, KeepsDecided, helped_by, spent_with};
+ghost use Rattle.ca_range.specs.Attempts.{HasCarriedOut, HasEndedJoin, HasFoundJoin, HasGivenUp, IsAttemptOn, IsFoundPrepared, IsMarkTold, IsOnBase, IsProgress, KeepsDecided, helped_by, spent_with};
 ghost use Rattle.ca_rows.specs.Passes.{OnlyReads, IsReading, KeepsList, sizes, known};
 
 use crate::helped::Helped;
@@ -57,6 +58,7 @@ pub(crate) fn end_join(
     requires at { IsAtLast (sizes space.now) (tree_of pass.old) cursor }
     requires other { HasNone (tree_of pass.old).ranges.own }
     ensures ended { HasEndedJoin space.now cursor.base result pass.old pass.new }
+    ensures marked { IsMarkTold result (first_note (tree_of pass.old).notes).its }
     ensures counted { IsSpentOn spent.old spent.new (known pass.old) (known pass.new) }
 {
     let Some(attempt) = attempt_on(space, pass, cursor.base) else {

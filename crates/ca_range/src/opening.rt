@@ -20,7 +20,7 @@ ghost use Rattle.ca_range.specs.Looking.{IsFirst};
 ghost use Rattle.ca_range.specs.Meeting.{AreMet};
 ghost use Rattle.ca_range.specs.Opening.{begun_at, IsKeptWord, HasNumbered, HasPutFirst, HasWrittenFirst, IsFirstReady, IsNumberOf};
 ghost use Rattle.ca_range.specs.Snapping.{GoesOn, StaysPinned};
-ghost use Rattle.ca_range.specs.Snapshots.{HasSnapped, OnlyRanges};
+ghost use Rattle.ca_range.specs.Snapshots.{HasSnapped, IsInBudget, OnlyRanges};
 ghost use Rattle.ca_base.specs.Spending.{IsSpentOn};
 ghost use Rattle.ca_rows.specs.Calls.{IsNumbered};
 ghost use Rattle.ca_rows.specs.Passes.{IsOn, IsReading, KeepsList, OnlyReads, StillKeepsList, sizes, known, view};
@@ -71,6 +71,7 @@ pub(crate) fn begin_range<F: Fn(&[u8]) -> bool>(
     ensures steps { OnlyRanges (sizes space.now) (tree_of pass.old) (tree_of pass.new) }
     ensures met { AreMet account.new.met.numbers (tree_of pass.new).ranges.unfinished }
     ensures snapped { HasSnapped F.Fn search.now.sought.now (sizes space.now) search.now.budget account.new.spent result (known pass.old) (known pass.new) }
+    ensures in_budget { IsInBudget search.now.budget account.new.spent result }
     ensures counted { IsSpentOn account.old.spent account.new.spent (known pass.old) (known pass.new) }
 {
     let Some(number) = next_number(space, pass) else {
@@ -137,6 +138,7 @@ fn begin_with<F: Fn(&[u8]) -> bool>(
     ensures quiet { (tree_of pass.new).ranges.own ≡ Quiet }
     ensures met { AreMet account.new.met.numbers (tree_of pass.new).ranges.unfinished }
     ensures snapped { HasSnapped F.Fn search.now.sought.now (sizes space.now) search.now.budget account.new.spent result (known pass.old) (known pass.new) }
+    ensures in_budget { IsInBudget search.now.budget account.new.spent result }
 {
     let mark = first_mark(space, pass, first.base, rows.own, search.tuning);
     write_first(space, pass, first.base, rows, &mark, search.sought.hi);

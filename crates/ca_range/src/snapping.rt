@@ -11,7 +11,7 @@ ghost use Rattle.ca_range.specs.Ahead.{IsAtLast};
 ghost use Rattle.ca_range.specs.Filling.{IsInUse, turns_of};
 ghost use Rattle.ca_range.specs.Meeting.{AreMet};
 ghost use Rattle.ca_range.specs.Snapping.{IsRefused, snapped_so};
-ghost use Rattle.ca_range.specs.Snapshots.{HasSnapped, OnlyRanges};
+ghost use Rattle.ca_range.specs.Snapshots.{HasSnapped, IsInBudget, OnlyRanges};
 ghost use Rattle.ca_base.specs.Spending.{IsSpentOn};
 ghost use Rattle.ca_rows.specs.Passes.{sizes, known};
 
@@ -48,6 +48,7 @@ pub fn snapshot<F: Fn(&[u8]) -> bool>(
     ensures steps { OnlyRanges (sizes space.now) (tree_of pass.old) (tree_of pass.new) }
     ensures met { AreMet account.new.met.numbers (tree_of pass.new).ranges.unfinished }
     ensures snapped { HasSnapped F.Fn sought.now (sizes space.now) budget account.new.spent result (known pass.old) (known pass.new) }
+    ensures in_budget { IsInBudget budget account.new.spent result }
     ensures counted { IsSpentOn account.old.spent account.new.spent (known pass.old) (known pass.new) }
 {
     let first = walk_to_first(space, pass, sought.lo);

@@ -117,7 +117,7 @@ caused_as z number budget adds tried r now m m' kept kept' refused e =
 
 -- What was added up is less than the budget, and so are the exchanges that were lost and the
 -- splits.
-unspent : (budget : ℕ) (now : Spent) (m m' : MyTree) → HasSpentInAll now m m' → total now < budget
+pub unspent : (budget : ℕ) (now : Spent) (m m' : MyTree) → HasSpentInAll now m m' → total now < budget
     → IsUnspent budget m m'
 unspent budget now m m' paid room = let none = paid.none in let counted = paid.counted in
     let zero = none.0 in let zero' = none.1 in let zero'' = none.2 in

@@ -1,18 +1,18 @@
 -- A try to join the new base of an update, which is due: what it comes to.
-use Rattle.std.proofs.Common.{◌≡◌, ℕ, ◌+◌, List, Option, None, Some, Err, sym, refl, ap, ◌∙◌, subst, inl, inr, arith}
+use Rattle.std.proofs.Common.{◌≡◌, ℕ, ◌+◌, List, Option, None, Some, sym, refl, ap, ◌∙◌, subst, inl, inr, arith}
 use denote.Ref.{Bor}
 use Rattle.ca_adapt.specs.declared.adapted.Adapted.{Adapted}
 use Rattle.ca_adapt.specs.declared.adapted.Adapted.TheVariants as adapted
 use Rattle.ca_adapt.specs.declared.adapted.Why.{Why}
 use Rattle.ca_adapt.specs.declared.adapted.Why.TheVariants as why
 use Rattle.ca_adapt.specs.Finishing.{IsHungBy}
-use Rattle.ca_adapt.specs.Joins.{HasBegunAt}
 use Rattle.ca_adapt.specs.Trying.{HasLooked, IsFoundUnranged, IsHungUnder, IsJoinOutcome, IsJoinSteps, IsLoneTry, IsSpentTrying, IsWhyNotJoined}
 use Rattle.ca_base.specs.Counting.{losses, HasMet}
 use Rattle.ca_base.specs.Progress.{IsFurther}
 use Rattle.ca_base.specs.Putting.{first_note}
 use Rattle.ca_base.specs.Spending.{RisesBy}
 use Rattle.ca_model.specs.declared.outcome.Spent.{Spent}
+use Rattle.ca_node.specs.JoinSteps.{HasLoadedJoin}
 use Rattle.ca_node.specs.Place.{HasKey, all_keys, left_of, right_of}
 use Rattle.ca_node.specs.Row.{route_key}
 use Rattle.ca_node.specs.Told.{MyTree, IsAnyLink, IsKnown, link_word}
@@ -73,8 +73,9 @@ looked_meets : (z : Sizes) (l : Link) (note : Note) (m m' : MyTree) → HasLooke
 looked_meets z l note m m' h = let led = h.found.led in meets_both m h.between m'
     (ap met_of led.now, ap (λ (x : MyTree). x.0.upper.lost) led.now) (unranged_meets h.sibling h.between m' h.unranged)
 
-unbegun_meets : (route : ℕ) (w : Why) (m m' : MyTree) → HasBegunAt route (Err w) m m' → MeetsNone m m'
-unbegun_meets route w m m' h = (ap met_of h.1.now, ap (λ (x : MyTree). x.0.upper.lost) h.1.now)
+-- A join word was loaded, and nothing was tried.
+loaded_meets : (route word : ℕ) (m n m' : MyTree) → HasLoadedJoin route m word n → m' ≡ n → MeetsNone m m'
+loaded_meets route word m n m' h same = (ap met_of (same ∙ h.now), ap (λ (x : MyTree). x.0.upper.lost) (same ∙ h.now))
 
 -- Nothing had been met since the update until a moment, and nothing was from then on; or so much of the pool.
 module _ (m m' : MyTree) (met : met_of m ≡ m.0.upper.renewal.met) (lost : m.0.upper.lost ≡ m.0.upper.renewal.lost)
@@ -102,20 +103,20 @@ module _ (m m' : MyTree) (met : met_of m ≡ m.0.upper.renewal.met) (lost : m.0.
       (meets_both m x.1 m' (ap met_of found.led.now, ap (λ (x : MyTree). x.0.upper.lost) found.led.now)
       (ap met_of watched.now, ap (λ (x : MyTree). x.0.upper.lost) watched.now))
   unjoined_met z l note why.Taken (some, inr x) = none_since
-      (meets_both m x.0 m' (looked_meets z l note m x.0 x.1) (unbegun_meets _ why.Taken x.0 m' x.2))
+      (meets_both m x.0 m' (looked_meets z l note m x.0 x.1) (loaded_meets _ x.2.0 x.0 x.2.1 m' x.2.2 x.2.3.1))
   unjoined_met z l note why.Lost h = pool_since 0 0 h.1.2
-  unjoined_met z l note why.NoRow h = pool_since 1 0 h.1.3
+  unjoined_met z l note why.NoRow h = pool_since 1 0 h.1.2
   unjoined_met z l note why.Worn (some, (then, looked, inl begun)) = inr (none_since
-      (meets_both m then m' (looked_meets z l note m then looked) (unbegun_meets _ why.Worn then m' begun)))
-  unjoined_met z l note why.Worn (some, (then, looked, inr left)) = inl (pool_since 0 1 left.1)
+      (meets_both m then m' (looked_meets z l note m then looked) (loaded_meets _ begun.0 then begun.1 m' begun.2 begun.3.2)))
+  unjoined_met z l note why.Worn (some, (then, looked, inr left)) = inl (pool_since 0 1 left.0)
 
   tried_met : (z : Sizes) (l : Link) (note : Note) (a : Adapted) → IsJoinOutcome z l note a m m' → IsCauseMet a (met_of m') m'.0.upper
   tried_met z l note adapted.Stay h = absurd h
   tried_met z l note adapted.Split h = absurd h
   tried_met z l note adapted.Joined h = (
-    pool_since 0 0 h.1.4,
+    pool_since 0 0 h.1.2,
     (let pool = ap (λ (x : Met). x.lost) met in let then_pool = ap (λ (r : Renewal). r.met.lost) same in
-        let then_links = ap (λ (r : Renewal). r.lost) same in let none = h.1.5 in omega (arith, lost)),
+        let then_links = ap (λ (r : Renewal). r.lost) same in let none = h.1.3 in omega (arith, lost)),
   )
   tried_met z l note (adapted.NotSplit w) h = absurd h
   tried_met z l note (adapted.NotJoined w) h = unjoined_met z l note w h
@@ -198,16 +199,16 @@ module _ (z : Sizes) (key : Bor (List ℕ)) (placed : ℕ) (k m m' : MyTree) (cu
   join_cut = inl (ap (λ (u : TreeView). u.cuts) steps.only ∙ ap (λ (x : MyTree). x.0.upper.cuts) w.now)
 
   -- A pass that is alone loses no exchange of a link.
-  pub join_won : IsLoneTry a m.0.upper m'.0.upper → (m'.0.upper.lost ≡ k.0.upper.lost) × (m'.0.upper.last.row ≡ m'.0.upper.renewal.new.row)
-  join_won alone = (alone.won ∙ ap (λ (x : MyTree). x.0.upper.lost) w.now, row_is)
+  pub join_won : IsLoneTry a m m' → (m'.0.upper.lost ≡ k.0.upper.lost) × (m'.0.upper.last.row ≡ m'.0.upper.renewal.new.row)
+  join_won alone = (alone.by.won ∙ ap (λ (x : MyTree). x.0.upper.lost) w.now, row_is)
 
   -- Its tree grows no more than by a split.
-  pub join_grows : IsLoneTry a m.0.upper m'.0.upper → Grows 1 2 1 k.0.upper m'.0.upper
+  pub join_grows : IsLoneTry a m m' → Grows 1 2 1 k.0.upper m'.0.upper
   join_grows alone = let split = ap (λ (u : TreeView). u.splits) steps.only ∙ ap (λ (x : MyTree). x.0.upper.splits) w.now in
       let up = ap (λ (x : MyTree). x.0.upper.inventory) w.now in
       subst (λ (i : Inventory). Grows 1 2 1 (record k.0.upper { inventory = i }) m'.0.upper) up record {
         splits_are = omega (arith, split);
-        rows_are = let r = alone.rows_are in omega arith;
-        bases_are = let b = alone.bases_are in omega arith;
-        most_are = let b = alone.most_are in omega arith;
+        rows_are = let r = alone.by.rows_are in omega arith;
+        bases_are = let b = alone.by.bases_are in omega arith;
+        most_are = let b = alone.by.most_are in omega arith;
       }

@@ -1,5 +1,5 @@
 -- What an attempt comes to that helped another pass's range in place of its edit, or gave up or carried out an attempt to join.
-use Rattle.std.proofs.Common.{◌≡◌, ◌≢◌, ℕ, ◌+◌, true, false, List, Option, Err, refl, ap, inl, inr, arith}
+use Rattle.std.proofs.Common.{◌≡◌, ◌≢◌, ℕ, ◌+◌, true, false, List, Option, Result, Ok, Err, OnOk, refl, ap, inl, inr, arith}
 use Rattle.ca_adapt.specs.declared.tuning.Tuning.{Tuning}
 use Rattle.ca_base.specs.declared.stop.Exchange.TheVariants as exchange
 use Rattle.ca_base.specs.Progress.{IsFurther}
@@ -15,6 +15,7 @@ use Rattle.ca_range.specs.declared.helped.Helped.{Helped}
 use Rattle.ca_range.specs.declared.helped.Helped.TheVariants as helped
 use Rattle.ca_replace.specs.declared.adapting.Adapting.{Adapting}
 use Rattle.ca_replace.specs.declared.adapting.Course.{Course}
+use Rattle.ca_replace.specs.declared.attempting.Halt.{Halt}
 use Rattle.ca_replace.specs.declared.attempting.Halt.TheVariants as halt
 use Rattle.ca_replace.specs.Adapting.{HasLostSince}
 use Rattle.ca_replace.specs.Attempting.{HasHalted, IsPaid}
@@ -23,6 +24,16 @@ use Rattle.ca_replace.specs.Turning.{HasEdited, course_helped, helped_to, noted_
 use Rattle.ca_rows.specs.declared.sizes.Sizes.{Sizes}
 use Rattle.ca_rows.specs.declared.space.Pass.{Pass}
 use Rattle.ca_rows.specs.declared.space.Space.{Space}
+
+-- What holds, holds where there is a value.
+pub on_ok_too : {T E P : Type 0} (r : Result T E) → P → OnOk r P
+on_ok_too (Ok value) p = p
+on_ok_too (Err error) p = tt
+
+-- What an attempt halted for; one that didn't, for any.
+abbrev pub halt_of : Result (Unit {0}) Halt → Halt
+halt_of (Ok done) = halt.Helped
+halt_of (Err halted) = halted
 
 -- It isn't for want of levels.
 pub help_not_deep : (how : Helped) → helped_to how ≢ halt.Deep

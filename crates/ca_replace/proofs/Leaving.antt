@@ -1,5 +1,5 @@
 -- What a call that read a range tells once its pass rests.
-use Rattle.std.proofs.Common.{◌≡◌, ◌≤◌, Vec, sym, ap, ◌∙◌, subst, arith}
+use Rattle.std.proofs.Common.{◌≡◌, ◌≤◌, ℕ, Vec, sym, ap, ◌∙◌, subst, arith}
 use Rattle.std.specs.Global.{Global}
 use Rattle.ca_base.specs.Progress.{IsRefused}
 use Rattle.ca_model.specs.Answer.{IfDone, IfRefused}
@@ -12,7 +12,7 @@ use Rattle.ca_model.specs.declared.outcome.Outcome.TheVariants as outcome
 use Rattle.ca_node.specs.Told.{MyTree}
 use Rattle.ca_node.specs.TreeView.{TreeView, unpinned}
 use Rattle.ca_replace.specs.Attempting.{HasDoneSuch}
-use Rattle.ca_replace.specs.Causes.{EndsAtLag, IfCaused, KeepsFew}
+use Rattle.ca_replace.specs.Causes.{EndsAtLag, IfCaused, IsUnspent, KeepsFew, WasUnspent}
 use Rattle.ca_replace.specs.Leaving.{HasLeft, IsLeftAlone}
 use Rattle.ca_replace.proofs.Causing.{few_from}
 use Rattle.ca_rows.specs.declared.kept.Kept.{Kept}
@@ -84,3 +84,11 @@ module _ {T : Type 0} (k m m' : MyTree) (kept kept' : Vec Kept Global) where
   lags_behind (outcome.Full s) l a seen h = lags_alone k m m' kept kept' a h
   lags_behind (outcome.Deep s) l a seen h = lags_alone k m m' kept kept' a h
   lags_behind (outcome.Worn s) l a seen h = lags_alone k m m' kept kept' a h
+
+  pub unspent_behind : (budget : ℕ) (o : Outcome T) → Left o → IfDone o (λ _. IsUnspent budget k m) → IfDone o (λ _. WasUnspent budget k m')
+  unspent_behind budget (outcome.Done x) l h = let left = l.left in let lost = ap (λ (u : TreeView). u.lost) l.upper in
+      let helped = ap (λ (u : TreeView). u.turns.helped) l.upper in let passed = ap (λ (u : TreeView). u.turns.passed) l.upper in omega (arith, h)
+  unspent_behind budget (outcome.Busy s) l h = tt
+  unspent_behind budget (outcome.Full s) l h = tt
+  unspent_behind budget (outcome.Deep s) l h = tt
+  unspent_behind budget (outcome.Worn s) l h = tt

@@ -6,7 +6,7 @@ use Rattle.ca_base.proofs.Counts.{met_both}
 use Rattle.ca_base.specs.Counting.{HasMet, losses}
 use Rattle.ca_base.specs.Progress.{IsFurther}
 use Rattle.ca_model.specs.Event.{Event}
-use Rattle.ca_model.specs.Answer.{IfRefused}
+use Rattle.ca_model.specs.Answer.{IfDone, IfRefused}
 use Rattle.ca_model.specs.Known.{Counts, one_more}
 use Rattle.ca_model.specs.declared.outcome.Cause.{Cause}
 use Rattle.ca_model.specs.declared.outcome.Cause.TheVariants as cause
@@ -167,6 +167,16 @@ if_refused_by {T} P why o is h = subst (λ (x : Outcome T). IfRefused x P) (sym 
     by (cause.Full full) h = h
     by (cause.Deep level) h = h
     by (cause.Worn counter) h = h
+
+-- A refusal isn't done.
+pub if_not_done : {T : Type 0} (P : T → Type 0) (why : Cause) (o : Outcome T) → o ≡ outcome_by why → IfDone o P
+if_not_done {T} P why o is = subst (λ (x : Outcome T). IfDone x P) (sym is) (by why)
+  where
+    by : (why : Cause) → IfDone {T = T} (outcome_by why) P
+    by (cause.Busy spent) = tt
+    by (cause.Full full) = tt
+    by (cause.Deep level) = tt
+    by (cause.Worn counter) = tt
 
 -- It pinned once, and is pinned so still behind an attempt, and once it unpinned.
 pub pinned_by : (told moment : ℕ) (k m n : MyTree) → m ≡ announced told moment k → n.0.pin ≡ m.0.pin → HasPinned k n

@@ -147,7 +147,8 @@ HasMetPool empty worn r now = (now.empty ≡ r.met.empty + empty) × (now.worn �
 abbrev pub HasLostNothing : Renewal → Met → ℕ → Type 0
 HasLostNothing r now lost = now.lost + lost ≡ r.met.lost + r.lost
 
--- By why the base was not joined this was met since then. An exchange that is lost with a join may be that of a join word, which isn't counted.
+-- By why the base was not joined this was met since then. An exchange that is lost may be the one by which an attempt
+-- is secured, which isn't counted.
 abbrev pub IsMetUnjoined : Why → Renewal → Met → ℕ → Type 0
 IsMetUnjoined why.Root r now lost = HasMetNothing r now lost
 IsMetUnjoined why.OneObject r now lost = Unit {0}

@@ -57,6 +57,11 @@ HasBegun rows begun kept m m' = ((begun ≡ kept) × (m'.0.empty ≡ m.0.empty +
 abbrev pub IsUnspent : ℕ → MyTree → MyTree → Type 0
 IsUnspent budget m m' = min 4294967295 (losses m' - losses m) + min 4294967295 (helps m' - helps m) + min 4294967295 (passes m' - passes m) < budget
 
+-- So it was as the pass unpinned last, whatever was lost as rows were given back then.
+abbrev pub WasUnspent : ℕ → MyTree → MyTree → Type 0
+WasUnspent budget m m' = min 4294967295 (m'.0.pin.left.lost + m'.0.upper.lost - losses m) + min 4294967295 (helps m' - helps m)
+    + min 4294967295 (passes m' - passes m) < budget
+
 -- A call that may add this key, if any, finds no room in this base, given the map: no object of the map has the key, it is led to the base, which stands
 -- at the last level, and of the keys that are led there the map has as many objects as a base may have.
 abbrev pub IsFull : Sizes → Option (List ℕ) → Note → StoreMap → Type 0

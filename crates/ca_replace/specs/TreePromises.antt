@@ -2,12 +2,12 @@
 use Rattle.std.specs.Prelude.{◌≡◌, ℕ, true}
 use Rattle.std.specs.declared.option.Option.TheVariants.{None, Some}
 use Rattle.ca_model.specs.declared.outcome.Outcome.{Outcome}
-use Rattle.ca_model.specs.Answer.{IfRefused}
+use Rattle.ca_model.specs.Answer.{IfDone, IfRefused}
 use Rattle.ca_model.specs.Promises.{Promises}
 use Rattle.ca_model.specs.Runs.{IsOpen}
 use Rattle.ca_replace.specs.Adapting.{is_put}
 use Rattle.ca_replace.specs.Called.{HasTold, StaysStore}
-use Rattle.ca_replace.specs.Causes.{IsSparing}
+use Rattle.ca_replace.specs.Causes.{IsSparing, IsUnspent, WasUnspent}
 use Rattle.ca_replace.specs.Growing.{IsUntouched}
 use Rattle.ca_replace.specs.Ranging.{HasRangeCause}
 use Rattle.ca_replace.specs.Resting.{StoreAndRun, StoreView, knows}
@@ -27,6 +27,13 @@ pub record HasRead {T : Type 0} (budget : ℕ) (s t : StoreView) (o : Outcome T)
   pub unchanged : MakesNoUpdate s t
   -- why it was refused
   pub caused : HasRangeCause budget s t o
+
+-- Where a call with this budget was done the budget wasn't spent, as its pass unpinned, and of one that opened a run as it came to it.
+abbrev pub WasInBudget : {T : Type 0} → ℕ → StoreView → StoreView → Outcome T → Type 0
+WasInBudget budget s t o = IfDone o (λ _. WasUnspent budget s.seat.me t.seat.me)
+
+abbrev pub OpensInBudget : {T : Type 0} → ℕ → StoreView → StoreView → Outcome T → Type 0
+OpensInBudget budget s t o = IfDone o (λ _. IsUnspent budget s.seat.me t.seat.me)
 
 -- An object of the open run was read: the pass keeps the same rows, and knows what it knew.
 pub record HasHandedOn (s t : StoreView) : Type 0 where
@@ -49,9 +56,10 @@ tree_promises = record {
   remove = λ budget s t key outcome old. HasTold (λ was. was) None budget s.store t.store outcome;
   remove_if = λ g f budget s t key outcome old. HasTold is_put None budget s.store t.store outcome;
   change = λ g f budget s t key outcome old. HasTold is_put None budget s.store t.store outcome;
-  above = λ budget s t lo outcome into. HasRead budget s.store t.store outcome × IsSparing s.store t.store;
-  below = λ budget s t hi outcome into. HasRead budget s.store t.store outcome × IsSparing s.store t.store;
-  range = λ budget s t lo hi want outcome. HasRead budget s.store t.store outcome × IfRefused outcome (λ _. IsSparing s.store t.store);
+  above = λ budget s t lo outcome into. HasRead budget s.store t.store outcome × IsSparing s.store t.store × WasInBudget budget s.store t.store outcome;
+  below = λ budget s t hi outcome into. HasRead budget s.store t.store outcome × IsSparing s.store t.store × WasInBudget budget s.store t.store outcome;
+  range = λ budget s t lo hi want outcome. HasRead budget s.store t.store outcome × IfRefused outcome (λ _. IsSparing s.store t.store)
+      × OpensInBudget budget s.store t.store outcome;
   found = λ s t. HasHandedOn s.store t.store;
   close_run = λ s t. HasEnded s t;
 }

@@ -85,8 +85,8 @@ pub(crate) fn refill(
     Ok(())
 }
 
-// Gives back rows that a pass keeps between two calls.
-fn give_back_kept(tree: &Tree, pass: &mut TreePass) -> Reclaimed
+/// Gives back rows that a pass keeps between two calls.
+pub(crate) fn give_back_kept(tree: &Tree, pass: &mut TreePass) -> Reclaimed
     requires resting { IsAtRest tree.now.space pass.old }
     ensures frame { StaysAtRest tree.now.space pass.old pass.new }
     ensures given { HasGiven (sizes tree.now.space).passes pass.old.number result (known pass.old) (known pass.new) pass.new.kept.rows }

@@ -102,6 +102,7 @@ fn take_run(
     ensures met { IfOk result (λ _. HasMet 0 0 (known pass.old) (known pass.new)) }
     ensures counted { IsPaid spent.old spent.new (known pass.old) (known pass.new) }
     ensures missed { HasMissedBy budget spent.new result (known pass.old) (known pass.new) }
+    ensures in_budget { IfOk result (λ _. total spent.new < budget) }
 {
     let counts = |_object: &[u8]| true;
     let (lo, hi) = edges;

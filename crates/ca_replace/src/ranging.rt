@@ -9,7 +9,7 @@ ghost use Rattle.ca_node.specs.States.{IsAtPin};
 ghost use Rattle.ca_node.specs.TreePasses.{tree_of};
 ghost use Rattle.ca_node.specs.TreeView.{TreeView};
 ghost use Rattle.ca_replace.specs.Attempting.{IsPaid, HasDoneSuch, total};
-ghost use Rattle.ca_replace.specs.Causes.{EndsAtLag, HasPinned, IfCaused, KeepsFew};
+ghost use Rattle.ca_replace.specs.Causes.{EndsAtLag, HasPinned, IfCaused, IsUnspent, KeepsFew};
 ghost use Rattle.ca_replace.specs.Ranging.{GetsToWork, HasMissedBy, HasRanged, HasRangedTo, IsAtWork, IsRangeCaused, cause_of};
 ghost use Rattle.ca_replace.specs.Resting.{IsAtRest, StaysAtRest};
 ghost use Rattle.ca_replace.specs.declared.missing.Miss.TheVariants.{Again as IsAgain, NoRow as IsNoRow};
@@ -56,7 +56,8 @@ pub(crate) trait Look {
         ensures tried { HasRangedTo (λ answer. tells self.now (sizes tree.now.space) answer left.new) (sizes tree.now.space) result (tree_of pass.old)
             (tree_of pass.new) }
         ensures counted { IsPaid spent.old spent.new (known pass.old) (known pass.new) }
-        ensures missed { HasMissedBy budget spent.new result (known pass.old) (known pass.new) };
+        ensures missed { HasMissedBy budget spent.new result (known pass.old) (known pass.new) }
+        ensures in_budget { IfOk result (λ _. total spent.new < budget) };
 }
 
 /// Makes a call that reads a range. Where it is done the pass is pinned; where it is refused it rests.
@@ -82,6 +83,7 @@ pub(crate) fn read_range<L: Look>(
     ensures lags { EndsAtLag (known pass.old) (known pass.new) }
     ensures looks { IfDone result (λ _. (view pass.old).pin.looks ≤ (view pass.new).pin.looks) }
     ensures all_seen { IfDone result (λ _. (view pass.new).pin.lags ≡ (view pass.old).pin.lags) }
+    ensures unspent { IfDone result (λ _. IsUnspent order.now.budget (known pass.old) (known pass.new)) }
 {
     match read_or_refuse(tree, pass, order, left) {
         Ok(answer) => Outcome::Done(answer),
@@ -110,6 +112,7 @@ pub(crate) fn read_or_refuse<L: Look>(
     ensures lags { EndsAtLag (known pass.old) (known pass.new) }
     ensures looks { IfOk result (λ _. (view pass.old).pin.looks ≤ (view pass.new).pin.looks) }
     ensures all_seen { IfOk result (λ _. (view pass.new).pin.lags ≡ (view pass.old).pin.lags) }
+    ensures unspent { IfOk result (λ _. IsUnspent order.now.budget (known pass.old) (known pass.new)) }
 {
     let mut spent = Spent {
         lost: 0,
@@ -146,6 +149,7 @@ fn attempts<L: Look>(
     ensures lags { EndsAtLag (known pass.old) (known pass.new) }
     ensures looks { IfOk result (λ _. (view pass.old).pin.looks ≤ (view pass.new).pin.looks) }
     ensures all_seen { IfOk result (λ _. (view pass.new).pin.lags ≡ (view pass.old).pin.lags) }
+    ensures unspent { IfOk result (λ _. IsUnspent order.now.budget (known pass.old) (known pass.new)) }
 {
     loop {
         let kept = pass.kept();
@@ -198,6 +202,7 @@ fn tries<L: Look>(
         (tree_of pass.new) }
     ensures counted { IsPaid spent.old spent.new (known pass.old) (known pass.new) }
     ensures missed { HasMissedBy order.now.budget spent.new result (known pass.old) (known pass.new) }
+    ensures in_budget { IfOk result (λ _. total spent.new < order.now.budget) }
     ensures spent_all { result ≡ Err IsAgain → order.now.budget ≤ total spent.new }
     ensures pinned { HasPinned (known pass.old) (known pass.new) }
 {
@@ -233,6 +238,7 @@ fn try_once<L: Look>(
         (tree_of pass.new) }
     ensures counted { IsPaid spent.old spent.new (known pass.old) (known pass.new) }
     ensures missed { HasMissedBy order.now.budget spent.new result (known pass.old) (known pass.new) }
+    ensures in_budget { IfOk result (λ _. total spent.new < order.now.budget) }
     ensures pinned { HasPinned (known pass.old) (known pass.new) }
 {
     tree.space.pin(pass);

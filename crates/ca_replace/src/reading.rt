@@ -7,7 +7,7 @@ ghost use Rattle.ca_model.specs.Function.{MayBeAskedForAll};
 ghost use Rattle.ca_model.specs.Known.{one_more};
 ghost use Rattle.ca_node.specs.TreePasses.{tree_of};
 ghost use Rattle.ca_replace.specs.Attempting.{HasDoneSuch};
-ghost use Rattle.ca_replace.specs.Causes.{EndsAtLag, IfCaused, KeepsFew};
+ghost use Rattle.ca_replace.specs.Causes.{EndsAtLag, IfCaused, IsUnspent, KeepsFew, WasUnspent};
 ghost use Rattle.ca_replace.specs.Leaving.{HasLeft, IsLeftAlone};
 ghost use Rattle.ca_replace.specs.Ranging.{GetsToWork, IsAtWork, IsRangeCaused};
 ghost use Rattle.ca_replace.specs.Resting.{IsAtRest, StaysAtRest};
@@ -45,6 +45,7 @@ pub(crate) fn above(
         (known pass.new) pass.new.kept.rows) }
     ensures few { KeepsFew (known pass.old) (known pass.new) pass.new.kept.rows }
     ensures lags { EndsAtLag (known pass.old) (known pass.new) }
+    ensures unspent { IfDone result (λ _. WasUnspent budget (known pass.old) (known pass.new)) }
 {
     let what = &AboveCall { lo };
     let order = Order { what, budget };
@@ -75,6 +76,7 @@ pub(crate) fn below(
         (known pass.new) pass.new.kept.rows) }
     ensures few { KeepsFew (known pass.old) (known pass.new) pass.new.kept.rows }
     ensures lags { EndsAtLag (known pass.old) (known pass.new) }
+    ensures unspent { IfDone result (λ _. WasUnspent budget (known pass.old) (known pass.new)) }
 {
     let what = &BelowCall { hi };
     let order = Order { what, budget };
@@ -107,6 +109,7 @@ pub(crate) fn range<F: Fn(&[u8]) -> bool>(
     ensures few { IfErr result (λ _. KeepsFew (known pass.old) (known pass.new) pass.new.kept.rows) }
     ensures lags { EndsAtLag (known pass.old) (known pass.new) }
     ensures all_seen { IfOk result (λ _. (view pass.new).pin.lags ≡ (view pass.old).pin.lags) }
+    ensures unspent { IfOk result (λ _. IsUnspent budget (known pass.old) (known pass.new)) }
 {
     read_or_refuse(tree, pass, &Order { what, budget }, run)
 }

@@ -2,7 +2,7 @@
 ghost use Rattle.std.specs.Prelude.{◌≡◌, ◌≤◌, None, length, min, pos, vec_len};
 ghost use Rattle.ca_adapt.specs.declared.adapted.Adapted.TheVariants.{Stay as IsStay};
 ghost use Rattle.ca_replace.specs.Called.{StaysStore};
-ghost use Rattle.ca_replace.specs.Causes.{IsSparing};
+ghost use Rattle.ca_replace.specs.Causes.{HasGiven, IsSparing};
 ghost use Rattle.ca_replace.specs.Growing.{IsUntouched};
 ghost use Rattle.ca_replace.specs.Resting.{IsResting, knows};
 ghost use Rattle.ca_replace.specs.Seen.{store_of};
@@ -11,7 +11,7 @@ ghost use Rattle.ca_rows.specs.Passes.{sizes};
 use crate::adapting::Last;
 use crate::calls::{Order, call, empty_if_refused};
 use crate::changing::ChangeCall;
-use crate::giving::keep_few;
+use crate::giving::{give_back_kept, keep_few};
 use crate::looking::look_up;
 use crate::opened::OpenRun;
 use crate::puts::{PutCall, PutNewCall};
@@ -26,6 +26,7 @@ use ca_base::Keyed;
 use ca_model::{Changed, Code, Edge, OrderedStore, Outcome};
 use ca_node::{Front, Link, Spot, TreePass, adapted, front, learn, load_link, walk};
 use ca_range::Sought;
+use ca_rows::Reclaimed;
 use std::alloc::AllocError;
 use std::marker::Model;
 
@@ -118,6 +119,19 @@ impl TreeStore<'_> {
         ensures { result ≡ vec_len self.now.store.kept }
     {
         self.pass.kept()
+    }
+
+    /// Gives back the rows that the pass keeps, as far as no other pass can be reading them, and answers what came of it. Nothing else changes.
+    pub fn give_back(&mut self) -> Reclaimed
+        requires closed { (knows self.old).run ≡ None }
+        ensures frame { StaysStore self.old.store self.new.store }
+        ensures last { self.new.store.last ≡ self.old.store.last }
+        ensures upper { self.new.store.seat.me.0.upper ≡ self.old.store.seat.me.0.upper }
+        ensures same { knows self.new ≡ knows self.old }
+        ensures given { HasGiven self.old.store.z.passes self.old.store.number result self.old.store.seat.me self.new.store.seat.me
+            self.new.store.kept }
+    {
+        give_back_kept(self.tree, &mut self.pass)
     }
 
     /// How many splits and how many joins the pass carried out, each up to the last number that 64 bits hold.

@@ -175,6 +175,7 @@ pub(crate) fn snap<F: Fn(&[u8]) -> bool>(
     ensures met { IfOk result (λ _. HasMet 0 0 (known pass.old) (known pass.new)) }
     ensures counted { IsPaid spent.old spent.new (known pass.old) (known pass.new) }
     ensures missed { HasMissedBy budget spent.new result (known pass.old) (known pass.new) }
+    ensures in_budget { IfOk result (λ _. total spent.new < budget) }
 {
     let mut account = Account::new();
     account.spent = *spent;

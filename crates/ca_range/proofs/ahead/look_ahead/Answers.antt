@@ -2,11 +2,12 @@ use Rattle.std.proofs.Common.{◌≡◌, ◌≤◌, ℕ, List, Option, Some, tru
 use Rattle.ca_model.specs.Edges.{Unbounded, Excluded}
 use Rattle.ca_base.specs.Counting.{losses}
 use Rattle.ca_base.specs.Putting.{first_note}
-use Rattle.ca_node.specs.Row.{mark_bound, route_key}
+use Rattle.ca_node.specs.Row.{mark_bound, route_key, IsMarkedBy}
 use Rattle.ca_node.specs.Told.{MyTree, IsShownWord}
 use Rattle.ca_node.specs.TreeView.{Note}
 use Rattle.ca_node.specs.Walking.{IsHighRoute}
 use Rattle.ca_range.specs.Ahead.{GoesBeyond, IsAtMarked, IsWhole}
+use Rattle.ca_range.specs.Farther.{reach, reach_to}
 use Rattle.ca_range.specs.Meeting.{active_of}
 use Rattle.ca_range.specs.Reaching.{IsBorderShown, reaches_by}
 use Rattle.ca_range.specs.Staying.{OnlySteps}
@@ -23,7 +24,12 @@ pub returns-then-not-is_active-clause-ahead : goal.returns-then-not-is_active-cl
 returns-then-not-is_active-clause-ahead c = let w = c.watch.ensures.watched in let at = c.requires.at in
     let m = c.args.pass.now.seat.me in let m' = c.watch.new.pass.seat.me in let range = c.args.range in
     let off : ¬ (active_of w.0 ≡ Some range.number) = λ on. let no : false ≡ true = sym c.if-not-is_active.true ∙ (c.is_active.ensures w.0 w.1).1 on in cc in
-    (over_now range m m' w.0 (first_note m.0.upper.notes) w.2 at.at.shown.noted at.marked off, over_counted range m m' w.0 w.2 c.requires.other.2 off)
+    let notes = ap (λ (x : MyTree). first_note x.0.upper.notes) w.2.now in record {
+      over = over_now range m m' w.0 (first_note m.0.upper.notes) w.2 at.at.shown.noted at.marked off;
+      counted = over_counted range m m' w.0 w.2 c.requires.other.2 off;
+      marked = subst (λ (n : Note). IsMarkedBy n.its range.owner range.number) (sym notes) at.marked;
+      far = let same = ap (λ (n : Note). reach_to n.place.span.high) notes in omega arith;
+    }
 
 pub returns-in_default-clause-steps : goal.returns-in_default-clause-steps
 returns-in_default-clause-steps c = let w = c.watch.ensures.watched in
@@ -46,6 +52,7 @@ returns-in_default-clause-ahead c = let w = c.watch.ensures.watched in let z = c
         reaches = ap (reaches_by b.0.its) (ap (λ (n : Note). n.place.span.high) notes ∙ open_end);
         small = let a = is_active w.0 c.args.range.number on in let fits = w.3 in omega arith;
       },
+      let same = ap (λ (n : Note). reach_to n.place.span.high) notes in omega arith,
     )
 
 pub copy_key-requires-clause-shown : goal.copy_key-requires-clause-shown
@@ -112,7 +119,8 @@ returns-then-reaches-clause-ahead c = let w = c.watch.ensures.watched in let z =
     let notes = ap (λ (x : MyTree). first_note x.0.upper.notes) w.2.now in
     let reached : reaches_by b.0.its (Excluded (route_key high.0)) ≡ true = subst (λ (k : List ℕ). reaches_by b.0.its (Excluded k) ≡ true) key
     (c.reaches.ensures.reaches b.0 (subst (λ (x : MyTree × ℕ). IsBorderShown x.0.0.upper x.1 b.0) (λ i. (sym read i, sym is i)) b.1) c.if-reaches.true) in
-    subst (λ (x : MyTree). IsAtMarked z x.0.upper range left × IsWhole x.0.upper range) (sym (c.reaches.ensures.frame.still ∙ read)) (
+    subst (λ (x : MyTree). IsAtMarked z x.0.upper range left × IsWhole x.0.upper range × (reach m.0.upper ≤ reach x.0.upper))
+    (sym (c.reaches.ensures.frame.still ∙ read)) (
       at_now z range left m m1 w.0 w.2 sizes at on,
       record {
         met = met_now z range left m m1 w.0 w.2 sizes at on c.requires.other.2;
@@ -122,6 +130,7 @@ returns-then-reaches-clause-ahead c = let w = c.watch.ensures.watched in let z =
         reaches = ap (reaches_by b.0.its) (ap (λ (n : Note). n.place.span.high) notes ∙ high.2) ∙ reached;
         small = let a = is_active w.0 range.number on in let fits = w.3 in omega arith;
       },
+      let same = ap (λ (n : Note). reach_to n.place.span.high) notes in omega arith,
     )
 
 pub returns-clause-steps : goal.returns-clause-steps

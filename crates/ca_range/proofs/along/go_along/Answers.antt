@@ -35,11 +35,17 @@ returns-in-Over-clause-steps c = steps_both c.args.pass.now.seat.me.0.upper c.lo
     c.loop-left.invariant.steps c.look_ahead.ensures.steps
 
 pub returns-in-Over-clause-reached : goal.returns-in-Over-clause-reached
-returns-in-Over-clause-reached c = let a = c.in-Over.ensures.ahead in (
-  a.0,
-  counted_both c.args.range c.args.pass.now.seat.me.0.upper c.loop-left.pass.seat.me.0.upper c.look_ahead.new.pass.seat.me.0.upper
-      c.loop-left.invariant.steps c.look_ahead.ensures.steps.helped a.1,
-)
+returns-in-Over-clause-reached c = let a = c.in-Over.ensures.ahead in record {
+  over = a.over;
+  counted = counted_both c.args.range c.args.pass.now.seat.me.0.upper c.loop-left.pass.seat.me.0.upper c.look_ahead.new.pass.seat.me.0.upper
+      c.loop-left.invariant.steps c.look_ahead.ensures.steps.helped a.counted;
+  marked = a.marked;
+  far = let first = c.loop-left.invariant.far in let more = a.far in omega arith;
+}
+
+pub returns-in-Whole-clause-reached : goal.returns-in-Whole-clause-reached
+returns-in-Whole-clause-reached c = let a = c.in-Whole.ensures.ahead in
+    (a.0, a.1, let first = c.loop-left.invariant.far in let more = a.2 in omega arith)
 
 pub returns-in-Over-clause-counted : goal.returns-in-Over-clause-counted
 returns-in-Over-clause-counted c = on_both c.args.account.now.spent c.loop-left.account.spent c.look_ahead.new.account.spent c.args.pass.now.seat.me

@@ -1,6 +1,7 @@
 use Rattle.std.proofs.Common.{sym, subst, arith}
 use Rattle.ca_base.proofs.Counts.{met_both}
 use Rattle.ca_range.specs.Meeting.{AreMet}
+use Rattle.ca_range.proofs.GoingOn.{in_budget}
 use Rattle.ca_range.proofs.OwnSteps.{ended_on, goes_both, goes_none, goes_over, number_on, ready_on}
 use Rattle.ca_range.proofs.Ranking.{far_inside}
 use Rattle.ca_range.proofs.gathering.gather.Goals as goal
@@ -46,3 +47,7 @@ returns-clause-goes g c = let e = c.give_up.ensures in let p = c.loop-pass.pass 
 
 pub returns-clause-met : goal.returns-clause-met
 returns-clause-met g c = subst (AreMet c.loop-pass.account.met.numbers) (sym c.give_up.ensures.unfinished) c.loop-pass.invariant.met
+
+pub returns-in-Ended-clause-in_budget : goal.returns-in-Ended-clause-in_budget
+returns-in-Ended-clause-in_budget g c = in_budget c.in-Ended.snapped c.args.search.now.budget c.loop-pass.account.spent c.go_further.new.account.spent
+    (let room = c.loop-pass-test.true in let all = c.turns.ensures in omega arith) c.in-Ended.ensures.unspent

@@ -1,4 +1,4 @@
-use Rattle.std.proofs.Common.{◌<◌, sym, ap, ◌∙◌, subst, arith}
+use Rattle.std.proofs.Common.{◌<◌, sym, refl, ap, ◌∙◌, subst, arith}
 use Rattle.ca_base.specs.Counting.{losses}
 use Rattle.ca_base.proofs.Counts.{met_both}
 use Rattle.ca_base.specs.Putting.{first_note}
@@ -9,7 +9,7 @@ use Rattle.ca_range.specs.Gathering.{IsEnough, IsGathering}
 use Rattle.ca_range.specs.Looking.{HasAdded}
 use Rattle.ca_range.specs.Meeting.{AreMet}
 use Rattle.ca_range.proofs.Filled.{raised_met}
-use Rattle.ca_range.proofs.GoingOn.{further_on, goes_steps, walked_raised}
+use Rattle.ca_range.proofs.GoingOn.{ends_unspent, further_on, goes_steps, no_run_unspent, walked_raised}
 use Rattle.ca_range.proofs.NextGathered.{gathered_next}
 use Rattle.ca_range.proofs.OwnSteps.{goes_both, goes_reads, goes_then, met_reads, settled_ends, settled_on}
 use Rattle.ca_range.proofs.Readied.{ready_reads, ready_still}
@@ -40,6 +40,7 @@ returns-in-Done g c = let p = c.args.pass.now in let q = c.look.new.pass in let 
       further = settled_ends g.F.Fn sought z c.args.search.now.budget c.args.account.now.spent c.decide_run.result p.seat.me r.seat.me
           (settled_on g.F.Fn sought z c.decide_run.result p.seat.me q.seat.me r.seat.me (met_reads c.args.space.now p q c.look.ensures.frame) e.ended);
       quiet = e.quiet;
+      unspent = ends_unspent c.decide_run.result c.args.account.now.spent c.args.account.now.spent refl;
     }
 
 pub go_to-requires-clause-ready : goal.go_to-requires-clause-ready
@@ -52,7 +53,8 @@ go_to-requires-clause-number g c = c.walk-next.ensures.frame.number ∙ (c.look.
     ∙ sym (ap (λ (x : MyTree). x.0.upper.number) c.walk-next.ensures.walked.now ∙ ap (λ (x : MyTree). x.0.upper.number) c.look.ensures.frame.still)))
 
 pub go_to-requires-clause-met : goal.go_to-requires-clause-met
-go_to-requires-clause-met g c = subst (AreMet c.args.account.now.met.numbers) (sym (ap (λ (x : MyTree). x.0.upper.ranges.unfinished) c.walk-next.ensures.walked.now
+go_to-requires-clause-met g c = subst (AreMet c.args.account.now.met.numbers) (sym (ap (λ (x : MyTree). x.0.upper.ranges.unfinished)
+    c.walk-next.ensures.walked.now
     ∙ ap (λ (x : MyTree). x.0.upper.ranges.unfinished) c.look.ensures.frame.still)) c.requires.met
 
 pub go_to-requires-clause-next : goal.go_to-requires-clause-next
@@ -86,4 +88,5 @@ returns-in-On g c = let few = c.requires.tuned.allowed.most_leaf in let leaf = c
           (raised_met q.seat.me r.seat.me r.seat.me.0.upper raised))
           (c.go_to.ensures.further (reach p.seat.me.0.upper) (let more : reach p.seat.me.0.upper < reach r.seat.me.0.upper = omega arith in more));
       quiet = c.go_to.ensures.quiet;
+      unspent = no_run_unspent c.go_to.result a d c.go_to.ensures.no_run;
     }

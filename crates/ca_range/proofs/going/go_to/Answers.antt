@@ -7,11 +7,12 @@ use Rattle.ca_node.specs.Told.{IsSettled}
 use Rattle.ca_node.specs.TreeView.{Note, TreeView, Unfinished}
 use Rattle.ca_range.specs.Farther.{reach}
 use Rattle.ca_range.specs.Filling.{IsInUse}
-use Rattle.ca_range.specs.Gathering.{HasEnded}
+use Rattle.ca_range.specs.Gathering.{HasEnded, HasNoRun}
 use Rattle.ca_range.specs.Meeting.{AreMet}
+use Rattle.ca_range.specs.declared.gathering.Further.TheVariants as further
 use Rattle.ca_range.specs.declared.sought.Snapped.{Snapped}
 use Rattle.ca_range.proofs.Filled.{at_same, far_same, last_shown, raised_met}
-use Rattle.ca_range.proofs.GoingOn.{further_on, goes_steps, refused_ends, stays_pinned}
+use Rattle.ca_range.proofs.GoingOn.{further_on, goes_steps, no_run_refused, no_run_so, refused_ends, stays_pinned}
 use Rattle.ca_range.proofs.NextGathered.{marking_on, next_on}
 use Rattle.ca_range.proofs.OwnSteps.{ended_on, goes_both, goes_over, number_on, ready_on}
 use Rattle.ca_range.proofs.Readied.{ready_after, ready_still}
@@ -119,7 +120,8 @@ help_first-requires-clause-used g c = let z = c.args.space.now.table.shared.key 
     let u = c.args.pass.now.seat.me.0.upper in let range = c.in-Other.range in
     let used = c.in-Other.ensures.used.1 (first_note u.notes) (last_shown z u c.args.next c.requires.next.gone.at) in
     let number = ap (λ (x : TreeView). x.number) s.steps.only in
-    subst (λ (ns : List Note). IsInUse c.give_up.new.pass.seat.me.0.upper (first_note ns) range) (sym (s.notes.0 ∙ c.in-Other.ensures.used.0.all.notes)) record {
+    subst (λ (ns : List Note). IsInUse c.give_up.new.pass.seat.me.0.upper (first_note ns) range) (sym (s.notes.0 ∙ c.in-Other.ensures.used.0.all.notes))
+    record {
       marked = used.marked;
       unfinished = subst (λ (xs : List Unfinished). IsIn {A = Unfinished} (record { pass = range.owner; number = range.number }) xs) (sym s.unfinished)
           used.unfinished;
@@ -180,3 +182,10 @@ returns-in-Gone-clause-further g c = λ far less. let f = c.in-Gone.ensures.used
     let spent = c.use_of.new.account.spent in
     subst (λ (s : Snapped). HasEnded g.F.Fn sought z c.args.search.now.budget spent s m n) (sym c.after_help.ensures)
     (gone_ends g.F.Fn sought z c.args.search.now.budget spent c.in-Gone.helped m k n f.gone f.counts c.give_up-in-Gone.ensures.met)
+
+pub returns-in-Other-clause-no_run : goal.returns-in-Other-clause-no_run
+returns-in-Other-clause-no_run g c = no_run_refused c.args.search.now.budget c.help_first.new.account.spent c.help_first.result
+    c.give_up.new.pass.seat.me c.help_first.new.pass.seat.me c.help_first.ensures.refused
+
+pub returns-in-Gone-clause-no_run : goal.returns-in-Gone-clause-no_run
+returns-in-Gone-clause-no_run g c = subst (λ (s : Snapped). HasNoRun (further.Ended s)) (sym c.after_help.ensures) (no_run_so c.in-Gone.helped)

@@ -6,14 +6,15 @@ use Rattle.ca_node.specs.Row.{mark_bound}
 use Rattle.ca_node.specs.Told.{MyTree, IsSettled}
 use Rattle.ca_node.specs.TreeView.{TreeView}
 use Rattle.ca_range.specs.Farther.{reach}
-use Rattle.ca_range.specs.Gathering.{HasEnded, IsGatheredNext, IsMarking}
+use Rattle.ca_range.specs.Gathering.{HasEnded, HasNoRun, IsGatheredNext, IsMarking}
 use Rattle.ca_range.specs.Marked.{IsNextTo, second_note}
 use Rattle.ca_range.specs.Meeting.{AreMet}
 use Rattle.ca_range.specs.Snapshots.{OnlyRanges}
 use Rattle.ca_range.specs.declared.account.Range.{Range}
+use Rattle.ca_range.specs.declared.gathering.Further.TheVariants as further
 use Rattle.ca_range.specs.declared.sought.Snapped.{Snapped}
 use Rattle.ca_range.proofs.Filled.{far_copy, last_shown}
-use Rattle.ca_range.proofs.GoingOn.{stays_pinned, stopped_ends, stopped_marking, stopped_ranges, stopped_unfinished}
+use Rattle.ca_range.proofs.GoingOn.{no_run_stopped, stays_pinned, stopped_ends, stopped_marking, stopped_ranges, stopped_unfinished}
 use Rattle.ca_range.proofs.NextGathered.{gathered_on, is_next}
 use Rattle.ca_range.proofs.OwnSteps.{goes_both, goes_over, goes_reads, met_reads, number_on, ready_on}
 use Rattle.ca_range.proofs.Readied.{ready_reads}
@@ -134,3 +135,6 @@ returns-in-Err-clause-further g c = λ far less. let p = c.args.pass.now in let 
     subst (λ (x : Snapped). HasEnded g.F.Fn sought z c.args.search.now.budget c.mark_base.new.spent x p.seat.me s.seat.me) (sym c.refusal.ensures)
     (stopped_ends g.F.Fn sought z c.args.search.now.budget c.mark_base.new.spent c.in-Err.why p.seat.me q.seat.me r.seat.me s.seat.me
     (met_reads c.args.space.now p q c.mark_for-mark.ensures.frame) c.in-Err.ensures.found c.give_up.ensures.met)
+
+pub returns-in-Err-clause-no_run : goal.returns-in-Err-clause-no_run
+returns-in-Err-clause-no_run g c = subst (λ (s : Snapped). HasNoRun (further.Ended s)) (sym c.refusal.ensures) (no_run_stopped c.in-Err.why)

@@ -1,15 +1,17 @@
-use Rattle.std.proofs.Common.{rules, ◌+◌, ◌<◌, ◌≤◌, sym, ap, ◌∙◌, subst, arith}
+use Rattle.std.proofs.Common.{rules, ◌+◌, ◌<◌, ◌≤◌, List, sym, ap, ◌∙◌, subst, inl, arith}
+use Rattle.ca_base.proofs.Counts.{met_both}
 use Rattle.ca_base.specs.Putting.{first_note}
+use Rattle.ca_node.specs.Row.{IsMarkedBy}
 use Rattle.ca_node.specs.Told.{MyTree}
-use Rattle.ca_node.specs.TreeView.{TreeView}
+use Rattle.ca_node.specs.TreeView.{Note, TreeView}
 use Rattle.ca_node.proofs.Tallies.{tallied_still}
-use Rattle.ca_range.specs.Farther.{reach}
+use Rattle.ca_range.specs.Farther.{reach, reach_to}
 use Rattle.ca_range.specs.Filling.{HasStepped, IsCopyOf, step_lost}
 use Rattle.ca_range.specs.Marked.{IsNextTo, second_note}
 use Rattle.ca_base.specs.Spending.{IsSpentOn}
 use Rattle.ca_range.specs.Staying.{OnlySteps}
 use Rattle.ca_range.specs.declared.account.Range.{Range}
-use Rattle.ca_range.proofs.Filled.{goes_to, last_shown, passed_on, stepped_after}
+use Rattle.ca_range.proofs.Filled.{goes_to, last_shown, passed_on, raised_met, stepped_after}
 use Rattle.ca_range.proofs.Readied.{ready_reads, ready_still, stays_then}
 use Rattle.ca_range.proofs.Spends.{on_both}
 use Rattle.ca_range.proofs.Stepping.{steps_both}
@@ -100,7 +102,7 @@ returns-in-Before-clause-stepped c = let z = c.args.space.now.table.shared.key i
     let k = c.go_along.new.pass.seat.me in let n = c.fill_gap.new.pass.seat.me in let still = c.mark_for-mark.ensures.frame.still in
     let more = c.fill_gap.ensures.steps.helped in let same = ap (λ (x : MyTree). x.0.upper.turns.helped) still in
     stepped_after z c.args.from.range c.fill_gap.result m k n c.go_along.ensures.raised c.go_along.ensures.steps c.go_along.ensures.counted.lost.more
-    c.go_along.ensures.counted.passed.more (omega arith)
+    c.go_along.ensures.counted.passed.more (omega arith) (let on = c.in-Before.ensures.reached.1 in omega arith)
     (subst (λ (x : MyTree × Range). HasStepped z x.1 c.fill_gap.result x.0 n) (λ i. (still i, c.mark_for-mark.ensures.range i)) c.fill_gap.ensures.stepped)
 
 pub returns-in-Before-clause-passed : goal.returns-in-Before-clause-passed
@@ -120,3 +122,22 @@ returns-in-Before-clause-goes c = let more = c.in-Before.ensures.reached.1 in
     let same = ap (λ (x : MyTree). reach x.0.upper) c.mark_for-mark.ensures.frame.still in
     goes_to (reach c.args.pass.now.seat.me.0.upper + 1) (reach c.mark_for-mark.new.pass.seat.me.0.upper) c.fill_gap.result
     c.fill_gap.new.pass.seat.me.0.upper (omega arith) c.fill_gap.ensures.goes
+
+pub returns-in-Over-clause-stepped : goal.returns-in-Over-clause-stepped
+returns-in-Over-clause-stepped c = (
+  inl c.in-Over.ensures.reached,
+  raised_met c.args.pass.now.seat.me c.go_along.new.pass.seat.me c.go_along.new.pass.seat.me.0.upper c.go_along.ensures.raised,
+)
+
+pub returns-in-Whole-clause-stepped : goal.returns-in-Whole-clause-stepped
+returns-in-Whole-clause-stepped c = let r = c.in-Whole.ensures.reached in let m = c.args.pass.now.seat.me in let k = c.go_along.new.pass.seat.me in
+    let n = c.decide.new.pass.seat.me in let notes = c.decide.ensures.notes in let less = c.go_along.ensures.steps.helped in
+    let more = c.decide.ensures.helped in (
+      inl (record {
+        over = c.decide.ensures.over;
+        counted = λ met. omega arith;
+        marked = subst (λ (ns : List Note). IsMarkedBy (first_note ns).its c.args.from.range.owner c.args.from.range.number) (sym notes) r.0.marked;
+        far = let on = r.2 in let same = ap (λ (ns : List Note). reach_to (first_note ns).place.span.high) notes in omega arith;
+      }),
+      met_both 0 0 0 0 m k n (raised_met m k k.0.upper c.go_along.ensures.raised) c.decide.ensures.pool,
+    )

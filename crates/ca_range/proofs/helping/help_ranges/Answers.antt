@@ -21,6 +21,7 @@ loop-range-init c = record {
   counted = on_still c.args.account.now.spent c.args.pass.now.seat.me c.args.pass.now.seat.me refl refl;
   at = c.requires.at;
   pool = (omega arith, omega arith);
+  far = omega arith;
 }
 
 pub loop-range-preserved-in-Marked : goal.loop-range-preserved-in-Marked
@@ -38,6 +39,7 @@ loop-range-preserved-in-Marked c = let inv = c.loop-range.invariant in let steps
       counted = on_both c.args.account.now.spent c.loop-range.account.spent c.advance.new.account.spent m k n inv.counted c.advance.ensures.counted;
       at = c.in-Marked.ensures.stepped.0;
       pool = met_both 0 0 0 0 m k n inv.pool c.in-Marked.ensures.stepped.2;
+      far = let first = inv.far in let more = c.in-Marked.ensures.goes in omega arith;
     }
 
 pub loop-range-preserved : goal.loop-range-preserved
@@ -54,6 +56,7 @@ loop-range-preserved c = let inv = c.loop-range.invariant in let steps = c.in-Me
       counted = on_both c.args.account.now.spent c.loop-range.account.spent c.advance.new.account.spent m k n inv.counted c.advance.ensures.counted;
       at = at_met c.args.space.now.table.shared.key n.0.upper c.in-Met.next stepped.0 stepped.1;
       pool = met_both 0 0 0 0 m k n inv.pool stepped.2;
+      far = let first = inv.far in let more = c.in-Met.ensures.goes in omega arith;
     }
 
 pub loop-range-smaller-in-Marked : goal.loop-range-smaller-in-Marked
@@ -76,7 +79,7 @@ pub returns-in-Ended-clause-helped : goal.returns-in-Ended-clause-helped
 returns-in-Ended-clause-helped c = helped_after c.args.space.now.table.shared.key c.args.from.range c.loop-range.range c.args.budget c.advance.new.account.spent
     c.in-Ended.helped c.args.pass.now.seat.me c.loop-range.pass.seat.me c.advance.new.pass.seat.me c.loop-range.invariant.pool
     c.loop-range.invariant.steps c.loop-range.invariant.counted.lost.more c.in-Ended.ensures.steps.helped
-    c.loop-range.invariant.now c.in-Ended.ensures.stepped
+    c.loop-range.invariant.now c.loop-range.invariant.far c.in-Ended.ensures.stepped
 
 pub returns-in-Ended-clause-counted : goal.returns-in-Ended-clause-counted
 returns-in-Ended-clause-counted c = on_both c.args.account.now.spent c.loop-range.account.spent c.advance.new.account.spent c.args.pass.now.seat.me
@@ -89,4 +92,4 @@ returns-in-Ended-clause-turned c met = let m = c.args.pass.now.seat.me in let k 
     (let most = c.ranges.budget.fits in omega arith)
     (on_both c.args.account.now.spent c.loop-range.account.spent c.advance.new.account.spent m k n inv.counted c.advance.ensures.counted)
     (helped_after z c.args.from.range c.loop-range.range c.args.budget c.advance.new.account.spent c.in-Ended.helped m k n inv.pool inv.steps
-    inv.counted.lost.more c.in-Ended.ensures.steps.helped inv.now c.in-Ended.ensures.stepped) met
+    inv.counted.lost.more c.in-Ended.ensures.steps.helped inv.now inv.far c.in-Ended.ensures.stepped) met

@@ -23,6 +23,7 @@ invariant-loop-range l = record {
   counted : IsSpentOn l.fn.account.spent l.account.spent l.fn.pass.seat.me l.pass.seat.me;
   at : IsAtMarked l.space.table.shared.key l.pass.seat.me.0.upper l.range l.cursor;
   pool : HasMet 0 0 l.fn.pass.seat.me l.pass.seat.me;
+  far : reach l.fn.pass.seat.me.0.upper ≤ reach l.pass.seat.me.0.upper;
 }
 
 abbrev pub decreases-loop-range : goal.decreases-loop-range

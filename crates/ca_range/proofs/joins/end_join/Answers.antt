@@ -1,9 +1,9 @@
-use Rattle.std.proofs.Common.{◌≡◌, ◌<◌, false, Option, None, Some, refl, subst, sym, ap, ◌∙◌}
+use Rattle.std.proofs.Common.{◌<◌, false, subst, sym, ap, ◌∙◌}
 use Rattle.ca_base.specs.Finding.{IsBaseShown}
 use Rattle.ca_base.specs.Putting.{first_note}
 use Rattle.ca_node.specs.Told.{MyTree}
 use Rattle.ca_range.proofs.JoinsEnded.{joined_own, none_still, unjoined_by}
-use Rattle.ca_range.proofs.JoinsFinished.{ended_behind, ended_given, finished_join, finished_read}
+use Rattle.ca_range.proofs.JoinsFinished.{ended_behind, ended_given, finished_join, finished_read, told_given}
 use Rattle.ca_range.specs.declared.joins.JoinEnd.TheVariants as end
 use Rattle.ca_range.proofs.joins.end_join.Goals as goal
 
@@ -47,3 +47,17 @@ pub carry_out-requires-clause-other : goal.carry_out-requires-clause-other
 carry_out-requires-clause-other c = let m = c.attempt_on.new.pass.seat.me in let n = c.look_at.new.pass.seat.me in
     none_still c.args.pass.now.seat.me.0.upper.ranges.own n.0.upper.ranges.own (joined_own false m n c.in-Secured.ensures.found.0
     ∙ ap (λ (x : MyTree). x.0.upper.ranges.own) c.attempt_on.ensures.frame.still) c.requires.other
+
+pub returns-in_default-clause-marked : goal.returns-in_default-clause-marked
+returns-in_default-clause-marked c = c.in_default.ensures.attempt (first_note c.args.pass.now.seat.me.0.upper.notes) c.requires.at.shown
+
+pub returns-in-Finished-clause-marked : goal.returns-in-Finished-clause-marked
+returns-in-Finished-clause-marked c = (c.in-Some.ensures.attempt (first_note c.args.pass.now.seat.me.0.upper.notes) c.requires.at.shown).0.0
+
+pub returns-in-Prepared-clause-marked : goal.returns-in-Prepared-clause-marked
+returns-in-Prepared-clause-marked c = let its = (first_note c.args.pass.now.seat.me.0.upper.notes).its in
+    told_given c.args.space.now c.in-Some.attempt c.give_up_join.result c.look_at.new.pass c.give_up_join.new.pass its c.give_up_join.ensures.given_up
+    (c.in-Some.ensures.attempt (first_note c.args.pass.now.seat.me.0.upper.notes) c.requires.at.shown).0.0
+
+pub returns-in-Secured-clause-marked : goal.returns-in-Secured-clause-marked
+returns-in-Secured-clause-marked c = (c.in-Some.ensures.attempt (first_note c.args.pass.now.seat.me.0.upper.notes) c.requires.at.shown).0.0

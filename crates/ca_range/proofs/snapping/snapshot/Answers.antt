@@ -9,14 +9,14 @@ use Rattle.ca_range.specs.Clearing.{HasGone}
 use Rattle.ca_range.specs.Filling.{IsUseOf}
 use Rattle.ca_range.specs.Looking.{IsFirst}
 use Rattle.ca_range.specs.Snapping.{snapped_so}
-use Rattle.ca_range.specs.Snapshots.{HasRun, HasSnapped}
+use Rattle.ca_range.specs.Snapshots.{HasRun, HasSnapped, IsInBudget}
 use Rattle.ca_range.specs.Using.{HasFoundOf}
 use Rattle.ca_range.specs.declared.account.Range.{Range}
 use Rattle.ca_range.specs.declared.sought.Snapped.{Snapped}
 use Rattle.ca_range.proofs.Filled.{last_shown, raised_met}
 use Rattle.ca_range.proofs.FirstBases.{first_still}
 use Rattle.ca_range.proofs.FirstRuns.{first_run}
-use Rattle.ca_range.proofs.SnapshotSteps.{gone_snaps, met_on, more_turns, ranges_both, ranges_by_steps, refused_after, refused_so, snapped_after, spent_on, steps_on, walked_still}
+use Rattle.ca_range.proofs.SnapshotSteps.{budget_refused, budget_so, gone_snaps, met_on, more_turns, ranges_both, ranges_by_steps, refused_after, refused_so, snapped_after, spent_on, steps_on, walked_still}
 use Rattle.ca_range.proofs.Spends.{on_both}
 use Rattle.ca_range.proofs.snapping.snapshot.Goals as goal
 
@@ -66,7 +66,8 @@ begin_range-requires-clause-first g c = let z = c.args.space.now.table.shared.ke
 pub begin_range-requires-clause-settled : goal.begin_range-requires-clause-settled
 begin_range-requires-clause-settled g c = let z = c.args.space.now.table.shared.key in let l = c.look.new.pass.seat.me in
     let cursor = c.walk_to_first-first.result in
-    let first = subst (λ (x : MyTree). IsFirst z (bound_of c.args.sought.now.lo) x.0.upper cursor) (sym c.look.ensures.frame.still) c.walk_to_first-first.ensures.first in
+    let first = subst (λ (x : MyTree). IsFirst z (bound_of c.args.sought.now.lo) x.0.upper cursor) (sym c.look.ensures.frame.still)
+    c.walk_to_first-first.ensures.first in
     let h = subst (λ (r : Option Range). HasFoundOf c.args.space.now cursor.base (λ w note. IsUseOf w note r) c.look.new.pass c.range_in_use.new.pass)
     c.in-Ok-None.field-0-is c.in-Ok-None.ensures.in_use in
     subst (λ (ns : List Note). IsSettled c.range_in_use.new.pass.seat.me.0.upper (first_note ns).its) (sym h.0.all.notes)
@@ -122,3 +123,11 @@ returns-in-Err-clause-snapped g c = let z = c.args.space.now.table.shared.key in
     (more_turns c.args.account.now.spent c.args.account.now.spent m k (walked_still z m k l n e.raised e.steps e.turns still c.args.account.now.spent))
     (gone_snaps g.F.Fn c.args.sought.now z c.args.budget spent c.in-Err.helped k n
     (subst (λ (x : MyTree). HasGone c.in-Err.helped x n) still f.gone) (subst (λ (x : MyTree). CountsJoin c.in-Err.helped x n) still f.counts)))
+
+pub returns-in-Ok-Some-clause-in_budget : goal.returns-in-Ok-Some-clause-in_budget
+returns-in-Ok-Some-clause-in_budget g c = budget_refused c.args.budget c.help_first.new.account.spent c.help_first.result
+    c.range_in_use.new.pass.seat.me c.help_first.new.pass.seat.me c.help_first.ensures.refused
+
+pub returns-in-Err-clause-in_budget : goal.returns-in-Err-clause-in_budget
+returns-in-Err-clause-in_budget g c = subst (λ (s : Snapped). IsInBudget c.args.budget c.range_in_use.new.account.spent s) (sym c.after_help.ensures)
+    (budget_so c.args.budget c.range_in_use.new.account.spent c.in-Err.helped)

@@ -1,4 +1,4 @@
-use Rattle.std.proofs.Common.{◌≡◌, Some, Err, true, false, sym, refl, subst, ◌∙◌}
+use Rattle.std.proofs.Common.{◌≡◌, Some, Err, true, false, ap, sym, refl, subst, ◌∙◌}
 use Rattle.ca_base.proofs.Fronted.{first_noted}
 use Rattle.ca_base.specs.Putting.{first_note}
 use Rattle.ca_base.specs.Targets.{event_of, key_in}
@@ -10,7 +10,7 @@ use Rattle.ca_replace.specs.declared.adapting.Course.{Course}
 use Rattle.ca_replace.specs.declared.attempting.Halt.{Halt}
 use Rattle.ca_replace.proofs.Again.{stays_behind}
 use Rattle.ca_replace.proofs.Behind.{frame_behind, ready_behind, turn_marked, turn_tried}
-use Rattle.ca_replace.proofs.Helping.{edited_by_help}
+use Rattle.ca_replace.proofs.Helping.{edited_by_help, halt_of, help_not_deep, help_not_split, on_ok_too}
 use Rattle.ca_replace.proofs.Marking.{marked_look, same_note, still_unmet}
 use Rattle.ca_replace.proofs.Showing.{tried_on}
 use Rattle.ca_replace.proofs.Tuning.{tuned_on}
@@ -87,3 +87,11 @@ returns-in-Helped-clause-edited c = let z = c.args.tree.now.space.table.shared.k
     (λ i. (sym c.after_help.ensures.halt i, sym c.after_help.ensures.course i))
     (edited_by_help c.args.tree.now.space c.args.tree.now.tuning (tells (first_note c.args.pass.now.seat.me.0.upper.notes) tt) (key_in c.args.insertion.now.keyed) (Some (key_in c.args.insertion.now.keyed))
     c.args.course.now c.in-Helped.helped c.in-Helped.spent c.args.pass.now c.clear.new.pass c.in-Helped.ensures.cleared c.requires.looking.known)
+
+pub returns-in-Helped-clause-deep : goal.returns-in-Helped-clause-deep
+returns-in-Helped-clause-deep c = on_ok_too c.args.insertion.now.place
+    (λ e. help_not_deep c.in-Helped.helped (sym c.after_help.ensures.halt ∙ ap halt_of e))
+
+pub returns-in-Helped-clause-no_split : goal.returns-in-Helped-clause-no_split
+returns-in-Helped-clause-no_split c = on_ok_too c.args.insertion.now.place
+    (λ e. help_not_split c.in-Helped.helped (sym c.after_help.ensures.halt ∙ ap halt_of e))

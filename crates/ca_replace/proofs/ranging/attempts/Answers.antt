@@ -5,7 +5,7 @@ use Rattle.ca_replace.specs.Attempting.{total}
 use Rattle.ca_replace.specs.Causes.{IsRefill}
 use Rattle.ca_replace.specs.Ranging.{HasMissed, IsRangeCaused}
 use Rattle.ca_replace.specs.declared.missing.Miss.{Miss}
-use Rattle.ca_replace.proofs.Causing.{few_from, nearer}
+use Rattle.ca_replace.proofs.Causing.{few_from, nearer, unspent}
 use Rattle.ca_replace.proofs.Counted.{none_paid, paid_both, paid_given, spends_more}
 use Rattle.ca_replace.proofs.Meeting.{further_on}
 use Rattle.ca_replace.proofs.Misses.{range_caused, ranged_on, refill_range_caused}
@@ -191,3 +191,12 @@ loop-answer-preserved g c = let i = c.loop-answer.invariant in let again = c.in_
       unspent = again.unspent;
       lags = again.unlagged ∙ (c.tries.ensures.pinned.lags ∙ i.lags);
     }
+
+pub returns-in-Ok-clause-unspent : goal.returns-in-Ok-clause-unspent
+returns-in-Ok-clause-unspent g c = let start = c.args.pass.now.seat.me in let behind = c.tries.new.pass.seat.me in
+    unspent c.args.order.now.budget c.tries.new.spent start behind record {
+      spent = c.args.spent.now;
+      none = c.requires.none;
+      counted = paid_both c.args.spent.now c.loop-answer.spent c.tries.new.spent start c.loop-answer.pass.seat.me behind c.loop-answer.invariant.counted
+          c.tries.ensures.counted;
+    } c.in-Ok.ensures.in_budget

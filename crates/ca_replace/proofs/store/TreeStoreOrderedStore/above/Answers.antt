@@ -4,7 +4,7 @@ use Rattle.ca_model.specs.Edges.{bound_of}
 use Rattle.ca_model.specs.Known.{Declines, Known}
 use Rattle.ca_replace.specs.Attempting.{HasDoneSuch}
 use Rattle.ca_replace.specs.Causes.{IsSparing}
-use Rattle.ca_replace.specs.TreePromises.{HasRead}
+use Rattle.ca_replace.specs.TreePromises.{HasRead, WasInBudget}
 use Rattle.ca_replace.specs.Resting.{StoreAndRun, known_of, knows, run_left}
 use Rattle.ca_replace.specs.Seen.{store_of}
 use Rattle.ca_replace.specs.Within.{FindsAbove}
@@ -55,10 +55,12 @@ returns-clause-refused c = let table = c.self.inside.tree.now.space.table.shared
 pub returns-clause-promised : goal.returns-clause-promised
 returns-clause-promised c = let tree = c.self.inside.tree.now in let last = c.self.inside.last in let done = c.above.ensures in
     subst (λ (s : StoreAndRun). HasRead c.args.budget s.store (store_of tree c.above.new.pass last) c.above.result
-    × IsSparing s.store (store_of tree c.above.new.pass last)) c.self.view_is (
+    × IsSparing s.store (store_of tree c.above.new.pass last)
+    × WasInBudget c.args.budget s.store (store_of tree c.above.new.pass last) c.above.result) c.self.view_is (
       record {
         unchanged = record { same = record { table = refl; sizes = refl; tuning = refl; number = done.frame.number }; last = refl };
         caused = done.caused;
       },
       (done.few, done.frame.resting.few.ever, done.lags),
+      done.unspent,
     )

@@ -1,6 +1,7 @@
 use Rattle.std.proofs.Common.{◌∙◌, ◌≡◌, None, Some, ap, refl, subst, sym}
 use Rattle.ca_base.specs.Progress.{IsRefused}
 use Rattle.ca_model.specs.Answer.{IfRefused}
+use Rattle.ca_model.specs.declared.outcome.Outcome.TheVariants as outcome
 use Rattle.ca_model.specs.Edges.{bound_of}
 use Rattle.ca_model.specs.Function.{MayBeAskedForAll}
 use Rattle.ca_model.specs.Known.{Declines, Known}
@@ -10,9 +11,9 @@ use Rattle.ca_replace.specs.Ranging.{IsRangeCaused}
 use Rattle.ca_replace.specs.Resting.{StoreAndRun, known_of, knows, run_left}
 use Rattle.ca_replace.specs.Running.{left_of}
 use Rattle.ca_replace.specs.Seen.{store_of}
-use Rattle.ca_replace.specs.Causes.{IsSparing}
-use Rattle.ca_replace.specs.TreePromises.{HasRead}
-use Rattle.ca_replace.proofs.Misses.{if_caused_by, if_refused_by}
+use Rattle.ca_replace.specs.Causes.{IsSparing, IsUnspent}
+use Rattle.ca_replace.specs.TreePromises.{HasRead, OpensInBudget}
+use Rattle.ca_replace.proofs.Misses.{if_caused_by, if_not_done, if_refused_by}
 use Rattle.ca_replace.proofs.OpenStores.{knows_closed, of_both, rests_of}
 use Rattle.ca_replace.proofs.Opening.{opens}
 use Rattle.ca_replace.proofs.Turns.{if_declined}
@@ -53,7 +54,7 @@ returns-in-Err-clause-promised g c = let tree = c.self.inside.tree.now in let la
     let pass = c.self.inside.pass in let new = c.range.new.pass in let done = c.in-Err.ensures in
     let before = store_of tree pass last in let behind = store_of tree new last in
     subst (λ (s : StoreAndRun). HasRead c.args.budget s.store behind c.outcome_by.result
-    × IfRefused c.outcome_by.result (λ _. IsSparing s.store behind)) c.self.view_is (
+    × IfRefused c.outcome_by.result (λ _. IsSparing s.store behind) × OpensInBudget c.args.budget s.store behind c.outcome_by.result) c.self.view_is (
       record {
         unchanged = record { same = record { table = refl; sizes = refl; tuning = refl; number = done.rests.number }; last = refl };
         caused = if_caused_by (λ why. IsRangeCaused tree.space.table.shared.key pass.number c.args.budget why pass.seat.me
@@ -61,4 +62,18 @@ returns-in-Err-clause-promised g c = let tree = c.self.inside.tree.now in let la
       },
       if_refused_by (λ _. IsSparing before behind) c.in-Err.why c.outcome_by.result c.outcome_by.ensures
           (done.few, done.rests.resting.few.ever, c.range.ensures.lags),
+      if_not_done (λ _. IsUnspent c.args.budget pass.seat.me new.seat.me) c.in-Err.why c.outcome_by.result c.outcome_by.ensures,
+    )
+
+pub returns-in-Ok-clause-promised : goal.returns-in-Ok-clause-promised
+returns-in-Ok-clause-promised g c = let tree = c.self.inside.tree.now in let last = c.self.inside.last in let done = c.in-Ok.ensures in
+    let behind = store_of tree c.range.new.pass last in let o = outcome.Done c.in-Ok.whole in
+    subst (λ (s : StoreAndRun). HasRead c.args.budget s.store behind o × IfRefused o (λ _. IsSparing s.store behind)
+    × OpensInBudget c.args.budget s.store behind o) c.self.view_is (
+      record {
+        unchanged = record { same = record { table = refl; sizes = refl; tuning = refl; number = done.works.number }; last = refl };
+        caused = tt;
+      },
+      tt,
+      done.unspent,
     )
