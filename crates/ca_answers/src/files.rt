@@ -88,6 +88,9 @@ fn say_command(cmd: &Cmd, into: &mut Vec<u8>) {
 
 // The commands of the lines from number `from` on, each with its line's number and a dot.
 fn say_commands(alloc: Global, from: u32, lines: &Lines, into: &mut Vec<u8>) {
+    let Ok(lines) = lines.to_vec(alloc) else {
+        return say(b"no memory", into);
+    };
     say(b"commands:", into);
     for line in lines.as_slice() {
         if from <= line.number {

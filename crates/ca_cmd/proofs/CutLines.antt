@@ -1,9 +1,10 @@
 -- The first line of some bytes, as a search for the first LF gives it.
-use Rattle.std.proofs.Common.{◌≡◌, ℕ, zero, suc, ◌+◌, ◌-◌, ◌<◌, Bool, true, false, eqb, List, [], ◌∷◌, ◌++◌, length, take, drop, refl, ap, arith, add-one}
+use Rattle.std.proofs.Common.{◌≡◌, ℕ, zero, suc, ◌+◌, ◌-◌, ◌<◌, ◌≤◌, Bool, true, false, eqb, List, [], ◌∷◌, ◌++◌, length, take, drop, refl, sym, ◌∙◌, ap, arith, add-one}
 use Rattle.std.proofs.lemmas.Bool.{eqb-true}
-use Rattle.std.proofs.lemmas.List.{take_rest}
+use Rattle.std.proofs.lemmas.List.{take_rest, length-drop, drop-drop}
 use Rattle.memchr.specs.Find.{Passes, NoneBefore, Nowhere, is_byte}
 use Rattle.ca_cmd.specs.File.{cut_lines, without_cr, lines_of, lf, cr}
+use Rattle.ca_cmd.specs.Kept.{IsEndOf}
 
 not_true : (b : Bool) → (b ≡ true → ⊥) → b ≡ false
 not_true true h = absurd (h refl)
@@ -52,3 +53,26 @@ unfolding without_cr
 no_cr [] h = refl
 no_cr (b ∷ []) h = rw (not_cr b (λ e. h [] (ap (λ x. x ∷ []) e))) refl
 no_cr (b ∷ c ∷ line) h = ap (λ x. b ∷ x) (no_cr (c ∷ line) (λ front e. h (b ∷ front) (ap (λ x. b ∷ x) e)))
+
+-- What stands behind some of the bytes ends them.
+pub behind_some : (bytes : List ℕ) (k : ℕ) → k ≤ length bytes → IsEndOf (take (length bytes - k) (drop k bytes)) bytes
+behind_some bytes k h =
+    let place : k ≡ length bytes - length (drop k bytes) = omega (arith, length-drop k bytes) in
+    rw (take_rest bytes k) (ap (λ n. drop n bytes) place)
+
+drop_all : (bytes : List ℕ) → drop (length bytes) bytes ≡ []
+drop_all [] = refl
+drop_all (b ∷ bytes) = drop_all bytes
+
+-- Nothing ends all bytes.
+pub behind_all : (bytes : List ℕ) → IsEndOf [] bytes
+behind_all bytes = let all : length bytes - 0 ≡ length bytes = omega arith in sym (ap (λ n. drop n bytes) all ∙ drop_all bytes)
+
+-- What ends an end is no longer than all, and ends all.
+pub no_longer : (rest bytes : List ℕ) → IsEndOf rest bytes → length rest ≤ length bytes
+no_longer rest bytes h = omega (arith, ap (λ (xs : List ℕ). length xs) h, length-drop (length bytes - length rest) bytes)
+
+pub end_of_end : (a b c : List ℕ) → IsEndOf a b → IsEndOf b c → IsEndOf a c
+end_of_end a b c h k =
+    let place : length c - length b + (length b - length a) ≡ length c - length a = omega (arith, no_longer a b h, no_longer b c k) in
+    h ∙ ap (λ (xs : List ℕ). drop (length b - length a) xs) k ∙ drop-drop (length b - length a) (length c - length b) c ∙ ap (λ n. drop n c) place

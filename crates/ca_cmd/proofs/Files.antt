@@ -6,7 +6,7 @@ use Rattle.ca_cmd.specs.Argument.{Refused}
 use Rattle.ca_cmd.specs.Content.{IsLine}
 use Rattle.ca_cmd.specs.File.{Numbered, cut_lines, lines_of, held_at, AreLines, IsFileOf, IsRefusedAt}
 use Rattle.ca_cmd.specs.Lines.{numbered}
-use Rattle.ca_cmd.specs.Refusal.{IsCauseIn, IsCauseAt, IsTaken}
+use Rattle.ca_cmd.specs.Refusal.{IsCauseIn, IsCauseAt}
 use Rattle.ca_cmd.specs.declared.fault.FileFault.{FileFault}
 use Rattle.ca_cmd.specs.declared.fault.FileFault.TheVariants.{BadLine, NoMemory}
 use Rattle.ca_cmd.specs.declared.line.Line.{Line}
@@ -111,9 +111,13 @@ lines_push n (v ∷ before) commands line held p l =
       ap (λ z. z ++ held_at (n + suc (length before)) held) p.4 ∙ append_assoc (held_at n p.0) p.1 (held_at (n + suc (length before)) held),
     )
 
+-- The line of this number is no refused one, and its command was added if it holds one.
+abbrev pub Adds : ℕ → List ℕ → List Line → List Line → Type 0
+Adds number text before after = (content : Option Command) × IsLine text (Ok content) × (numbered after ≡ numbered before ++ held_at number content)
+
 -- One more line is read.
 pub lines_more : (file rest line others : List ℕ) (lines after : List Line) (count : ℕ) → AreReadLines file lines count rest
-    → lines_of rest ≡ line ∷ lines_of others → IsTaken (count + 1) line lines after
+    → lines_of rest ≡ line ∷ lines_of others → Adds (count + 1) line lines after
     → AreReadLines file after (count + 1) others
 lines_more file rest line others lines after count r e t =
     let here : 1 + length r.before ≡ count + 1 = omega (arith, r.count_is) in

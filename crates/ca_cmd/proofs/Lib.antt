@@ -1,9 +1,11 @@
 mod Arguments
 pub mod Commands
 mod CutLines
+pub mod Determined
 mod Files
 mod Generating
+pub mod Keeping
 mod Listing
-mod Same
+pub mod Same
 mod TermTexts
 mod Words

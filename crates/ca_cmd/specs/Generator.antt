@@ -48,6 +48,13 @@ command_at client number a k v =
     if number % 16 == 0 then range_of client (drawn k % 500)
     else command_of client (drawn a % 8) (drawn k % 500) (drawn v % 1000)
 
+-- the command of a line, by its number and by the number before its draws
+unfoldable pub drawn_command : ℕ → ℕ → ℕ → Command
+drawn_command client number x =
+    let a = next_number x in
+    let k = next_number a in
+    command_at client number a k (next_number k)
+
 -- so many lines from the one of this number on, where the draws go on from x
 abbrev pub lines_from : ℕ → ℕ → ℕ → ℕ → List Numbered
 lines_from client x number zero = []

@@ -1,10 +1,13 @@
+pub mod Adding
 pub mod Answers
 pub mod Argument
 pub mod Content
 pub mod File
 pub mod Finds
 pub mod Generator
+pub mod Kept
 pub mod Lines
 pub mod Output
 pub mod Refusal
+pub mod Sole
 pub mod Word

@@ -1,6 +1,7 @@
 //! Lines cut off.
 ghost use Rattle.std.specs.Prelude.{◌≡◌, ◌<◌, ◌∷◌, length};
 ghost use Rattle.ca_cmd.specs.File.{without_cr, lines_of};
+ghost use Rattle.ca_cmd.specs.Kept.{IsEndOf};
 
 use memchr::memchr;
 
@@ -19,6 +20,7 @@ pub(crate) fn cut_line(bytes: &[u8]) -> (&[u8], &[u8])
     requires { 0 < length bytes.now }
     ensures line { lines_of bytes.now ≡ result.0.now ∷ lines_of result.1.now }
     ensures shorter { length result.1.now < length bytes.now }
+    ensures behind { IsEndOf result.1.now bytes.now }
 {
     match memchr(b'\n', bytes) {
         Some(end) => (without_cr(&bytes[..end]), &bytes[end + 1..]),

@@ -1,10 +1,11 @@
 //! The generator: a client's commands, made from a number. Source: this project's own, with the numbers of the C standard's example of `rand`.
 ghost use Rattle.std.specs.Prelude.{◌≡◌, ◌≤◌, ◌<◌, [], ◌∷◌, pos, Ok, IfOk};
 ghost use Rattle.ca_term.specs.Tree.{Integer, Tuple, Nil, row_of, list_of};
-ghost use Rattle.ca_cmd.specs.Generator.{command_at, command_of, drawn, every_object, generated, integers, next_number, range_of, start_of, two};
+ghost use Rattle.ca_cmd.specs.Generator.{command_at, command_of, drawn, drawn_command, every_object, generated, integers, next_number, range_of, start_of, two};
 ghost use Rattle.ca_cmd.specs.Lines.{numbered};
 
-use crate::line::{Line, Lines};
+use crate::kept::{Held, Place, Source, may_add};
+use crate::line::Lines;
 use ca_ets::Cmd;
 use ca_term::{Term, TermFault, Terms, atom, cons, int, nil, tuple};
 use std::alloc::{AllocError, Global};
@@ -154,23 +155,40 @@ fn command_at(
     )
 }
 
+// The command of the line of this number, by the number before its draws.
+#[tactic(auto, unfolding(crate::specs::Generator::drawn_command))]
+pub(crate) fn drawn_command(
+    alloc: Global,
+    client: u32,
+    number: u32,
+    x: u32,
+) -> Result<Cmd, AllocError>
+    ensures { IfOk result (λ cmd. cmd ≡ drawn_command client number x) }
+{
+    let a = next_number(x);
+    let k = next_number(a);
+    command_at(alloc, client, number, a, k, next_number(k))
+}
+
 /// So many lines of a client, which counts from 1, made from this number: the same lines from the same numbers, always. The key of each
 /// command is `{client,k}`, so no two clients have a key in common. Any `u32` is a seed; seeds that differ by a multiple of 2^31 give the same lines.
 pub fn generate(alloc: Global, seed: u32, client: u32, lines: u32) -> Result<Lines, AllocError>
     requires { 1 ≤ client }
     ensures { IfOk result (λ found. numbered found ≡ generated seed client lines) }
 {
-    let mut made = Vec::new(alloc);
+    let mut held = Held::new(alloc);
     let mut x = start_of(seed, client);
     for i in 0..lines {
+        let place = Place {
+            number: i + 1,
+            start: x,
+        };
+        let cmd = drawn_command(alloc, client, i + 1, x)?;
+        held.add(place, may_add(&cmd))?;
         let a = next_number(x);
         let k = next_number(a);
         let v = next_number(k);
-        let cmd = command_at(alloc, client, i + 1, a, k, v)?;
-        let Ok(()) = made.push(Line { number: i + 1, cmd }) else {
-            return Err(AllocError);
-        };
         x = v;
     }
-    Ok(Lines::from_vec(made))
+    Ok(Lines::of(Source::Draws(client), held))
 }

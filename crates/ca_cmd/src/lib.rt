@@ -8,6 +8,7 @@ mod command;
 mod cut;
 mod fault;
 mod generator;
+mod kept;
 mod laws;
 mod line;
 mod output;

@@ -119,7 +119,7 @@ fn both_answer_alike_on_lines_from_a_seed(rt: HostRuntime) -> Result<(), Fail> {
     let mut listed = Vec::new(alloc);
     let mut found = Vec::new(alloc);
     for client in 1..5 {
-        let lines = generate(alloc, 7, client, 2000)?;
+        let lines = generate(alloc, 7, client, 2000)?.to_vec(alloc)?;
         play_list(alloc, &mut list, lines.as_slice(), &mut listed)?;
         play(alloc, &mut table, lines.as_slice(), &mut found)?;
     }

@@ -1,7 +1,7 @@
 //! Commands as text, played on a table, and their answers as text.
 ghost use Rattle.ca_ets.specs.Command.{IsContinuation, continuation_of};
 
-use ca_cmd::{Answer, Line, Lines, read_file, show_reply};
+use ca_cmd::{Answer, Line, read_file, show_reply};
 use ca_ets::{Cont, Reply};
 use ca_model::{Counter, FullCause, OrderedStore, Outcome, Spent};
 use ca_table::Table;
@@ -49,13 +49,13 @@ fn file_of(alloc: Global, text: &str) -> Result<Vec<u8>, AllocError> {
 }
 
 /// The commands of a text; `Err` also where it isn't of commands.
-pub(crate) fn lines_of(alloc: Global, text: &str) -> Result<Lines, AllocError> {
+pub(crate) fn lines_of(alloc: Global, text: &str) -> Result<Vec<Line>, AllocError> {
     let file = file_of(alloc, text)?;
     if file.len() > 1_000_000 {
         return Err(AllocError);
     }
     match read_file(alloc, file.as_slice()) {
-        Ok(lines) => Ok(lines),
+        Ok(lines) => lines.to_vec(alloc),
         Err(_) => Err(AllocError),
     }
 }
