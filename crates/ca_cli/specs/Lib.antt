@@ -10,4 +10,5 @@ pub mod Reading
 pub mod Run
 pub mod StatusText
 pub mod Summary
+pub mod Texts
 pub mod Written

@@ -1,9 +1,9 @@
 -- The tree that the clients of a call share: how large it is and how it adapts.
-use Rattle.std.specs.Prelude.{◌≡◌, ℕ, ◌+◌, ◌/◌, min, max, pos, neg_ℤ, ◌-ℤ◌, Bool, true, false, List, length, unwrap_or}
-use Rattle.std.specs.List.{sum_by, count_by}
+use Rattle.std.specs.Prelude.{◌≡◌, ℕ, ◌+◌, ◌/◌, min, max, pos, neg_ℤ, ◌-ℤ◌, List, length, unwrap_or}
+use Rattle.std.specs.List.{sum_by}
 use Rattle.ca_adapt.specs.declared.tuning.Tuning.{Tuning}
 use Rattle.ca_ets.specs.Command.{Command}
-use Rattle.ca_ets.specs.declared.command.Cmd.TheVariants.{Insert, InsertNew}
+use Rattle.ca_cmd.specs.Adding.{adding_in}
 use Rattle.ca_replace.specs.Made.{sizes_with}
 use Rattle.ca_replace.specs.Past.{TreePast}
 use Rattle.ca_replace.specs.declared.tree.Tree.{Tree}
@@ -12,15 +12,9 @@ use Rattle.ca_words.specs.declared.tree.TreeOptions.{TreeOptions}
 
 -- ---- rows
 
--- whether a command may add an object
-abbrev pub may_add : Command → Bool
-may_add (Insert o) = true
-may_add (InsertNew o) = true
-may_add _ = false
-
--- how many commands of all clients may
+-- how many commands of all clients may add an object
 abbrev pub count_of_adding : List (List Command) → ℕ
-count_of_adding all = sum_by (λ commands. count_by may_add commands) all
+count_of_adding all = sum_by (λ commands. adding_in commands) all
 
 -- how many rows there are for so many of them, where the options don't say it
 abbrev pub default_rows : ℕ → ℕ

@@ -1,16 +1,14 @@
 //! The tree that the clients of a call share.
 ghost use Rattle.std.specs.Prelude.{◌≡◌, ◌≤◌, ◌*◌, length, map, IfOk};
-ghost use Rattle.std.specs.List.{count_by};
 ghost use Rattle.ca_adapt.specs.Allowed.{IsAllowed};
 ghost use Rattle.ca_cmd.specs.File.{commands_in};
 ghost use Rattle.ca_cmd.specs.Lines.{numbered};
 ghost use Rattle.ca_term.specs.declared.bounds.TheConstants.{MOST_ELEMENTS};
 ghost use Rattle.ca_words.specs.Grammar.{IsWithin};
-ghost use Rattle.ca_cli.specs.Opening.{IsOpened, count_of_adding, default_rows, may_add, rows_of, tuning_of};
+ghost use Rattle.ca_cli.specs.Opening.{IsOpened, count_of_adding, default_rows, rows_of, tuning_of};
 
 use ca_adapt::Tuning;
-use ca_cmd::{Line, Lines};
-use ca_ets::Cmd;
+use ca_cmd::Lines;
 use ca_replace::{Tree, TreeFault};
 use ca_rows::Starts;
 use ca_words::TreeOptions;
@@ -24,42 +22,22 @@ const STARTS: Starts = Starts {
     attempt: 0,
 };
 
-fn may_add(cmd: &Cmd) -> bool
-    ensures { result ≡ may_add cmd.now }
-{
-    matches!(cmd, Cmd::Insert(_) | Cmd::InsertNew(_))
-}
-
-// How many commands of a client may add an object.
-fn adding_in(lines: &[Line]) -> u128
-    ensures count { result ≡ count_by may_add (commands_in (numbered lines.now)) }
-    ensures few { result ≤ length lines.now }
-{
-    let mut count = 0;
-    for line in lines {
-        if may_add(&line.cmd) {
-            count += 1;
-        }
-    }
-    count
-}
-
 // How many commands of all clients may add an object.
 fn adding(files: &[Lines]) -> u128
     requires { length files.now ≤ 64 }
     ensures count { result ≡ count_of_adding (map commands_in (map numbered files.now)) }
-    ensures few { result ≤ 64 * 18446744073709551615 }
+    ensures few { result ≤ 64 * 4294967295 }
 {
     let mut count = 0;
     for lines in files {
-        count += adding_in(lines.as_slice());
+        count += u128::from(lines.adding());
     }
     count
 }
 
 // How many rows a tree has for so many of them. More than the most rows of a tree are never asked for.
 fn default_rows(adding: u128) -> u32
-    requires { adding ≤ 64 * 18446744073709551615 }
+    requires { adding ≤ 64 * 4294967295 }
     ensures { result ≡ default_rows adding }
 {
     let rows = adding + adding / 8 + 4_096;

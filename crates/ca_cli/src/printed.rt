@@ -13,6 +13,7 @@ use ca_cmd::Lines;
 use ca_text::{put, put_number};
 use ca_words::{CommandLine, Request};
 use std::alloc::{AllocError, Global};
+use std::thread::Threads;
 
 // Which element of an object is its key in lines that are made from a seed, counted from 1.
 const KEYPOS_OF_GENERATED: u32 = 1;
@@ -32,7 +33,9 @@ pub fn keypos_of(request: Request<'_>) -> u32
 }
 
 // Appends the answers and the table, or their summary.
-fn put_text(
+fn put_text<R: Threads + Sync>(
+    rt: &R,
+    alloc: Global,
     request: Request<'_>,
     files: &[Lines],
     ran: &Ran,
@@ -47,7 +50,7 @@ fn put_text(
         Request::Files {
             keypos: _,
             names: _,
-        } => put_run(files, answers, table, into),
+        } => put_run(rt, alloc, files, answers, table, into),
         Request::Generated {
             seed: _,
             clients,
@@ -78,7 +81,8 @@ fn put_shape_if(asked: bool, splits: u64, joins: u64, into: &mut Vec<u8>) -> Res
 
 /// What is printed of a run of clients with these lines, where the command line asks for them: the answers and the table, or their summary, and behind
 /// them the line of the shape, where it is asked for.
-pub fn printed(
+pub fn printed<R: Threads + Sync>(
+    rt: &R,
     alloc: Global,
     line: CommandLine<'_>,
     files: &[Lines],
@@ -88,7 +92,7 @@ pub fn printed(
         ≡ text_of_ran (request_in line.entry.request) line.entry.tree (map numbered files.now) ran.now) }
 {
     let mut bytes = Vec::new(alloc);
-    put_text(line.request, files, ran, &mut bytes)?;
+    put_text(rt, alloc, line.request, files, ran, &mut bytes)?;
     put_shape_if(line.tree.shape, ran.splits, ran.joins, &mut bytes)?;
     Ok(bytes)
 }

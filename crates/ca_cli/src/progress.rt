@@ -8,13 +8,14 @@ use std::time::Instant;
 // How many milliseconds lie between two of its lines at least.
 const BETWEEN: u64 = 1_000;
 
-/// A gate that tells how many lines were answered so far, at most once a second, where standard error is a terminal. Elsewhere, and where no clock
-/// is to be had, it does nothing.
+/// A gate that tells how many lines of how many were answered so far, at most once a second, where standard error is a terminal. Elsewhere, and where no
+/// clock is to be had, it does nothing.
 #[derive(Drop)]
 pub struct Progress<'r> {
     rt: &'r HostRuntime,
     // when the first client began; none where nothing is told
     start: Option<Instant>,
+    lines: AtomicU64,
     answered: AtomicU64,
     // the milliseconds from the start to the last telling
     told_at: AtomicU64,
@@ -30,6 +31,7 @@ impl Progress<'_> {
         Progress {
             rt,
             start,
+            lines: AtomicU64::new(0),
             answered: AtomicU64::new(0),
             told_at: AtomicU64::new(0),
         }
@@ -49,13 +51,18 @@ impl Progress<'_> {
             .told_at
             .compare_exchange(last, now, Ordering::Relaxed, Ordering::Relaxed);
         if taken.is_ok() {
+            let lines = self.lines.load(Ordering::Relaxed);
             // Where this can't be told, nobody is told.
-            let _ = eprintln!(self.rt; "ca: {answered} lines answered");
+            let _ = eprintln!(self.rt; "ca: {answered} of {lines} lines answered");
         }
     }
 }
 
 impl Gate for Progress<'_> {
+    fn begin(&self, lines: u64) {
+        self.lines.store(lines, Ordering::Relaxed);
+    }
+
     fn before(&self, _client: u32, _line: u32) {}
 
     fn after(&self, _client: u32, _line: u32, _answer: &Answer) {

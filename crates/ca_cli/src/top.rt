@@ -72,7 +72,7 @@ fn play<R: Threads + Wait + Sync, G: Gate + Sync>(
     let keypos = keypos_of(line.request);
     let tree = open_tree(alloc, keypos, line.tree, files)?;
     let ran = run_clients(rt, alloc, tree, files, keypos, gate)?;
-    let bytes = printed(alloc, line, files, &ran)?;
+    let bytes = printed(rt, alloc, line, files, &ran)?;
     Ok(Report { ran, bytes })
 }
 

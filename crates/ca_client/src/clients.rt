@@ -3,12 +3,14 @@ ghost use Rattle.std.specs.Prelude.{◌≡◌, length};
 ghost use Rattle.ca_client.specs.Clients.{IsBehind, HavePlayed};
 
 use crate::gate::Gate;
+use crate::giving::give_back;
 use crate::playing::play;
 use ca_cmd::{Answers, Lines};
 use ca_model::OrderedStore;
-use ca_table::Table;
+use ca_table::{Table, Upkeep};
 use std::alloc::Global;
 use std::sync::Wait;
+use std::sync::atomic::{AtomicUsize, Ordering};
 use std::thread::{Threads, for_each_mut};
 
 // On how many threads clients play at most.
@@ -34,25 +36,37 @@ impl<S: OrderedStore + Drop> Client<'_, S> {
             Err(_) => None,
         };
     }
+
+    // Tends its store once it has played, while others play still.
+    fn end<U: Upkeep<S>>(&mut self, upkeep: &U, playing: &AtomicUsize)
+        ensures { self.new ≡ self.old }
+    {
+        playing.fetch_sub(1, Ordering::SeqCst);
+        give_back(&mut self.table, upkeep, playing);
+    }
 }
 
 /// Plays the clients, each on a thread of its own as far as threads can be made, and else behind another one. One that finds no memory has no answers, and
-/// the others play to their ends.
-pub fn play_all<R: Threads + Wait + Sync, S: OrderedStore + Drop + Send, G: Gate + Sync>(
-    rt: &R,
-    alloc: Global,
-    clients: &mut [Client<'_, S>],
-    gate: &G,
-)
+/// the others play to their ends. At a client's end its store is tended, while others play still.
+pub fn play_all<
+    R: Threads + Wait + Sync,
+    S: OrderedStore + Drop + Send,
+    G: Gate + Sync,
+    U: Upkeep<S> + Sync,
+>(rt: &R, alloc: Global, clients: &mut [Client<'_, S>], gate: &G, upkeep: &U)
     ensures same { length clients.new ≡ length clients.old }
     ensures played { HavePlayed clients.old clients.new }
 {
+    let playing = &AtomicUsize::new(clients.len());
     for_each_mut(
         rt,
         clients,
         MOST_THREADS,
         &|_place, client: &mut Client<'_, S>|
             ensures { IsBehind client.entry.now client.exit.now }
-        { client.play(rt, alloc, gate) },
+        {
+            client.play(rt, alloc, gate);
+            client.end(upkeep, playing);
+        },
     );
 }

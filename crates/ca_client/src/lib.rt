@@ -3,6 +3,7 @@
 
 mod clients;
 mod gate;
+mod giving;
 mod laws;
 mod listing;
 mod playing;

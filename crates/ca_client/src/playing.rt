@@ -20,8 +20,8 @@ const FIRST_BUDGET: u32 = 64;
 
 const MOST_BUDGET: u32 = 1 << 31;
 
-// How often a command waits for room.
-const MOST_WAITS: u32 = 1_000;
+/// How often a command waits for room.
+pub(crate) const MOST_WAITS: u32 = 1_000;
 
 // Whether it is worth to wait for room: rows come free when the pass that lags goes on.
 fn is_worth_a_wait(why: FullCause, waits: u32) -> bool
@@ -36,11 +36,28 @@ fn is_worth_a_wait(why: FullCause, waits: u32) -> bool
 // How often other threads are let run in one wait at most.
 const MOST_YIELDS: u32 = 2_000;
 
-// Lets other threads run: in the k-th wait k * k times, up to the most. Where other programs have taken all processors, a yield often comes back before
-// the thread whose pass lags ran again, and a thousand waits of a few yields each are over while it stands still. So waits grow fast.
-fn pause(waits: u32) {
+/// Lets other threads run: in the k-th wait k * k times, up to the most. Where other programs have taken all processors, a yield often comes back before
+/// the thread whose pass lags ran again, and a thousand waits of a few yields each are over while it stands still. So waits grow fast.
+pub(crate) fn pause(waits: u32) {
     for _ in 0..waits.saturating_mul(waits).min(MOST_YIELDS) {
         yield_now();
+    }
+}
+
+// Behind how many of its lines that found no room a client lets other threads run.
+const MOST_RESTS: u32 = 50;
+
+// What is done behind an answer, where so many lines before it found no room; how many there are now. The refusal stands; but clients that ended may give
+// rows back as soon as their threads run, which were waiting for this client's pass to go on, and then the lines that follow find room.
+fn rest(answer: &Answer, refused: u32) -> u32 {
+    match answer {
+        Answer::Full => {
+            if refused < MOST_RESTS {
+                pause(refused + 1);
+            }
+            refused.saturating_add(1)
+        }
+        _ => refused,
     }
 }
 
@@ -84,7 +101,8 @@ fn answer_to<R: Wait, S: OrderedStore + Drop>(
 
 /// Plays the lines of a client, in order, as the client of this number, counted from 1: each has one answer, and the gate is told of each before it is
 /// played and behind it. A line that is busy is played again with twice the budget, from 64 up to 2^31, until it is answered; one that finds no room
-/// while another pass lags waits and is played again, 1,000 times at most. `Err` where memory wasn't found; what was played before stands.
+/// while another pass lags waits and is played again, 1,000 times at most. Behind a line that found no room other threads are let run. Each command is made
+/// from the text of its line when it is played. `Err` where memory wasn't found; what was played before stands.
 pub fn play<R: Wait, S: OrderedStore + Drop, G: Gate>(
     rt: &R,
     alloc: Global,
@@ -98,10 +116,13 @@ pub fn play<R: Wait, S: OrderedStore + Drop, G: Gate>(
 {
     let mut cont = Cont::Never;
     let mut answers = Vec::with_capacity(alloc, lines.len())?;
-    for line in lines.as_slice() {
+    let mut refused = 0_u32;
+    for at in 0..lines.len() {
+        let line = lines.line(alloc, at)?;
         gate.before(client, line.number);
         let answer = answer_to(rt, alloc, table, &line.cmd, &mut cont)?;
         gate.after(client, line.number, &answer);
+        refused = rest(&answer, refused);
         answers.push_reserved(answer);
     }
     Ok(Answers::from_vec(answers))

@@ -9,6 +9,7 @@ ghost use Rattle.ca_client.specs.Sharing.{AreLeft, AreNew, AreReady, IsNew, IsPa
 
 use crate::clients::{Client, play_all};
 use crate::gate::Gate;
+use crate::giving::GivesRowsBack;
 use crate::listing::terms_of;
 use ca_cmd::{Answers, Lines};
 use ca_node::{TreePass, adapted};
@@ -139,6 +140,15 @@ fn parts_of(alloc: Global, clients: Vec<Client<'_, TreeStore<'_>>>) -> Result<Pa
     })
 }
 
+// How many lines all files have together, up to the last number that 64 bits hold.
+fn lines_of(files: &[Lines]) -> u64 {
+    let mut lines = 0_u64;
+    for file in files {
+        lines = lines.saturating_add(file.len() as u64);
+    }
+    lines
+}
+
 /// Plays a client for each file on the tree, each by a pass of its own, on threads as `play_all` has it; closes the tree, and gives back the clients'
 /// answers and the final table. The element `keypos` of an object is its key, counted from 1, in the tree too. `Err` where memory wasn't found; a client
 /// that finds none lets the others play to their ends.
@@ -159,7 +169,8 @@ pub fn run_clients<R: Threads + Wait + Sync, G: Gate + Sync>(
     let mut tree = tree;
     let passes = enroll_all(alloc, &mut tree, files.len())?;
     let mut clients = clients_of(alloc, &tree, keypos, passes, files)?;
-    play_all(rt, alloc, clients.as_mut_slice(), gate);
+    gate.begin(lines_of(files));
+    play_all(rt, alloc, clients.as_mut_slice(), gate, &GivesRowsBack);
     let parts = parts_of(alloc, clients)?;
     let Ok(closed) = tree.close(alloc, parts.passes) else {
         return Err(AllocError);

@@ -12,8 +12,10 @@ mod run;
 mod select;
 mod table;
 mod update;
+mod upkeep;
 
 pub use laws::{sure_and_alone_is_done, sure_and_alone_is_done_from, tables_cross};
 pub use listing::{objects, term_of};
 pub use outcome::Played;
 pub use table::Table;
+pub use upkeep::Upkeep;

@@ -28,6 +28,7 @@ use crate::outcome::{ONE_LOST, Played, Stop, done};
 use crate::reply::Room;
 use crate::run::{Collected, results_within};
 use crate::update::{count, fault_of_counts, fault_of_element, fault_of_long_element, replace};
+use crate::upkeep::Upkeep;
 use ca_ets::{Cmd, Cont, Fault, Operations, Reply};
 use ca_model::{Changed, Code, Edge, OrderedStore, Outcome};
 use ca_order::encode;
@@ -77,6 +78,13 @@ impl<S: OrderedStore + Drop> Table<S> {
         ensures closed { (S.knows result).run ≡ None }
     {
         self.store
+    }
+
+    /// Does this to the store, and answers whether doing it again may come to more.
+    pub fn tend<U: Upkeep<S>>(&mut self, upkeep: &U) -> bool
+        ensures { self.new ≡ self.old }
+    {
+        upkeep.tend(&mut self.store)
     }
 
     /// The call that a command names, of a client whose batches stand where `cont` tells. A reply is that of the command's step from there on,

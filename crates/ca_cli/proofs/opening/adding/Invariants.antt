@@ -7,5 +7,5 @@ use Rattle.ca_cli.proofs.opening.adding.Given as goal
 abbrev pub invariant-loop-lines : goal.invariant-loop-lines
 invariant-loop-lines l = record {
   counted : l.count ≡ count_of_adding (map commands_in (map numbered (take l.lines-index l.files)));
-  few : l.count ≤ l.lines-index * 18446744073709551615;
+  few : l.count ≤ l.lines-index * 4294967295;
 }
