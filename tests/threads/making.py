@@ -33,7 +33,7 @@ def arguments(chance, name, keys, mark):
 def files_of(chance, most_lines=60):
     """The texts of the lines of two to four clients."""
     keys = chance.sample(KEYS, chance.choice([1, 2, 3, 4, 4, 6, 8, 12, 24]))
-    names = chance.choices(list(WEIGHTS), list(WEIGHTS.values()), k=10_000)
+    names = chance.choices(list(WEIGHTS), list(WEIGHTS.values()), k=4 * most_lines)
     clients, mark = [], 0
     for _ in range(chance.randint(2, 4)):
         lines = []

@@ -3,7 +3,7 @@ use crate::counts::Counts;
 use crate::keys::{KINDS, Keys};
 use crate::made::Maker;
 use crate::player::{lines_of, play, play_list};
-use crate::trees::{Few, few_of, tree_of};
+use crate::trees::{few_of, is_joined, tree_of};
 use ca_cmd::Line;
 use ca_ets::ListTable;
 use ca_replace::TreeStore;
@@ -27,9 +27,13 @@ fn file_of(alloc: Global, number: u32) -> Result<Vec<u8>, AllocError> {
     Ok(file)
 }
 
-// The answers to these lines on a new tree, and how many bases were split.
-fn tree_answers(alloc: Global, few: Few, lines: &[Line]) -> Result<(Vec<u8>, u64), AllocError> {
-    let Ok(mut tree) = tree_of(alloc, 1, few) else {
+// The answers to these lines on a new tree of a sort, and how many bases were split and joined.
+fn tree_answers(
+    alloc: Global,
+    number: u32,
+    lines: &[Line],
+) -> Result<(Vec<u8>, (u64, u64)), AllocError> {
+    let Ok(mut tree) = tree_of(alloc, 1_024, 1, few_of(number)) else {
         return Err(AllocError);
     };
     let Ok(pass) = tree.enroll(alloc) else {
@@ -38,8 +42,7 @@ fn tree_answers(alloc: Global, few: Few, lines: &[Line]) -> Result<(Vec<u8>, u64
     let mut table = Table::new(TreeStore::new(&tree, pass), 1);
     let mut answers = Vec::new(alloc);
     play(alloc, &mut table, lines, &mut answers)?;
-    let (splits, _) = table.into_store().adapted();
-    Ok((answers, splits))
+    Ok((answers, table.into_store().adapted()))
 }
 
 fn list_answers(alloc: Global, lines: &[Line]) -> Result<Vec<u8>, AllocError> {
@@ -54,18 +57,23 @@ fn a_tree_answers_as_a_list(rt: HostRuntime) -> Result<(), Fail> {
     let alloc = rt.alloc();
     let mut counts = Counts::new();
     for tree in 0..4_u32 {
-        let mut split = 0_u64;
+        let (mut split, mut joined) = (0_u64, 0_u64);
         for turn in 0..FILES / 4 {
             let number = turn * 4 + tree;
             let file = file_of(alloc, number)?;
             let lines = lines_of(alloc, file.as_slice())?;
             let listed = list_answers(alloc, lines.as_slice())?;
-            let (found, splits) = tree_answers(alloc, few_of(tree), lines.as_slice())?;
+            let (found, (splits, joins)) = tree_answers(alloc, tree, lines.as_slice())?;
             assert!(rt; found.as_slice() == listed.as_slice(), "file {number}");
             counts.add(lines.as_slice(), listed.as_slice());
             split = split.saturating_add(splits);
+            joined = joined.saturating_add(joins);
         }
-        assert!(rt; split > u64::from(FILES), "tree {tree}");
+        assert!(rt; split > u64::from(FILES / 4), "tree {tree}");
+        assert!(rt;
+            (joined > u64::from(FILES / 20)) == is_joined(tree),
+            "tree {tree}"
+        );
     }
     assert!(rt; counts.least() > FILES);
     assert!(rt; counts.errors() > FILES);

@@ -8,7 +8,7 @@ use crate::gate::Gate;
 use crate::keys::{KINDS, Keys};
 use crate::made::Maker;
 use crate::player::{lines_of, put_reply, read_all};
-use ca_cmd::{Line, Lines};
+use ca_cmd::Line;
 use ca_ets::{Cmd, Cont};
 use ca_model::Outcome;
 use ca_replace::TreeStore;
@@ -38,7 +38,7 @@ pub(crate) struct Script {
 
 impl Script {
     /// The lines of a round.
-    pub(crate) fn lines(self, alloc: Global, round: u32) -> Result<Lines, AllocError> {
+    pub(crate) fn lines(self, alloc: Global, round: u32) -> Result<Vec<Line>, AllocError> {
         let keys = Keys {
             count: 6,
             kind: self.tree % KINDS,
@@ -88,7 +88,7 @@ impl Client<'_> {
         clock: &impl Clock,
         alloc: Global,
         round: u32,
-        lines: Result<Lines, AllocError>,
+        lines: Result<Vec<Line>, AllocError>,
     ) -> Result<Vec<Vec<u8>>, AllocError> {
         let lines = lines?;
         let mut draws = Draws::new(round.wrapping_mul(4).wrapping_add(self.script.number));
@@ -144,12 +144,13 @@ impl Client<'_> {
     }
 }
 
-/// What a client noted in all rounds, in how many something was refused for good, found no memory, or waited in vain, and how many bases it split.
+/// What a client noted in all rounds, in how many something was refused for good, found no memory, or waited in vain, and how many bases it split and joined.
 #[derive(Drop)]
 pub(crate) struct Log {
     pub noted: Vec<Noted>,
     pub wrong: u32,
     pub splits: u64,
+    pub joins: u64,
 }
 
 /// A client's part: the store of its pass, and its files.
@@ -188,11 +189,12 @@ impl<'t> Part<'t> {
             wrong: 0,
         };
         client.carry_out(clock, alloc, gate);
-        let (splits, _) = client.table.into_store().adapted();
+        let (splits, joins) = client.table.into_store().adapted();
         Log {
             noted: client.noted,
             wrong: client.wrong,
             splits,
+            joins,
         }
     }
 }

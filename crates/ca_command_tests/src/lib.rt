@@ -1,7 +1,7 @@
 //! Tests of tables over the tree by command files, and nothing else. One client plays random files of all commands, and is answered as the table of
 //! a list is. Clients on threads play files on one tree, each with a pass and a continuation of its own; what they noted must be explained by some
 //! merge of the files, each in its order, played on the table of a list: each answer, and the table in the end. So walks, selections and batches are
-//! those of one state, whatever other clients do meanwhile.
+//! those of one state, whatever other clients do meanwhile, and no split or join of bases, and no row that is used again, shows.
 #![tactic(auto)]
 
 #[cfg(test)]

@@ -1,13 +1,13 @@
 //! Whether some merge of clients' files, each in its order, explains what their lines were answered and the table in the end.
 use crate::states::{State, put_objects, table_copied};
-use ca_cmd::Lines;
+use ca_cmd::Line;
 use ca_ets::{Cmd, ListTable};
 use std::alloc::{AllocError, Global};
 
 /// A client's file, and the texts of its answers.
 #[derive(Drop)]
 pub(crate) struct Side {
-    pub lines: Lines,
+    pub lines: Vec<Line>,
     pub answers: Vec<Vec<u8>>,
 }
 

@@ -1,7 +1,7 @@
 //! Command files, played on a table over a store and on the table of a list, and their answers as text.
 ghost use Rattle.ca_ets.specs.Command.{IsContinuation, continuation_of};
 
-use ca_cmd::{Answer, Line, Lines, read_file, show_reply};
+use ca_cmd::{Answer, Line, read_file, show_reply};
 use ca_ets::{Cont, ListTable, Reply};
 use ca_model::{OrderedStore, Outcome};
 use ca_table::Table;
@@ -15,18 +15,18 @@ pub(crate) const ALL: &[u8] = b"[{'_',[],['$_']}]";
 const BUDGET: u32 = 1_000;
 
 /// The commands of a file; `Err` also where it isn't one.
-pub(crate) fn lines_of(alloc: Global, file: &[u8]) -> Result<Lines, AllocError> {
+pub(crate) fn lines_of(alloc: Global, file: &[u8]) -> Result<Vec<Line>, AllocError> {
     if file.len() > 1_000_000 {
         return Err(AllocError);
     }
     match read_file(alloc, file) {
-        Ok(lines) => Ok(lines),
+        Ok(lines) => lines.to_vec(alloc),
         Err(_) => Err(AllocError),
     }
 }
 
 /// The command that reads the whole table.
-pub(crate) fn read_all(alloc: Global) -> Result<Lines, AllocError> {
+pub(crate) fn read_all(alloc: Global) -> Result<Vec<Line>, AllocError> {
     let mut file = Vec::new(alloc);
     put(b"select ", &mut file)?;
     put(ALL, &mut file)?;

@@ -19,6 +19,9 @@ const TREES_OF_TWO: u32 = 20;
 
 const TREES_OF_FOUR: u32 = 10;
 
+// How many rows a tree has besides 64 for each client: few, so they are used again and again.
+const ROWS: u32 = 320;
+
 // On every third tree a line may lose few turns, and is refused more often. A walk to the left takes a turn for each base without objects, and there are
 // at most 22 keys.
 fn budget_of(tree: u32) -> u32 {
@@ -46,7 +49,7 @@ fn four(tree: u32, number: u32) -> Script {
 }
 
 // What histories came to: how many there were, how many no merge explains, how many no order of whole files explains, how many rounds went wrong, and
-// how many bases were split; of how many one answer was altered then, and how many of these a merge explains still.
+// how many bases were split and joined; of how many one answer was altered then, and how many of these a merge explains still.
 #[derive(Drop)]
 struct Figures {
     histories: u32,
@@ -54,6 +57,7 @@ struct Figures {
     mixed: u32,
     wrong: u32,
     splits: u64,
+    joins: u64,
     altered: u32,
     missed: u32,
 }
@@ -66,6 +70,7 @@ impl Figures {
             mixed: 0,
             wrong: 0,
             splits: 0,
+            joins: 0,
             altered: 0,
             missed: 0,
         }
@@ -87,6 +92,7 @@ impl Figures {
         for log in logs.as_slice() {
             self.wrong = self.wrong.saturating_add(log.wrong);
             self.splits = self.splits.saturating_add(log.splits);
+            self.joins = self.joins.saturating_add(log.joins);
         }
         let mut table = ListTable::new(alloc, 1);
         for round in 0..ROUNDS {
@@ -190,7 +196,7 @@ fn play_two<T: Threads + Clock + Sync>(
     alloc: Global,
     scripts: [Script; 2],
 ) -> Result<Vec<Log>, AllocError> {
-    let Ok(mut tree) = tree_of(alloc, 2, few_of(scripts[0].tree)) else {
+    let Ok(mut tree) = tree_of(alloc, ROWS + 128, 2, few_of(scripts[0].tree)) else {
         return Err(AllocError);
     };
     let Ok(a) = tree.enroll(alloc) else {
@@ -211,7 +217,7 @@ fn play_four<T: Threads + Clock + Sync>(
     alloc: Global,
     scripts: [Script; 4],
 ) -> Result<Vec<Log>, AllocError> {
-    let Ok(mut tree) = tree_of(alloc, 4, few_of(scripts[0].tree)) else {
+    let Ok(mut tree) = tree_of(alloc, ROWS + 256, 4, few_of(scripts[0].tree)) else {
         return Err(AllocError);
     };
     let Ok(a) = tree.enroll(alloc) else {
@@ -244,6 +250,7 @@ fn one_history_explains_two_clients(rt: HostRuntime) -> Result<(), Fail> {
     }
     assert_eq!(rt; (figures.unexplained, figures.wrong), (0, 0));
     assert!(rt; figures.splits > u64::from(TREES_OF_TWO));
+    assert!(rt; figures.joins > u64::from(TREES_OF_TWO));
     assert!(rt; figures.are_telling());
     Ok(())
 }
@@ -258,6 +265,7 @@ fn one_history_explains_four_clients(rt: HostRuntime) -> Result<(), Fail> {
     }
     assert_eq!(rt; (figures.unexplained, figures.wrong), (0, 0));
     assert!(rt; figures.splits > u64::from(TREES_OF_FOUR));
+    assert!(rt; figures.joins > u64::from(TREES_OF_FOUR));
     assert!(rt; figures.are_telling());
     Ok(())
 }

@@ -1,6 +1,5 @@
 mod Alike
 mod Numbers
 mod Opened
-mod Prepared
 mod SampleObjects
 mod Taking

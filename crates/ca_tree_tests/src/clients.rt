@@ -9,10 +9,8 @@ use std::alloc::{AllocError, Global};
 use std::thread::{Threads, for_each_mut};
 use std::time::Clock;
 
-// How many turns each client plays, and how many keys they share.
+// How many turns each client plays.
 const TURNS: u32 = 4_000;
-
-const SHARED: u32 = 6;
 
 // All clients work, each on a thread of its own.
 fn work_all<T: Threads + Clock + Sync>(rt: &T, clients: &mut [Player<'_>], work: Work) {
@@ -33,6 +31,17 @@ fn refused(clients: &[Player<'_>]) -> u32 {
     refused
 }
 
+// How many bases they split, and how many times they joined two.
+fn adapted(clients: &[Player<'_>]) -> (u64, u64) {
+    let (mut splits, mut joins) = (0_u64, 0_u64);
+    for client in clients {
+        let (split, joined) = client.adapted();
+        splits = splits.saturating_add(split);
+        joins = joins.saturating_add(joined);
+    }
+    (splits, joins)
+}
+
 // Whether some merge explains what both noted of a key, and what it has in the end.
 fn explains(
     alloc: Global,
@@ -48,17 +57,20 @@ fn explains(
     is_explained(alloc, first.as_slice(), second.as_slice(), end)
 }
 
+// Trees: how many rows they have, how many objects a base has at most, how many keys the clients share, and what a calm update adds. Bases are split
+// where they are full, or where they are hot: after every second update. Where calm updates cool them, they are joined as well.
+const TREES: [(u32, u8, u32, i32); 4] = [
+    (32_768, 2, 6, 0),
+    (32_768, 120, 6, 600),
+    (500, 2, 6, -2_000),
+    (500, 8, 24, -2_000),
+];
+
 #[test]
 fn replies_of_two_clients_are_those_of_one_history(rt: HostRuntime) {
-    // Bases are split where they are full, or where they are hot: after every second update.
-    for (leaf, calm) in [(2, 0), (120, 600)] {
-        let Ok(mut tree) = tree_of(
-            rt.alloc(),
-            32_768,
-            2,
-            tuning_of((leaf, 64, 250, calm)),
-            ZERO,
-        ) else {
+    for (rows, leaf, shared, calm) in TREES {
+        let Ok(mut tree) = tree_of(rt.alloc(), rows, 2, tuning_of((leaf, 64, 250, calm)), ZERO)
+        else {
             panic!(rt; "no memory")
         };
         let (Ok(one), Ok(two)) = (tree.enroll(rt.alloc()), tree.enroll(rt.alloc())) else {
@@ -68,12 +80,10 @@ fn replies_of_two_clients_are_those_of_one_history(rt: HostRuntime) {
             Player::new(rt.alloc(), TreeStore::new(&tree, one), 1),
             Player::new(rt.alloc(), TreeStore::new(&tree, two), 2),
         ];
-        work_all(&rt, &mut clients, Work::Play(TURNS, SHARED));
+        work_all(&rt, &mut clients, Work::Play(TURNS, shared));
         assert_eq!(rt; refused(&clients), 0);
-        assert!(rt;
-            clients[0].splits() > 0 || clients[1].splits() > 0,
-            "leaf {leaf}"
-        );
+        let (splits, joins) = adapted(&clients);
+        assert!(rt; splits > 0 && (joins > 0) == (calm < 0), "leaf {leaf}");
         for key in 0..256 {
             let end = clients[0].value(key);
             let explained = explains(rt.alloc(), clients[0].log(), clients[1].log(), key, end);
@@ -135,7 +145,7 @@ fn left(clients: &[Player<'_>], key: u32) -> i64 {
 
 #[test]
 fn four_clients_share_a_hundred_keys_on_few_rows(rt: HostRuntime) {
-    let Ok(mut tree) = tree_of(rt.alloc(), 2_000, 4, tuning_of((8, 64, 250, 0)), ZERO) else {
+    let Ok(mut tree) = tree_of(rt.alloc(), 2_000, 4, tuning_of((8, 64, 250, -2_000)), ZERO) else {
         panic!(rt; "no memory")
     };
     let (Ok(a), Ok(b), Ok(c), Ok(d)) = (
@@ -154,6 +164,8 @@ fn four_clients_share_a_hundred_keys_on_few_rows(rt: HostRuntime) {
     ];
     work_all(&rt, &mut clients, Work::Play(LONG, HUNDRED));
     assert_eq!(rt; refused(&clients), 0);
+    let (splits, joins) = adapted(&clients);
+    assert!(rt; splits > 0 && joins > 0);
     assert!(rt; matches!(are_explained(rt.alloc(), &clients), Ok(true)));
     for key in 0..HUNDRED {
         let end = clients[0].value(key);

@@ -2,14 +2,29 @@
 ghost use Rattle.std.specs.Prelude.{◌≡◌, ◌<◌, false};
 ghost use Rattle.ca_rows.specs.Calls.{IsOf, IsNumbered};
 
-use crate::drawing::PUTS;
 use crate::ranges::open_all;
-use crate::scripts::wrong_row;
+use crate::scripts::Answer::{Has, Many};
+use crate::scripts::Call::{PutRising, Splits};
+use crate::scripts::{Answer, Row, wrong_row};
 use crate::trees::{ZERO, tree_of, tuning_of};
+use ca_model::Outcome;
 use ca_node::{RangeState, Spot, TreePass, TreeSpace, load_status, load_word, walk};
 use ca_replace::TreeStore;
 use std::alloc::Global;
 use std::fmt::Write;
+
+const ONE: Answer = Many(1, Outcome::Done(()));
+
+const PUTS: [Row; 8] = [
+    (PutRising(2, 3), ONE),
+    (PutRising(4, 5), ONE),
+    (PutRising(6, 7), ONE),
+    (PutRising(1, 2), ONE),
+    (PutRising(3, 4), ONE),
+    (PutRising(5, 6), ONE),
+    (PutRising(7, 8), ONE),
+    (Splits, Has(3, 0)),
+];
 
 // The first key of each base, from left to right.
 const FIRST: [u8; 4] = [1, 2, 4, 6];

@@ -74,9 +74,9 @@ impl<'t> Player<'t> {
         }
     }
 
-    /// How many bases it split.
-    pub(crate) fn splits(&self) -> u64 {
-        self.store.adapted().0
+    /// How many bases it split, and how many times it joined two.
+    pub(crate) fn adapted(&self) -> (u64, u64) {
+        self.store.adapted()
     }
 
     /// What it noted, in the order of its calls.

@@ -33,8 +33,6 @@ pub(crate) enum Call {
     PutFalling(u32),
     /// Removes so many objects, from the first one on each second one.
     RemoveEven(u32),
-    /// Removes so many objects, in rising order of their numbers.
-    RemoveRising(u32),
     /// Counts the objects with numbers below this one that are there as they were put.
     Count(u32),
     /// Puts an object, and asks for what was done about its base.
@@ -97,7 +95,6 @@ fn come_to(store: &mut TreeStore<'_>, call: Call) -> Answer
         Call::PutSparing(_) => Answer::Number(tally(store, call, 1_000)),
         Call::PutFalling(count) => Answer::Number(tally(store, call, count)),
         Call::RemoveEven(count) => Answer::Number(tally(store, call, count)),
-        Call::RemoveRising(count) => Answer::Number(tally(store, call, count)),
         Call::Count(end) => Answer::Number(tally(store, call, end)),
         Call::Adapt(n) => adapt(store, n),
         Call::Last => last(store),
@@ -249,7 +246,6 @@ fn does(store: &mut TreeStore<'_>, call: Call, n: u32) -> bool
         Call::PutFalling(count) => put(store, count.wrapping_sub(n).wrapping_sub(1), 0, 4)
             == Outcome::Done(()),
         Call::RemoveEven(_) => remove(store, n.wrapping_mul(2), &mut old, 1) == Outcome::Done(true),
-        Call::RemoveRising(_) => remove(store, n, &mut old, 1) == Outcome::Done(true),
         _ => get(store, n, &mut old) && value_of(old.as_slice(), n) == 0,
     }
 }

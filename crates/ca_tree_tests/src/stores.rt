@@ -1,11 +1,8 @@
 //! One client's calls on a store, alone and beside a pass that reads all the while.
-ghost use Rattle.std.specs.Prelude.{◌≡◌, None};
-ghost use Rattle.ca_replace.specs.Resting.{knows};
-
 use crate::scripts::Answer::{Fills, Finds, Has, Is, Many, Number, Puts};
 use crate::scripts::Call::{
     Adapt, Count, Get, Last, Put, PutFalling, PutNew, PutOften, PutRising, PutSparing, Raise,
-    Remove, RemoveEven, RemoveIf, RemoveRising, Splits,
+    Remove, RemoveEven, RemoveIf, Splits,
 };
 use crate::scripts::{Row, wrong_row};
 use crate::trees::{Few, LAST, ZERO, tree_of, tuning_of};
@@ -327,58 +324,6 @@ fn calls_come_to_what_scripts_say(rt: HostRuntime) {
             "{name}"
         );
     }
-}
-
-// How often of so many times a store grows to so many objects, put in falling order, and shrinks to none, removed in rising order.
-fn waves(store: &mut TreeStore<'_>, count: u32, often: u32) -> u32
-    requires sizes { store.old.store.z.keypos ≡ 1 }
-    requires closed { (knows store.old).run ≡ None }
-    ensures sizes { store.new.store.z ≡ store.old.store.z }
-    ensures closed { (knows store.new).run ≡ None }
-{
-    let script = [
-        (PutFalling(count), Number(count)),
-        (RemoveRising(count), Number(count)),
-        (Count(count), Number(0)),
-    ];
-    for wave in 0..often {
-        if wrong_row(store, &script).is_some() {
-            return wave;
-        }
-    }
-    often
-}
-
-// The same of a new tree, and how many bases were split and joined by it.
-fn waves_of(
-    alloc: Global,
-    rows: u32,
-    few: Few,
-    count: u32,
-    often: u32,
-) -> Option<(u32, (u64, u64))> {
-    let Ok(mut tree) = tree_of(alloc, rows, 1, tuning_of(few), ZERO) else {
-        return None;
-    };
-    let Ok(pass) = tree.enroll(alloc) else {
-        return None;
-    };
-    let mut store = TreeStore::new(&tree, pass);
-    let done = waves(&mut store, count, often);
-    Some((done, store.adapted()))
-}
-
-// At most 599 rows are linked, and 2,997; about a hundred more are enough, however often the tree grows.
-#[test]
-fn trees_grow_and_shrink_in_few_rows(rt: HostRuntime) {
-    assert_eq!(rt;
-        waves_of(rt.alloc(), 700, (3, 200, 250, -600), 300, 40),
-        Some((40, (5_960, 5_960)))
-    );
-    assert_eq!(rt;
-        waves_of(rt.alloc(), 3_100, (8, 600, 250, -600), 2_000, 3),
-        Some((3, (1_494, 1_494)))
-    );
 }
 
 #[test]

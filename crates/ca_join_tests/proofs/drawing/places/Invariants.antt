@@ -1,6 +1,6 @@
 use Rattle.std.proofs.Common.{◌≡◌, true}
 use Rattle.ca_rows.specs.Calls.{IsOf, IsNumbered}
-use Rattle.ca_tree_tests.proofs.drawing.places.Given as goal
+use Rattle.ca_join_tests.proofs.drawing.places.Given as goal
 
 abbrev pub invariant-loop-n : goal.invariant-loop-n
 invariant-loop-n l = record {

@@ -10,9 +10,7 @@ ghost use Rattle.ca_replace.specs.Resting.{IsAtRest, knows};
 ghost use Rattle.ca_rows.specs.Calls.{IsNumbered};
 ghost use Rattle.ca_rows.specs.Passes.{IsReading, sizes, view};
 
-use crate::calls::put;
-use crate::drawing::PUTS;
-use crate::scripts::wrong_row;
+use crate::calls::{put, put_all};
 use crate::trees::{ZERO, tree_of, tuning_of};
 use ca_adapt::{Attempt, begin_attempt, mark_for};
 use ca_model::{Edge, OrderedStore, Outcome, Spent};
@@ -171,7 +169,7 @@ fn a_prepared_join_that_is_in_the_way_is_given_up(rt: HostRuntime) {
             panic!(rt; "no pass")
         };
         let mut store = TreeStore::new(&tree, one);
-        assert_eq!(rt; wrong_row(&mut store, &PUTS), None);
+        assert!(rt; put_all(&mut store, &[2, 4, 6, 1, 3, 5, 7], 9));
         let over = is_given_up(&tree, &mut store, &mut other, case);
         let met = !matches!(meets, Meets::Put(2));
         assert_eq!(rt; over, Some(met), "{key}, {budget}");

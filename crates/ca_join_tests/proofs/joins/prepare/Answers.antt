@@ -9,8 +9,8 @@ use Rattle.ca_node.specs.TreeView.{Way, TreeView}
 use Rattle.ca_replace.proofs.Between.{may_first}
 use Rattle.ca_rows.specs.Calls.{IsNumbered}
 use Rattle.ca_rows.specs.declared.view.Pin.{Pin}
-use Rattle.ca_tree_tests.proofs.Prepared.{begun_at, begun_in, begun_link, begun_settled, begun_shown, remembered_above, route_inside, walked_quiet, walked_ready, ways_are}
-use Rattle.ca_tree_tests.proofs.joins.prepare.Goals as goal
+use Rattle.ca_join_tests.proofs.Prepared.{begun_at, begun_in, begun_link, begun_settled, begun_shown, remembered_above, route_inside, walked_quiet, walked_ready, ways_are}
+use Rattle.ca_join_tests.proofs.joins.prepare.Goals as goal
 
 pub load_word-kind-requires-clause-shown : goal.load_word-kind-requires-clause-shown
 load_word-kind-requires-clause-shown c = let w = c.walk-cursor.ensures.walked in

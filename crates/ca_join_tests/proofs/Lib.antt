@@ -1,0 +1,2 @@
+mod Prepared
+mod SampleObjects
