@@ -1,6 +1,7 @@
 #!/usr/bin/env bash
 # Prints tables of the figures that bench/tree.sh keeps: thousand calls a second on 10,000 objects, and those of the tree as a multiple of the others';
-# nanoseconds of one client's call by the number of objects; and how many rows an object needs. With -m they are tables of Markdown.
+# the same of the mixes by which a tree grows and shrinks, for trees that join and one that doesn't; nanoseconds of one client's call by the number of objects;
+# and how many rows an object needs. With -m they are tables of Markdown.
 #   bench/tables.sh [-m] [FILE [FILE]]
 set -eu
 markdown=0
@@ -31,6 +32,12 @@ awk -F, -v markdown="$markdown" "$cells"'
     row(mix[at] "|" threads[at] "|" rate("tree", at) "|" rate("tree-32", at) "|" rate("map", at) "|" rate("ets", at) "|" rate("ets-wc", at) "|" \
       ratio(at, "map") "|" ratio(at, "ets") "|" ratio(at, "ets-wc") "|" times("tree-32", at, "ets-wc") "|" full[at] "|" busy[at])
   }
+  function shaped(who, at) { return (who, at) in shape ? shape[who, at] : "-" }
+  function shapes(at) {
+    row(mix[at] "|" threads[at] "|" rate("tree", at) "|" rate("tree-joins", at) "|" rate("tree-unjoined", at) "|" rate("map", at) "|" rate("ets", at) "|" \
+      rate("ets-wc", at) "|" times("tree", at, "tree-unjoined") "|" times("tree-joins", at, "tree-unjoined") "|" ratio(at, "ets-wc") "|" shaped("tree", at) "|" \
+      shaped("tree-joins", at) "|" shaped("tree-unjoined", at))
+  }
   function costs(name, objects, at) {
     at = name SUBSEP objects SUBSEP 1
     row(name "|" objects "|" nanos("tree", at) "|" nanos("map", at) "|" nanos("ets", at) "|" nanos("ets-wc", at))
@@ -38,11 +45,17 @@ awk -F, -v markdown="$markdown" "$cells"'
   NR == 1 { next }
   { at = $2 SUBSEP $3 SUBSEP $4; of[$1, at] = $5 }
   $1 == "tree" { mix[at] = $2; objects[at] = $3; threads[at] = $4; full[at] = $6; busy[at] = $7 }
+  { shape[$1, at] = $8 " " $9 " " $10 }
+  $1 == "tree" && $3 == 10000 && ($2 == "moving" || $2 == "waves") { shaping[++shapings] = at; next }
   $1 == "tree" && $3 == 10000 { lines[++count] = at }
   $1 == "tree" && $3 > 40000 { large[++larges] = at }
   END {
     head("10,000 objects, thousand calls a second", "mix|threads|tree|leaf 32|map|ets|ets-wc|tree/map|tree/ets|tree/ets-wc|32/ets-wc|full|busy")
     for (i = 1; i <= count; i++) rates(lines[i])
+    print ""
+    head("trees that grow and shrink, thousand calls a second; splits, joins and routes at the end", \
+      "mix|threads|tree|joins|unjoined|map|ets|ets-wc|/unjoined|joins/un.|tree/ets-wc|of tree|of joins|of unjoined")
+    for (i = 1; i <= shapings; i++) shapes(shaping[i])
     print ""
     head("one client, nanoseconds of a call", "mix|objects|tree|map|ets|ets-wc")
     sizes = split("100 400 1000 4000 10000 40000", size, " ")

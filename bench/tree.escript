@@ -2,7 +2,7 @@
 %%! +S 4
 %% The same calls as those of ca_bench tree on an ordered_set of ets that is public: without write_concurrency (`ets`), and with it (`ets-wc`). A
 %% process is a client. Prints a line of comma-separated values for each mix of calls, number of objects and number of clients, with how many
-%% thousand calls a second they carry out together.
+%% thousand calls a second they carry out together: all lines, or those that begin with its words, such as `ets-wc,mixed,10000,4`.
 -mode(compile).
 
 %% How often a measure is taken, each time on a new table; the times are added.
@@ -12,25 +12,41 @@
 %% What is added to each number.
 -define(BASE, 16777216).
 
-main([]) ->
+%% Behind how many calls of all clients together a hot spot moves, how many spots a run has, and how far the next spot and the next key of a wave are.
+-define(SPOT_CALLS, 100000).
+-define(SPOTS, 20).
+-define(STEP, 7919).
+
+main(Words) ->
+    put(words, Words),
     Mixes = [{lookups, even}, {mixed, even}, {'skewed-lookups', skewed}, {'skewed-mixed', skewed}, {counter, 1}, {counters, 4},
-             {'user-lookups', even}, {'user-mixed', even}, {'ranges-10', 10}, {'ranges-100', 100}, {'ranges-1000', 1000}],
+             {'user-lookups', even}, {'user-mixed', even}, {'ranges-10', 10}, {'ranges-100', 100}, {'ranges-1000', 1000},
+             {moving, skewed}, {waves, even}],
     [begin
          [line(Who, Options, Mix, 10000, Threads) || Mix <- Mixes, Threads <- [1, 2, 4]],
          [line(Who, Options, Mix, Objects, 1) || Mix <- lists:sublist(Mixes, 2), Objects <- [100, 400, 1000, 4000, 40000]],
          [line(Who, Options, Mix, Objects, Threads) || Mix <- lists:sublist(Mixes, 2), Objects <- [100000, 1000000], Threads <- [1, 4]]
      end || {Who, Options} <- [{ets, []}, {'ets-wc', [{write_concurrency, true}]}]].
 
-line(Who, Options, {Mix, Key}, Objects, Threads) ->
+%% Prints a line, where no words are given, or it begins with one of them.
+line(Who, Options, Mix, Objects, Threads) ->
+    Begin = lists:flatten(io_lib:format("~s,~s,~b,~b", [Who, element(1, Mix), Objects, Threads])),
+    case get(words) =:= [] orelse lists:member(Begin, get(words)) of
+        true -> line(Begin, Options, Mix, {Objects, Threads});
+        false -> ok
+    end.
+
+line(Begin, Options, {Mix, Key}, {Objects, Threads}) ->
     Numbers = shuffled(Objects),
     Calls = calls(Mix, Key) div Threads,
     Nanos = lists:sum([run(Options, Mix, Key, Numbers, Threads, Calls) || _ <- lists:seq(1, ?RUNS)]),
-    io:format("~s,~s,~b,~b,~b,0,0~n", [Who, Mix, Objects, Threads, Calls * Threads * ?RUNS * 1000000 div Nanos]).
+    io:format("~s,~b,0,0~n", [Begin, Calls * Threads * ?RUNS * 1000000 div Nanos]).
 
 %% How many calls are played of a mix: fewer, where ranges are longer.
 calls(Mix, Most) ->
     case kind(Mix) of
         ranges -> 20000000 div (Most + 40);
+        moving -> ?SPOTS * ?SPOT_CALLS;
         _ -> ?CALLS
     end.
 
@@ -76,7 +92,7 @@ run(Options, Mix, Key, Numbers, Threads, Calls) ->
     Load = load(Mix, Keys),
     [true = ets:insert(Table, object(Load, 2 * Number)) || Number <- Numbers],
     Self = self(),
-    Clients = [spawn_opt(fun() -> client(Self, Mix, Key, Table, {Keys, Load}, Number, Calls) end, [link, {min_heap_size, 10000}])
+    Clients = [spawn_opt(fun() -> client(Self, Mix, how(Mix, Key, Number, Threads), Table, {Keys, Load}, Number, Calls) end, [link, {min_heap_size, 10000}])
                || Number <- lists:seq(1, Threads)],
     [receive {ready, Client} -> ok end || Client <- Clients],
     [Client ! go || Client <- Clients],
@@ -85,11 +101,20 @@ run(Options, Mix, Key, Numbers, Threads, Calls) ->
     true = ets:delete(Table),
     erlang:convert_time_unit(lists:max([End || {_, End} <- Times]) - lists:min([Start || {Start, _} <- Times]), native, nanosecond).
 
+%% What a client of this number among so many plays by: behind how many calls its hot spot moves; which share of the objects it has.
+how(moving, _, _, Threads) -> ?SPOT_CALLS div Threads;
+how(waves, _, Number, Threads) -> {Number, Threads};
+how(_, Key, _, _) -> Key.
+
 client(Parent, Mix, Key, Table, Load, Number, Calls) ->
     Parent ! {ready, self()},
     receive go -> ok end,
     Start = erlang:monotonic_time(),
-    play(kind(Mix), Key, Table, Load, Number, Calls),
+    case Mix of
+        moving -> move(Key, Table, Load, {0, Number}, Calls);
+        waves -> roll(Key, Table, Load, 0, Calls);
+        _ -> play(kind(Mix), Key, Table, Load, Number, Calls)
+    end,
     Parent ! {done, self(), Start, erlang:monotonic_time()}.
 
 kind('skewed-lookups') -> lookups;
@@ -132,6 +157,29 @@ play(Mix, How, Table, {Keys, Pairs} = Load, Drawn, Left) ->
         mixed -> ets:take(Table, key(Pairs, Key))
     end,
     play(Mix, How, Table, Load, Next, Left - 1).
+
+%% Half lookups, a quarter puts and a quarter removals, of keys near one far more often, which is another one behind each so many calls.
+move(_, _, _, {Calls, _}, Calls) -> ok;
+move(Each, Table, {Keys, Pairs} = Load, {Done, Drawn}, Calls) ->
+    Next = draw(Drawn),
+    Key = (Done div Each * ?STEP rem Keys + number(skewed, Next, Keys)) rem Keys,
+    case Next band 3 of
+        2 -> true = ets:insert(Table, object(Pairs, Key));
+        3 -> ets:take(Table, key(Pairs, Key));
+        _ -> ets:lookup(Table, key(Pairs, Key))
+    end,
+    move(Each, Table, Load, {Done + 1, Next}, Calls).
+
+%% Removals of all objects of a client's share and puts of them in turns.
+roll(_, _, _, Calls, Calls) -> ok;
+roll({Number, Clients} = Who, Table, {Keys, Pairs} = Load, Done, Calls) ->
+    Share = Keys div 2 div Clients,
+    Key = 2 * (Done rem Share * ?STEP rem Share * Clients + Number - 1),
+    case Done div Share rem 2 of
+        0 -> [_] = ets:take(Table, key(Pairs, Key));
+        1 -> true = ets:insert(Table, object(Pairs, Key))
+    end,
+    roll(Who, Table, Load, Done + 1, Calls).
 
 %% Reads the objects whose keys are above one number and not above another one, one after the other. Others may edit in between: the objects need not be
 %% those of one state.

@@ -1,5 +1,6 @@
 //! The same calls as those of `ca_bench tree` on a BTreeMap of byte codes behind a RwLock. Built and run by bench/tree.sh; prints a line of
-//! comma-separated values for each mix of calls, number of objects and number of threads, with how many thousand calls a second they carry out.
+//! comma-separated values for each mix of calls, number of objects and number of threads, with how many thousand calls a second they carry out: all
+//! lines, or those that begin with its words, such as `map,mixed,10000,4`.
 use std::collections::BTreeMap;
 use std::hint::black_box;
 use std::ops::Bound;
@@ -21,13 +22,16 @@ const BYTE: u32 = 256;
 type Map = RwLock<BTreeMap<Vec<u8>, Vec<u8>>>;
 
 // Which calls are played: lookups, half of them beside puts and removals, additions to so many counters, and lookups, puts, removals and ranges of up to
-// so many objects; even draws of keys, or skewed ones.
+// so many objects; even draws of keys, or skewed ones, near a spot that moves behind each so many calls of a client; or removals and puts of all objects
+// in turns by so many clients, of which each has a share.
 #[derive(Clone, Copy)]
 enum Mix {
     Lookups(fn(u32, u32) -> u32),
     Mixed(fn(u32, u32) -> u32),
     Counters(u32),
     Ranges(u32),
+    Moving(u32),
+    Waves(u32),
 }
 
 const MIXES: [(&str, Mix); 9] = [
@@ -42,11 +46,28 @@ const MIXES: [(&str, Mix); 9] = [
     ("ranges-1000", Mix::Ranges(1_000)),
 ];
 
+const SHAPING: [(&str, Mix); 2] = [("moving", Mix::Moving(SPOT_CALLS)), ("waves", Mix::Waves(1))];
+
+// Behind how many calls of all clients together a hot spot moves, how many spots a run has, and how far the next spot and the next key of a wave are.
+const SPOT_CALLS: u32 = 100_000;
+const SPOTS: u32 = 20;
+const STEP: u32 = 7_919;
+
 // How many calls are played of a mix: fewer, where ranges are longer.
 fn calls_of(mix: Mix) -> u32 {
     match mix {
         Mix::Ranges(most) => 20_000_000 / (most + 40),
+        Mix::Moving(_) => SPOTS * SPOT_CALLS,
         _ => CALLS,
+    }
+}
+
+// The mix where so many clients play it.
+fn shared(mix: Mix, threads: u32) -> Mix {
+    match mix {
+        Mix::Moving(calls) => Mix::Moving(calls / threads),
+        Mix::Waves(_) => Mix::Waves(threads),
+        mix => mix,
     }
 }
 
@@ -90,6 +111,11 @@ fn skewed(drawn: u32, count: u32) -> u32 {
     let number = u64::from(drawn / 16) % count;
     let square = number * number / count;
     (square * square / count) as u32
+}
+
+// A number near the hot spot of this number far more often than another one.
+fn near(drawn: u32, spot: u32, count: u32) -> u32 {
+    (spot * STEP % count + skewed(drawn, count)) % count
 }
 
 // The next number of an order without pattern.
@@ -136,6 +162,7 @@ impl Load {
 struct Client<'m> {
     map: &'m Map,
     load: &'m Load,
+    number: u32,
     drawn: u32,
     into: Vec<u8>,
     good: u32,
@@ -143,14 +170,15 @@ struct Client<'m> {
 
 impl Client<'_> {
     fn play(&mut self, mix: Mix, calls: u32) {
-        for _ in 0..calls {
-            let done = self.call(mix);
+        for number in 0..calls {
+            let done = self.call(mix, number);
             self.good += u32::from(done);
         }
         black_box(&self.into);
     }
 
-    fn call(&mut self, mix: Mix) -> bool {
+    // The call of this number, from 0 on.
+    fn call(&mut self, mix: Mix, number: u32) -> bool {
         let drawn = draw(&mut self.drawn);
         match mix {
             Mix::Lookups(key) => {
@@ -163,6 +191,8 @@ impl Client<'_> {
                 self.raise(even(drawn, count) * apart + apart / 2)
             }
             Mix::Ranges(most) => self.look_or_range(even(drawn, self.load.keys), most),
+            Mix::Moving(calls) => self.come_or_go(drawn, near(drawn, number / calls, self.load.keys)),
+            Mix::Waves(clients) => self.roll(number, clients, self.load.keys / 2),
         }
     }
 
@@ -172,7 +202,9 @@ impl Client<'_> {
                 self.get(key);
             }
             2 => self.put(key),
-            _ => self.remove(key),
+            _ => {
+                self.remove(key);
+            }
         }
         true
     }
@@ -183,7 +215,9 @@ impl Client<'_> {
                 self.get(key);
             }
             55..65 => self.put(key),
-            65..75 => self.remove(key),
+            65..75 => {
+                self.remove(key);
+            }
             _ => {
                 let width = 2 * (even(draw(&mut self.drawn), most) + 1);
                 return self.range(key, width) <= width + 1;
@@ -197,11 +231,26 @@ impl Client<'_> {
         self.map.write().unwrap().insert(code, object);
     }
 
-    fn remove(&mut self, key: u32) {
+    // Whether the key's object was there.
+    fn remove(&mut self, key: u32) -> bool {
         let removed = self.load.by_key(key, |code| self.map.write().unwrap().remove(code));
+        let found = removed.is_some();
         if let Some(object) = removed {
             self.into = object;
         }
+        found
+    }
+
+    // A removal or a put of the next object of this client's share, all of which go and come in turns.
+    fn roll(&mut self, number: u32, clients: u32, objects: u32) -> bool {
+        let share = objects / clients;
+        let place = number % share * STEP % share;
+        let key = 2 * (place * clients + self.number - 1);
+        if number / share % 2 == 0 {
+            return self.remove(key);
+        }
+        self.put(key);
+        true
     }
 
     // Copies the objects of a range of keys into a buffer, one after the other, all of one state: the lock is held.
@@ -246,7 +295,7 @@ impl Client<'_> {
 
 // Plays on a thread of its own. It answers when it began and ended.
 fn time_client(map: &Map, ready: &Barrier, load: &Load, number: u32, mix: Mix, calls: u32) -> (Instant, Instant) {
-    let mut client = Client { map, load, drawn: number, into: Vec::with_capacity(1_000), good: 0 };
+    let mut client = Client { map, load, number, drawn: number, into: Vec::with_capacity(1_000), good: 0 };
     ready.wait();
     let start = Instant::now();
     client.play(mix, calls);
@@ -280,11 +329,16 @@ fn run(mix: Mix, load: &Load, numbers: &[u32], threads: u32, calls: u32) -> u128
     end.duration_since(start).as_nanos()
 }
 
-fn line((name, mix): (&str, Mix), load: &Load, threads: u32) {
+// Prints a line, where no words are given, or it begins with one of them.
+fn line((name, mix): (&str, Mix), load: &Load, threads: u32, words: &[String]) {
     let objects = load.keys / 2;
+    let begin = format!("map,{name},{objects},{threads}");
+    if !words.is_empty() && !words.contains(&begin) {
+        return;
+    }
     let (numbers, calls) = (shuffled(objects), calls_of(mix) / threads);
-    let nanos: u128 = (0..RUNS).map(|_| run(mix, load, &numbers, threads, calls)).sum();
-    println!("map,{name},{objects},{threads},{},0,0", u128::from(calls * threads * RUNS) * 1_000_000 / nanos);
+    let nanos: u128 = (0..RUNS).map(|_| run(shared(mix, threads), load, &numbers, threads, calls)).sum();
+    println!("{begin},{},0,0", u128::from(calls * threads * RUNS) * 1_000_000 / nanos);
 }
 
 fn numbers_load(objects: u32) -> Load {
@@ -292,24 +346,25 @@ fn numbers_load(objects: u32) -> Load {
 }
 
 fn main() {
-    for mix in MIXES {
+    let words: Vec<String> = std::env::args().skip(1).collect();
+    for mix in MIXES.iter().chain(&SHAPING) {
         for threads in [1, 2, 4] {
-            line(mix, &numbers_load(OBJECTS), threads);
+            line(*mix, &numbers_load(OBJECTS), threads, &words);
         }
     }
     let users = Load { keys: 2 * OBJECTS, users: (0..2 * OBJECTS).map(user).collect() };
     for mix in [("user-lookups", MIXES[0].1), ("user-mixed", MIXES[1].1)] {
         for threads in [1, 2, 4] {
-            line(mix, &users, threads);
+            line(mix, &users, threads, &words);
         }
     }
     for mix in &MIXES[..2] {
         for objects in SIZES {
-            line(*mix, &numbers_load(objects), 1);
+            line(*mix, &numbers_load(objects), 1, &words);
         }
         for objects in LARGE {
             for threads in [1, 4] {
-                line(*mix, &numbers_load(objects), threads);
+                line(*mix, &numbers_load(objects), threads, &words);
             }
         }
     }

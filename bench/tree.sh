@@ -2,7 +2,7 @@
 # Times calls of clients on 1, 2 and 4 threads in one run, on 10,000 objects, and of one client on 100 to 1,000,000 objects: the proved tree, which grows to
 # many leaves of 60 objects, or of 32, a BTreeMap of the same byte codes behind a RwLock, and a real ets ordered_set without and with write_concurrency. Then it fills trees
 # until a put is refused. Prints how busy the machine was, and the tables of bench/tables.sh. All figures stay in bench/tree.csv and bench/rows.csv,
-# or in the two files that are named.
+# or in the two files that are named. Single mixes, and two builds of the tree, are compared by bench/turns.sh.
 #   bench/tree.sh [FILE [FILE]]
 set -eu
 here=$(pwd)
@@ -20,7 +20,7 @@ rustc --edition 2024 -O bench/tree.rs -o "$out/map"
 load() { cut -d' ' -f1-3 /proc/loadavg; }
 echo "the machine: $(nproc) processors, load $(load) before"
 {
-  echo "who,mix,objects,threads,thousand_calls_a_second,full,busy"
+  echo "who,mix,objects,threads,thousand_calls_a_second,full,busy,splits,joins,routes"
   crates/ca_bench/out/ca_bench tree
   "$out/map"
   if command -v escript >/dev/null; then escript bench/tree.escript; fi

@@ -2,7 +2,7 @@
 //! a plain store, `selections` a line for a match specification on 1,000 objects, and `walks` a line for each kind of walk, selection and batch on
 //! tables of three sizes, `choices` one for each share of objects that a selection chooses; `threads` prints a line for each mix of calls of clients
 //! on 1, 2 and 4 threads, on trees that are one leaf, `tree` the same on
-//! a tree that grows to many leaves, and `rows` how many objects fit into a tree. `bench/table.sh`, `bench/select.sh`, `bench/walks.sh`, `bench/choices.sh`,
+//! a tree that grows to many leaves, `tree,mixed,10000,4` the one of these lines that begins so, and `rows` how many objects fit into a tree. `bench/table.sh`, `bench/select.sh`, `bench/walks.sh`, `bench/choices.sh`,
 //! `bench/threads.sh` and `bench/tree.sh` run it beside others that do the same.
 #![tactic(auto)]
 
@@ -25,7 +25,7 @@ use crate::point_calls::time_point_calls;
 use crate::rows::time_rows;
 use crate::selections::time_selections;
 use crate::threads::time_threads;
-use crate::trees::time_trees;
+use crate::trees::{time_named, time_trees};
 use crate::walks::time_walks;
 use std::{env, io};
 
@@ -39,7 +39,7 @@ fn main(rt: HostRuntime) -> io::Result<()> {
             "threads" => time_threads(&rt)?,
             "tree" => time_trees(&rt)?,
             "walks" => time_walks(&rt)?,
-            _ => {}
+            line => time_named(&rt, line)?,
         }
     }
     Ok(())

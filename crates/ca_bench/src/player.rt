@@ -19,6 +19,9 @@ pub const BUDGET: u32 = 1_000;
 // How often a call that is refused is tried again.
 const TRIES: u32 = 1_000_000;
 
+// How far a hot spot moves, and how far the next key of a wave is: with 20,000 keys and their halves such steps come to all of them.
+const STEP: u32 = 7_919;
+
 /// Which calls are played.
 #[derive(Clone, Copy)]
 pub enum Mix {
@@ -34,6 +37,10 @@ pub enum Mix {
     Counters(u32),
     /// Of a hundred calls 55 lookups, ten puts, ten removals, and 25 ranges of about one object up to so many.
     Ranges(u32),
+    /// Half lookups, a quarter puts and a quarter removals, of keys near one far more often, which is another one behind each so many calls of a client.
+    Moving(u32),
+    /// Removals of all objects and puts of them in turns, by so many clients, of which each has a share of the keys.
+    Waves(u32),
     /// Lookups of keys that are there.
     Present,
     /// Puts of keys that are there.
@@ -64,6 +71,7 @@ pub fn numbers_below(keys: u32) -> Load<'static> {
 pub struct Player<'t> {
     store: TreeStore<'t>,
     load: Load<'t>,
+    number: u32,
     draws: Draws,
     good: u32,
     full: u32,
@@ -78,6 +86,7 @@ impl Drop for Player<'_> {
         let Self {
             store: _,
             load: _,
+            number: _,
             draws: _,
             good: _,
             full: _,
@@ -96,6 +105,7 @@ impl<'t> Player<'t> {
         Player {
             store,
             load,
+            number,
             draws: Draws::new(number),
             good: 0,
             full: 0,
@@ -119,6 +129,11 @@ impl<'t> Player<'t> {
         self.busy
     }
 
+    /// How many splits and how many joins this client carried out.
+    pub fn adapted(&self) -> (u64, u64) {
+        self.store.adapted()
+    }
+
     /// Puts an object of each of these keys.
     pub fn fill(&mut self, keys: &[u32]) {
         for key in keys {
@@ -137,8 +152,8 @@ impl<'t> Player<'t> {
 
     /// Plays so many calls.
     pub fn play(&mut self, mix: Mix, calls: u32) {
-        for _ in 0..calls {
-            let done = self.call(mix);
+        for number in 0..calls {
+            let done = self.call(mix, number);
             self.count(done);
         }
     }
@@ -174,7 +189,8 @@ impl<'t> Player<'t> {
         yield_now();
     }
 
-    fn call(&mut self, mix: Mix) -> bool {
+    // The call of this number, from 0 on.
+    fn call(&mut self, mix: Mix, number: u32) -> bool {
         let drawn = self.draws.draw();
         let Load { keys, present, .. } = self.load;
         match mix {
@@ -184,6 +200,8 @@ impl<'t> Player<'t> {
             Mix::SkewedMixed => self.come_or_go(drawn, skewed(drawn, keys)),
             Mix::Counters(count) => self.raise(counter_key(drawn, count, keys)),
             Mix::Ranges(most) => self.look_or_range(even(drawn, keys), most),
+            Mix::Moving(calls) => self.come_or_go(drawn, near(drawn, number / calls.max(1), keys)),
+            Mix::Waves(clients) => self.roll(number, clients, keys / 2),
             Mix::Present => self.get(even(drawn, present)),
             Mix::Puts => self.put(even(drawn, present)),
             Mix::ComeAndGo => self.use_present(drawn, present, keys),
@@ -197,7 +215,7 @@ impl<'t> Player<'t> {
             0 | 1 | 4 | 5 => self.get(even(drawn, present)),
             2 | 6 => self.put(even(drawn, present)),
             3 => self.put_new(other),
-            _ => self.remove(other),
+            _ => self.remove(other).is_some(),
         }
     }
 
@@ -213,7 +231,23 @@ impl<'t> Player<'t> {
                 true
             }
             2 => self.put(key),
-            _ => self.remove(key),
+            _ => self.remove(key).is_some(),
+        }
+    }
+
+    // A removal or a put of the next object of this client's share, all of which go and come in turns.
+    fn roll(&mut self, number: u32, clients: u32, objects: u32) -> bool {
+        let share = (objects / clients.max(1)).max(1);
+        let place = (number % share).wrapping_mul(STEP) % share;
+        let key = place
+            .wrapping_mul(clients)
+            .wrapping_add(self.number)
+            .wrapping_sub(1)
+            .wrapping_mul(2);
+        if number / share % 2 == 0 {
+            self.remove(key) == Some(true)
+        } else {
+            self.put(key)
         }
     }
 
@@ -225,7 +259,7 @@ impl<'t> Player<'t> {
                 true
             }
             55..65 => self.put(key),
-            65..75 => self.remove(key),
+            65..75 => self.remove(key).is_some(),
             _ => {
                 let objects = even(self.draws.draw(), most).wrapping_add(1);
                 self.range(key, objects.wrapping_mul(2))
@@ -251,15 +285,16 @@ impl<'t> Player<'t> {
         false
     }
 
-    fn remove(&mut self, key: u32) -> bool {
+    // Whether the key's object was there; nothing where each try was refused.
+    fn remove(&mut self, key: u32) -> Option<bool> {
         for _ in 0..TRIES {
             let outcome = self.try_remove(key);
-            if matches!(outcome, Outcome::Done(_)) {
-                return true;
+            if let Outcome::Done(found) = outcome {
+                return Some(found);
             }
             self.refuse(&outcome);
         }
-        false
+        None
     }
 
     // Reads the objects whose keys are this one or one of so many behind it.
@@ -305,6 +340,12 @@ impl<'t> Player<'t> {
         }
         false
     }
+}
+
+// A key near the hot spot of this number far more often than another one.
+fn near(drawn: u32, spot: u32, keys: u32) -> u32 {
+    let from = spot.wrapping_mul(STEP) % keys.max(1);
+    from.wrapping_add(skewed(drawn, keys)) % keys.max(1)
 }
 
 // The key of one of so many counters, which stand far from each other.

@@ -23,11 +23,26 @@ const RUNS: u32 = 3;
 // How many calls all clients together play in a run.
 const CALLS: u32 = 400_000;
 
+// Behind how many calls of all clients together a hot spot moves, and how many spots a run has.
+const SPOT_CALLS: u32 = 100_000;
+
+const SPOTS: u32 = 20;
+
 // How many calls they play of a mix: fewer, where ranges are longer.
 fn calls_of(mix: Mix) -> u32 {
     match mix {
         Mix::Ranges(most) => 20_000_000 / most.saturating_add(40),
+        Mix::Moving(_) => SPOTS * SPOT_CALLS,
         _ => CALLS,
+    }
+}
+
+// The mix where so many clients play it.
+fn shared(mix: Mix, threads: u32) -> Mix {
+    match mix {
+        Mix::Moving(calls) => Mix::Moving(calls / threads.max(1)),
+        Mix::Waves(_) => Mix::Waves(threads),
+        mix => mix,
     }
 }
 
@@ -48,8 +63,33 @@ const MIXES: [(&str, Mix); 9] = [
     ("ranges-1000", Mix::Ranges(1_000)),
 ];
 
-// The trees that all mixes are played on, and how many objects a leaf of each may have. The first one plays on other numbers of objects, too.
-const TREES: [(&str, u8); 2] = [("tree", 60), ("tree-32", 32)];
+// The mixes by which a tree is to grow and to shrink.
+const SHAPING: [(&str, Mix); 2] = [
+    ("moving", Mix::Moving(SPOT_CALLS)),
+    ("waves", Mix::Waves(1)),
+];
+
+// The trees that all mixes are played on, and by which numbers they adapt. The first one plays on other numbers of objects, too.
+const TREES: [(&str, Tuning); 2] = [("tree", TUNING), ("tree-32", Tuning { leaf: 32, ..TUNING })];
+
+// Trees whose bases are joined behind few updates without contention, and whose bases never are: they play the mixes by which a tree grows and shrinks.
+const SHAPED: [(&str, Tuning); 2] = [
+    (
+        "tree-joins",
+        Tuning {
+            low: -100,
+            ..TUNING
+        },
+    ),
+    (
+        "tree-unjoined",
+        Tuning {
+            calm: 0,
+            range: 0,
+            ..TUNING
+        },
+    ),
+];
 
 // How many objects there are where one client alone plays, beside `OBJECTS`.
 const SIZES: [u32; 5] = [100, 400, 1_000, 4_000, 40_000];
@@ -65,7 +105,7 @@ const LARGE_THREADS: [u32; 2] = [1, 4];
 const USER_MIXES: [(&str, Mix); 2] = [("user-lookups", Mix::Lookups), ("user-mixed", Mix::Mixed)];
 
 const TUNING: Tuning = Tuning {
-    leaf: TREES[0].1,
+    leaf: 60,
     levels: 64,
     lost: 250,
     calm: -1,
@@ -130,30 +170,50 @@ fn good_calls(players: &[Player<'_>]) -> u32 {
     good
 }
 
-/// What a measure took, and how often its calls were refused, for want of rows or for another reason.
+/// What a measure took, how often its calls were refused, for want of rows or for another reason, how many splits and joins there were, and how many
+/// more of the former since the tree was new: one less than its bases.
 #[derive(Clone, Copy)]
 pub struct Taken {
     pub nanos: u128,
     pub full: u32,
     pub busy: u32,
+    pub splits: u64,
+    pub joins: u64,
+    pub routes: u64,
 }
 
 impl Taken {
-    // Both measures together.
+    // Both measures together; the tree is that of the other one.
     fn and(self, other: Taken) -> Taken {
         Taken {
             nanos: self.nanos.saturating_add(other.nanos),
             full: self.full.saturating_add(other.full),
             busy: self.busy.saturating_add(other.busy),
+            splits: self.splits.saturating_add(other.splits),
+            joins: self.joins.saturating_add(other.joins),
+            routes: other.routes,
         }
     }
 
-    // How often this client's calls were refused too.
-    fn with_refused(self, player: &Player<'_>) -> Taken {
+    // What this client did too.
+    fn with(self, player: &Player<'_>) -> Taken {
+        let (splits, joins) = player.adapted();
         Taken {
             nanos: self.nanos,
             full: self.full.saturating_add(player.full()),
             busy: self.busy.saturating_add(player.busy()),
+            splits: self.splits.saturating_add(splits),
+            joins: self.joins.saturating_add(joins),
+            routes: 0,
+        }
+    }
+
+    // The same without the splits and joins before it.
+    fn behind(self, (splits, joins): (u64, u64)) -> Taken {
+        Taken {
+            splits: self.splits.saturating_sub(splits),
+            joins: self.joins.saturating_sub(joins),
+            ..self
         }
     }
 }
@@ -162,14 +222,18 @@ const NOTHING: Taken = Taken {
     nanos: 0,
     full: 0,
     busy: 0,
+    splits: 0,
+    joins: 0,
+    routes: 0,
 };
 
 // What a run of these clients took.
 fn taken_by(nanos: u128, players: &[Player<'_>]) -> Taken {
     let mut taken = Taken { nanos, ..NOTHING };
     for player in players {
-        taken = taken.with_refused(player);
+        taken = taken.with(player);
     }
+    taken.routes = taken.splits.saturating_sub(taken.joins);
     taken
 }
 
@@ -208,13 +272,14 @@ fn run<R: Clock + Threads + Sync + Alloc<A = Global>>(
         Player::new(TreeStore::new(&tree, d), load, 4),
     ];
     players[0].fill(first);
+    let before = players[0].adapted();
     let threads = threads.min(4);
     let nanos = play_all(rt, &mut players[..threads], mix, calls)?;
     let played = calls.wrapping_mul(threads as u32);
     let is_good = good_calls(&players) as usize == played as usize + first.len()
         && players[0].total() == wanted_total(mix, played);
     Ok(if is_good {
-        Some(taken_by(nanos, &players))
+        Some(taken_by(nanos, &players).behind(before))
     } else {
         None
     })
@@ -253,25 +318,31 @@ fn even_numbers(alloc: Global, count: u32) -> Result<Vec<u32>, AllocError> {
 // Prints a line for a mix of calls on trees that are filled with objects of the first keys.
 fn time_line<R: Clock + Print + Threads + Sync + Alloc<A = Global>>(
     rt: &R,
-    (who, leaf): (&str, u8),
+    (who, tuning): (&str, Tuning),
     (load, first): (Load<'_>, &[u32]),
     (name, mix): (&str, Mix),
     threads: u32,
 ) -> io::Result<()> {
     let objects = first.len();
-    let tuning = Tuning { leaf, ..TUNING };
-    match rate_of(rt, tuning, (load, first), (mix, calls_of(mix)), threads)? {
-        Some((rate, Taken { full, busy, .. })) => {
-            println!(rt; "{who},{name},{objects},{threads},{rate},{full},{busy}")
-        }
-        None => println!(rt; "{who},{name},{objects},{threads},failed,,"),
-    }
+    let played = (shared(mix, threads), calls_of(mix));
+    let Some((rate, taken)) = rate_of(rt, tuning, (load, first), played, threads)? else {
+        return println!(rt; "{who},{name},{objects},{threads},failed,,,,,");
+    };
+    let Taken {
+        full,
+        busy,
+        splits,
+        joins,
+        routes,
+        ..
+    } = taken;
+    println!(rt; "{who},{name},{objects},{threads},{rate},{full},{busy},{splits},{joins},{routes}")
 }
 
 // Prints a line for a mix of calls on objects of numbers. The even keys are there at the start.
 fn time_mix<R: Clock + Print + Threads + Sync + Alloc<A = Global>>(
     rt: &R,
-    tree: (&str, u8),
+    tree: (&str, Tuning),
     objects: u32,
     mix: (&str, Mix),
     threads: u32,
@@ -327,16 +398,90 @@ fn time_sizes<R: Clock + Print + Threads + Sync + Alloc<A = Global>>(rt: &R) -> 
 }
 
 /// Prints a line of comma-separated values for each tree, mix of calls, number of objects and number of threads: which tree, the mix, how many objects
-/// there are at the start, how many threads, how many thousand calls a second they carry out together, and how often a call was refused for want of
-/// rows, and how often for another reason.
+/// there are at the start, how many threads, how many thousand calls a second they carry out together, how often a call was refused for want of
+/// rows, and how often for another reason, how many splits and joins there were in three runs, and how many routes the tree has behind the last one.
 pub fn time_trees<R: Clock + Print + Threads + Sync + Alloc<A = Global>>(rt: &R) -> io::Result<()> {
-    for tree in TREES {
-        for mix in MIXES {
+    time_all(rt, &TREES, &MIXES)?;
+    time_all(rt, &TREES[..1], &SHAPING)?;
+    time_all(rt, &SHAPED, &SHAPING)?;
+    time_users(rt)?;
+    time_sizes(rt)
+}
+
+// Prints a line for each of these trees and mixes, and each number of threads.
+fn time_all<R: Clock + Print + Threads + Sync + Alloc<A = Global>>(
+    rt: &R,
+    trees: &[(&str, Tuning)],
+    mixes: &[(&str, Mix)],
+) -> io::Result<()> {
+    for tree in trees {
+        for mix in mixes {
             for threads in THREADS {
-                time_mix(rt, tree, OBJECTS, mix, threads)?;
+                time_mix(rt, *tree, OBJECTS, *mix, threads)?;
             }
         }
     }
-    time_users(rt)?;
-    time_sizes(rt)
+    Ok(())
+}
+
+// The beginning of a line: a tree, a mix, and how many objects and threads there are.
+#[derive(Clone, Copy)]
+struct Wanted<'w> {
+    tree: &'w str,
+    mix: &'w str,
+    objects: u32,
+    threads: u32,
+}
+
+/// Prints the line that begins with these words, as `tree,mixed,10000,4`: the tree, the mix, the number of objects, and that of threads. It prints nothing
+/// where there is no such line.
+pub fn time_named<R: Clock + Print + Threads + Sync + Alloc<A = Global>>(
+    rt: &R,
+    line: &str,
+) -> io::Result<()> {
+    let Some(wanted) = wanted_by(line) else {
+        return Ok(());
+    };
+    time_wanted(rt, &TREES, &MIXES, wanted)?;
+    time_wanted(rt, &TREES, &SHAPING, wanted)?;
+    time_wanted(rt, &SHAPED, &MIXES, wanted)?;
+    time_wanted(rt, &SHAPED, &SHAPING, wanted)
+}
+
+// Prints the line that is wanted, where the tree and the mix are among these.
+fn time_wanted<R: Clock + Print + Threads + Sync + Alloc<A = Global>>(
+    rt: &R,
+    trees: &[(&str, Tuning)],
+    mixes: &[(&str, Mix)],
+    wanted: Wanted<'_>,
+) -> io::Result<()> {
+    let Wanted {
+        tree,
+        mix,
+        objects,
+        threads,
+    } = wanted;
+    for named in trees {
+        for calls in mixes {
+            if named.0 == tree && calls.0 == mix {
+                time_mix(rt, *named, objects, *calls, threads)?;
+            }
+        }
+    }
+    Ok(())
+}
+
+// What the words of a line say, where there are four, of which the last two are numbers.
+fn wanted_by(line: &str) -> Option<Wanted<'_>> {
+    let mut words = line.split(',');
+    let tree = words.next()?;
+    let mix = words.next()?;
+    let objects = words.next()?.parse().ok()?;
+    let threads = words.next()?.parse().ok()?;
+    Some(Wanted {
+        tree,
+        mix,
+        objects,
+        threads,
+    })
 }
