@@ -121,26 +121,6 @@ fn a_range_takes_a_turn_for_each_base_that_it_passes(rt: HostRuntime) {
     assert_eq!(rt; wrong_read(&mut store, &TURNS), None);
 }
 
-// Four keys in three bases.
-const FOUR: [Row; 1] = [(PutRising(1, 4), Many(4, Outcome::Done(())))];
-
-// One turn, for the first base, is too few.
-const STOPS: [Turn; 1] = [(Reads::All(0), 1, Comes::Passes(1))];
-
-#[test]
-fn a_base_that_a_range_which_was_given_up_marked_is_as_free_as_others(rt: HostRuntime) {
-    let Ok(mut tree) = tree_of(rt.alloc(), 384, 2, tuning_of(STAIRS), ZERO) else {
-        panic!(rt; "no memory")
-    };
-    let (Ok(one), Ok(two)) = (tree.enroll(rt.alloc()), tree.enroll(rt.alloc())) else {
-        panic!(rt; "no pass")
-    };
-    let (mut reader, mut writer) = (TreeStore::new(&tree, one), TreeStore::new(&tree, two));
-    assert_eq!(rt; wrong_row(&mut reader, &FOUR), None);
-    assert_eq!(rt; wrong_read(&mut reader, &STOPS), None);
-    assert_eq!(rt; put(&mut writer, 1, 0, 1), Outcome::Done(()));
-}
-
 const REMOVED: Answer = Finds(Outcome::Done(Changed::Put), Some(0));
 
 // Three bases in the middle have no object any more.
