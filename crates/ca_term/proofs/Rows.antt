@@ -66,7 +66,7 @@ row_cmp_found r s i t u o h k e f n =
     ∙ sym (row_cmp_drop r s i t u h k) ∙ e
 
 -- each item of a tuple has fewer nodes than the tuple, as the measure of a drop counts them
-pub items_fewer : (ts : List Tree) → most (λ k. 2 * (nodes k + 1) + 0) ts ≤ 2 * (row_nodes (row_of ts) + 1)
+pub items_fewer : (ts : List Tree) → most (λ k. 3 * (nodes k + 1) + 0) ts ≤ 3 * (row_nodes (row_of ts) + 1)
 items_fewer [] = omega arith
 items_fewer (t ∷ ts) = omega (arith, items_fewer ts)
 

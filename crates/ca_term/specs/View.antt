@@ -11,8 +11,10 @@ tree_of (node.Int n) = Integer n
 tree_of (node.Atom text) = Atom (string_bytes text)
 tree_of (node.Tuple items) = Tuple (row_of items.items)
 tree_of node.Nil = Nil
-tree_of (node.Cons head tail) = Cons head.value tail.value
+tree_of (node.Cons cell) = Cons cell.value.head cell.value.tail
 tree_of (node.Bin bytes) = Binary bytes.items
+tree_of (node.ShortAtom text) = Atom text.bytes
+tree_of (node.ShortBin bytes) = Binary bytes.items
 
 -- A term is within the bounds, and keeps its depth.
 pub record IsKept (term : Inside) : Type 0 where

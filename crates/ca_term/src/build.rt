@@ -7,8 +7,9 @@ ghost use Rattle.ca_term.specs.Tree.{Integer, Atom, Tuple, Nil, Cons, Binary, ro
 
 use crate::bounds::{MOST_CODE_POINTS, MOST_DEPTH, MOST_ELEMENTS};
 use crate::fault::TermFault;
-use crate::term::{Node, Term};
+use crate::term::{Cell, Node, Term};
 use crate::terms::Terms;
+use arrayvec::{ArrayString, ArrayVec};
 use std::alloc::Global;
 
 /// The term of an integer.
@@ -47,6 +48,12 @@ pub fn atom(alloc: Global, text: &str) -> Result<Term, TermFault>
     if code_points(text) > MOST_CODE_POINTS {
         return Err(TermFault::AtomTooLong);
     }
+    if let Ok(short) = ArrayString::from(text) {
+        return Ok(Term {
+            node: Node::ShortAtom(short),
+            depth: 1,
+        });
+    }
     let text = text.to_string(alloc)?;
     Ok(Term {
         node: Node::Atom(text),
@@ -59,6 +66,12 @@ pub fn bin(alloc: Global, bytes: &[u8]) -> Result<Term, TermFault>
     ensures ok { IfOk result (λ t. t ≡ Binary bytes.now) }
     ensures causes { IfErr result (λ e. e ≡ TermFault.NoMemory) }
 {
+    if let Ok(short) = ArrayVec::try_from(bytes) {
+        return Ok(Term {
+            node: Node::ShortBin(short),
+            depth: 1,
+        });
+    }
     let bytes = bytes.to_vec(alloc)?;
     Ok(Term {
         node: Node::Bin(bytes),
@@ -86,10 +99,9 @@ pub fn cons(alloc: Global, head: Term, tail: Term) -> Result<Term, TermFault>
     if depth > MOST_DEPTH {
         return Err(TermFault::TooDeep);
     }
-    let head = Box::new(alloc, head)?;
-    let tail = Box::new(alloc, tail)?;
+    let cell = Box::new(alloc, Cell { head, tail })?;
     Ok(Term {
-        node: Node::Cons(head, tail),
+        node: Node::Cons(cell),
         depth,
     })
 }

@@ -3,7 +3,8 @@ ghost use Rattle.std.specs.Prelude.{◌≡◌, false, IfOk, IfErr};
 ghost use Rattle.ca_term.specs.Tree.{is_cell};
 
 use crate::fault::TermFault;
-use crate::term::{Node, Term};
+use crate::term::{Cell, Node, Term};
+use arrayvec::ArrayVec;
 use std::alloc::Global;
 
 /// A term equal to this one.
@@ -17,17 +18,16 @@ pub fn try_copy(alloc: Global, term: &Term) -> Result<Term, TermFault>
 {
     let mut heads = Vec::new(alloc);
     let mut rest = term;
-    while let Node::Cons(head, tail) = &rest.node {
-        let head = try_copy(alloc, head)?;
+    while let Node::Cons(cell) = &rest.node {
+        let head = try_copy(alloc, &cell.head)?;
         heads.push((head, rest.depth))?;
-        rest = tail;
+        rest = &cell.tail;
     }
     let mut copy = copy_last(alloc, rest)?;
     while let Some((head, depth)) = heads.pop() {
-        let head = Box::new(alloc, head)?;
-        let tail = Box::new(alloc, copy)?;
+        let cell = Box::new(alloc, Cell { head, tail: copy })?;
         copy = Term {
-            node: Node::Cons(head, tail),
+            node: Node::Cons(cell),
             depth,
         };
     }
@@ -47,8 +47,13 @@ fn copy_last(alloc: Global, term: &Term) -> Result<Term, TermFault>
         Node::Atom(text) => Node::Atom(text.as_str().to_string(alloc)?),
         Node::Tuple(items) => Node::Tuple(copy_items(alloc, items.as_slice())?),
         Node::Nil => Node::Nil,
-        Node::Cons(_, _) => unreachable!(),
+        Node::Cons(_) => unreachable!(),
         Node::Bin(bytes) => Node::Bin(bytes.as_slice().to_vec(alloc)?),
+        Node::ShortAtom(text) => Node::ShortAtom(*text),
+        Node::ShortBin(bytes) => match ArrayVec::try_from(bytes.as_slice()) {
+            Ok(copy) => Node::ShortBin(copy),
+            Err(_) => unreachable!(),
+        },
     };
     Ok(Term {
         node,

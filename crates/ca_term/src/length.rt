@@ -29,17 +29,22 @@ fn room_behind(term: &Term, room: usize) -> Option<usize>
 {
     let mut rest = term;
     let mut left = room;
-    while let Node::Cons(head, tail) = &rest.node {
-        left = room_behind(head, left.checked_sub(1)?)?;
-        rest = tail;
+    while let Node::Cons(cell) = &rest.node {
+        left = room_behind(&cell.head, left.checked_sub(1)?)?;
+        rest = &cell.tail;
     }
     match &rest.node {
         Node::Int(value) => left.checked_sub(int_code_length(*value)),
         Node::Atom(text) => room_behind_escaped(text.as_str().as_bytes(), left.checked_sub(1)?),
         Node::Tuple(items) => room_behind_items(items.as_slice(), left.checked_sub(5)?),
         Node::Nil => left.checked_sub(1),
-        Node::Cons(_, _) => unreachable!(),
+        Node::Cons(_) => unreachable!(),
         Node::Bin(bytes) => room_behind_escaped(bytes.as_slice(), left.checked_sub(1)?),
+        Node::ShortAtom(text) => room_behind_escaped(
+            text.as_str().as_bytes(),
+            left.checked_sub(1)?,
+        ),
+        Node::ShortBin(bytes) => room_behind_escaped(bytes.as_slice(), left.checked_sub(1)?),
     }
 }
 

@@ -3,22 +3,22 @@ ghost use Rattle.std.specs.Prelude.{◌≡◌, length};
 ghost use Rattle.std.specs.Cmp.{IsTotalOrder};
 ghost use Rattle.ca_term.specs.Order.{term_cmp, row_cmp, rank};
 ghost use Rattle.ca_term.specs.Tree.{row_of};
-ghost use Rattle.ca_term.specs.View.{tree_of};
+ghost use Rattle.ca_term.specs.Kind.{tree_of_kind};
 
-use crate::term::{Node, Term};
+use crate::term::{Kind, Term};
 use std::cmp::Ordering;
 
-impl Node {
+impl Kind<'_> {
     fn rank(&self) -> u8
-        ensures { result ≡ rank (tree_of self.now) }
+        ensures { result ≡ rank (tree_of_kind self.now) }
     {
         match self {
-            Node::Int(_) => 0,
-            Node::Atom(_) => 1,
-            Node::Tuple(_) => 2,
-            Node::Nil => 3,
-            Node::Cons(_, _) => 4,
-            Node::Bin(_) => 5,
+            Kind::Int(_) => 0,
+            Kind::Atom(_) => 1,
+            Kind::Tuple(_) => 2,
+            Kind::Nil => 3,
+            Kind::Cons(_, _) => 4,
+            Kind::Bin(_) => 5,
         }
     }
 }
@@ -31,10 +31,10 @@ pub fn term_order(a: &Term, b: &Term) -> Ordering
     let mut left = a;
     let mut right = b;
     'cells: loop {
-        match (&left.node, &right.node) {
-            (Node::Int(m), Node::Int(n)) => return m.cmp(n),
-            (Node::Atom(s), Node::Atom(t)) => return s.as_str().cmp(t.as_str()),
-            (Node::Tuple(r), Node::Tuple(s)) => match r.len().cmp(&s.len()) {
+        match (left.kind(), right.kind()) {
+            (Kind::Int(m), Kind::Int(n)) => return m.cmp(&n),
+            (Kind::Atom(s), Kind::Atom(t)) => return s.cmp(t),
+            (Kind::Tuple(r), Kind::Tuple(s)) => match r.len().cmp(&s.len()) {
                 Ordering::Equal => {
                     for i in 0..r.len() {
                         match term_order(&r[i], &s[i]) {
@@ -46,15 +46,15 @@ pub fn term_order(a: &Term, b: &Term) -> Ordering
                 }
                 unequal => return unequal,
             },
-            (Node::Nil, Node::Nil) => return Ordering::Equal,
-            (Node::Cons(h, t), Node::Cons(k, u)) => match term_order(h, k) {
+            (Kind::Nil, Kind::Nil) => return Ordering::Equal,
+            (Kind::Cons(h, t), Kind::Cons(k, u)) => match term_order(h, k) {
                 Ordering::Equal => {
                     left = t;
                     right = u;
                 }
                 unequal => return unequal,
             },
-            (Node::Bin(x), Node::Bin(y)) => return x.as_slice().cmp(y.as_slice()),
+            (Kind::Bin(x), Kind::Bin(y)) => return x.cmp(y),
             (x, y) => return x.rank().cmp(&y.rank()),
         }
     }

@@ -3,7 +3,11 @@ ghost use Rattle.std.specs.Prelude.{◌≡◌};
 ghost use Rattle.ca_term.specs.Kind.{tree_of_kind};
 ghost use Rattle.ca_term.specs.Tree.{IsTerm};
 
+use arrayvec::{ArrayString, ArrayVec};
 use std::marker::Model;
+
+// The most bytes of a text, or of a binary, that stand in the node itself: a `String` and a `Vec` are as large.
+const SHORT: usize = 16;
 
 /// A term of at most `MOST_DEPTH` levels, whose tuples have at most `MOST_ELEMENTS` elements and whose atoms at most
 /// `MOST_CODE_POINTS` code points.
@@ -21,8 +25,18 @@ pub(crate) enum Node {
     Atom(String),
     Tuple(Vec<Term>),
     Nil,
-    Cons(Box<Term>, Box<Term>),
+    Cons(Box<Cell>),
     Bin(Vec<u8>),
+    ShortAtom(ArrayString<SHORT>),
+    ShortBin(ArrayVec<u8, SHORT>),
+}
+
+/// A list cell: both of its parts in one piece of memory.
+#[cycle(term)]
+#[derive(Drop)]
+pub(crate) struct Cell {
+    pub(crate) head: Term,
+    pub(crate) tail: Term,
 }
 
 impl Model for Term {
@@ -52,9 +66,17 @@ impl Drop for Term {
         loop {
             let Term { node, depth: _ } = self;
             match node {
-                Node::Cons(_, tail) => self = Box::into_inner(tail),
+                Node::Cons(cell) => {
+                    let Cell { head: _head, tail } = Box::into_inner(cell);
+                    self = tail;
+                }
                 Node::Tuple(_items) => return,
-                Node::Int(_) | Node::Atom(_) | Node::Nil | Node::Bin(_) => return,
+                Node::Int(_)
+                | Node::Atom(_)
+                | Node::Nil
+                | Node::Bin(_)
+                | Node::ShortAtom(_)
+                | Node::ShortBin(_) => return,
             }
         }
     }
@@ -82,8 +104,10 @@ impl Term {
             Node::Atom(text) => Kind::Atom(text.as_str()),
             Node::Tuple(items) => Kind::Tuple(items.as_slice()),
             Node::Nil => Kind::Nil,
-            Node::Cons(head, tail) => Kind::Cons(head, tail),
+            Node::Cons(cell) => Kind::Cons(&cell.head, &cell.tail),
             Node::Bin(bytes) => Kind::Bin(bytes.as_slice()),
+            Node::ShortAtom(text) => Kind::Atom(text.as_str()),
+            Node::ShortBin(bytes) => Kind::Bin(bytes.as_slice()),
         }
     }
 }

@@ -16,4 +16,4 @@ abbrev pub decreases-cells : goal.decreases-cells
 decreases-cells l = nodes l.left
 
 abbrev pub invariant-loop-i : goal.invariant-loop-i
-invariant-loop-i l = row_cmp (row_of (drop l.i l.r.items)) (row_of (drop l.i l.s.items)) ≡ row_cmp (row_of l.r.items) (row_of l.s.items)
+invariant-loop-i l = row_cmp (row_of (drop l.i l.r)) (row_of (drop l.i l.s)) ≡ row_cmp (row_of l.r) (row_of l.s)
