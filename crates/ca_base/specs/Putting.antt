@@ -138,6 +138,7 @@ renewal_of met u key old new = record {
   splits = u.splits;
   joins = u.joins;
   loads = u.loads;
+  passed = u.turns.passed;
   met = met;
 }
 

@@ -181,6 +181,7 @@ module _ (z : Sizes) (s : State (Unit {0}) (View TreeView)) (r : R z s) (id : �
             so.1,
             inr record {
               last = last.row;
+              some_row = last_true.some_row;
               decided = subst (λ (q : ℕ × ℕ). IsDecided words' q.0 q.1 last.row) (λ i. (sym mine i, sym (active_mine b.number on.0) i)) decided_now;
               notes = the_run;
               trues = run_true;

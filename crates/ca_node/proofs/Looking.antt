@@ -22,6 +22,7 @@ use Rattle.ca_node.specs.Attempts.{HasAttempt}
 use Rattle.ca_node.specs.Hindsight.{IsLeftOver, LedTo, IsDead}
 use Rattle.ca_node.specs.Joining.{IsRemembered, IsJoining}
 use Rattle.ca_node.specs.JoinsStay.{link_of_one, remembered_route, joining_unnoted}
+use Rattle.ca_node.specs.Aside.{IsAside, PassesOn, passed_on}
 use Rattle.ca_node.specs.Laws.{noted_alike, tree_lends, numbered, relisted, seat_changed}
 use Rattle.ca_node.specs.Links.{IsIn, IsUnder, IsLinked, by_route, by_base, IsLent, HasBegun, IsNoted, by_note, by_item, by_way, by_link, by_link_item, by_border, by_run, by_run_item, by_shown, by_shown_item}
 use Rattle.ca_node.specs.Marks.{IsOfRange, IsOfJoin, IsMark}
@@ -34,10 +35,10 @@ use Rattle.ca_node.specs.Standing.{mark_of}
 use Rattle.ca_node.specs.Stays.{word_at, row_long}
 use Rattle.ca_node.specs.May.{MayLoad}
 use Rattle.ca_node.specs.Notes.{IsBaseNote}
-use Rattle.ca_node.specs.Told.{MyTree, with_upper, IsRouteNote, IsKnown, IsMissed, IsKnownLink, IsPlaceOf, led_to_base, led_to_route, IsOfNote, IsShown, IsShownRoute, IsShownOfRange, IsRead, Reads, entered, ReadsLast, Refuses, IsRise, PassesOn, passed_on, one_more_lost}
+use Rattle.ca_node.specs.Told.{MyTree, with_upper, IsRouteNote, IsKnown, IsMissed, IsKnownLink, IsPlaceOf, led_to_base, led_to_route, IsOfNote, IsShown, IsShownRoute, IsShownOfRange, IsRead, Reads, entered, ReadsLast, Refuses, IsRise, one_more_lost}
 use Rattle.ca_node.specs.States.{IsReadSince}
 use Rattle.ca_node.specs.Tree.{StartsWith, ArePast, IsLinkOfView, IsFixed, IsAlive, IsTrue, IsTrueWay, Knows, IsTree}
-use Rattle.ca_node.specs.TreeView.{Note, Way, Border, Inventory, KnownRanges, Turns, TreeView, one_passed}
+use Rattle.ca_node.specs.TreeView.{Note, Way, Border, Inventory, KnownRanges, Turns, TreeView, no_note, one_passed}
 use Rattle.ca_node.proofs.Logs.{state_stays, read_lawful, past_more}
 use Rattle.ca_rows.specs.Layout.{row_words}
 use Rattle.ca_node.specs.Layout.{root_word, sequence_unit}
@@ -654,20 +655,20 @@ module _ (z : Sizes) where
         (refl, inr (inr (inl (event, read))), read),
       )
 
-  -- A load after which the seat counts otherwise, and knows what it knew.
+  -- A load after which the seat counts otherwise, and knows what it knew, but for the base that a walk came to last.
   pub recounted : (s : State (Unit {0}) (View TreeView)) (r : R z s) (i id : ℕ) (d : View TreeView)
-      (counts : Counts) (turns : Turns)
+      (counts : Counts) (turns : Turns) (last : Note)
       → get_elem? s.views id ≡ some d
       → R z record {
         words = set s.words i (get_or s.words i 0);
         homes = s.homes;
         views = set s.views id
-            (record d { upper = record d.upper { counts = counts; turns = turns } });
+            (record d { upper = record d.upper { counts = counts; turns = turns; last = last } });
       }
-  recounted s r i id d counts turns at = let f = r.above in
+  recounted s r i id d counts turns last at = let f = r.above in
       let us : List TreeView = map upper_of s.views in
       let first = at_map upper_of s.views id d at in
-      let u' : TreeView = record d.upper { counts = counts; turns = turns } in
+      let u' : TreeView = record d.upper { counts = counts; turns = turns; last = last } in
       let k = relisted z r.made s.words f.role us (set us id u') f.history id d.upper
       (numbered us id d.upper u' first (λ _. refl))
       (knows_upper z s r id d at) in
@@ -745,17 +746,17 @@ module _ (z : Sizes) where
     record d { upper = record d.upper { counts = one_more d.upper.counts } },
     keeps,
     tt,
-    recounted s r i id d (one_more d.upper.counts) d.upper.turns at,
+    recounted s r i id d (one_more d.upper.counts) d.upper.turns d.upper.last at,
     (refl, inr (inr (inr (inl (one_more, rise, refl)))), refl),
   )
 
-  -- A load by which the seat passes on.
-  pub passes_on : (slots id : ℕ) (me : MyTree) (i : ℕ) → Allows (R z) slots id me i
+  -- A load by which the seat counts that it looked to the left.
+  pub passes_on : (slots id : ℕ) (me : MyTree) (i : ℕ) → IsAside me.0.upper → Allows (R z) slots id me i
       (λ x. x) (Raises MayLoad PassesOn (step slots i 0 0 none) me)
-  passes_on slots id me i s r _ at _ = let d = me.0 in (
+  passes_on slots id me i aside s r _ at _ = let d = me.0 in (
     record d { upper = passed_on d.upper },
     keeps,
     tt,
-    recounted s r i id d d.upper.counts (one_passed d.upper.turns) at,
-    (refl, inr (inr (inr (inr (inr (inr (inl refl)))))), refl),
+    recounted s r i id d d.upper.counts (one_passed d.upper.turns) no_note at,
+    (refl, inr (inr (inr (inr (inr (inr (inl (aside, refl))))))), (aside, refl)),
   )

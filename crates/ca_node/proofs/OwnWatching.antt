@@ -15,7 +15,7 @@ use Rattle.ca_node.specs.LoneStays.{none_kept, none_by_marking, none_by_quiet, l
 use Rattle.ca_node.specs.Endings.{over_up_to}
 use Rattle.ca_node.specs.Laws.{noted_more, noted_alike, numbered, relisted, seat_changed, starts_whole}
 use Rattle.ca_node.specs.Layout.{sequence_unit}
-use Rattle.ca_node.specs.Links.{IsIn, IsOfOwnRun, IsNoted, by_run, by_run_item}
+use Rattle.ca_node.specs.Links.{IsActive, IsIn, IsOfOwnRun, IsNoted, by_run, by_run_item}
 use Rattle.ca_node.specs.May.{MayLoad}
 use Rattle.ca_node.specs.Notes.{IsBaseNote}
 use Rattle.ca_node.specs.OwnRanges.{ended_with_run, HasFoundRun, numbered_by, IsFoundSo, WatchesOwn}
@@ -140,6 +140,7 @@ module _ (z : Sizes) (s : State (Unit {0}) (View TreeView)) (r : R z s) (id : �
     found_run : HasFoundRun me n (with_upper me u') begun border
     found_run = record {
       last = was.last;
+      some_row = was.some_row;
       word = sym same ∙ was.decided.4;
       small = was.decided.3;
       more = more;
@@ -187,7 +188,11 @@ module _ (z : Sizes) (s : State (Unit {0}) (View TreeView)) (r : R z s) (id : �
   found (Marking begun border) is =
       let so = subst (IsSoFar z s.words role (f.ranged.ends pass) u.since f.history pass u.ranges.borders) is (known.own is_pass) in
       ⊎_elim
-      (λ on. (numbered_by n u, number_learnt, inl (sym same ∙ on.0.0.2, refl)))
+      (λ on. (
+        numbered_by n u,
+        number_learnt,
+        inl (sym same ∙ on.0.0.2, refl, λ o. (known.over o.0 o.1 begun.number o.3).1 (subst (λ (p : ℕ). IsActive s.words p begun.number) (sym o.2) on.0.0)),
+      ))
       (λ (was : WasDecided z s.words r.above.role me.0.upper.since r.above.history me.0.upper.number begun border.its).
       (u' begun border is was, run_learnt begun border is was, inr (found_run begun border is was)))
       so.2

@@ -126,6 +126,7 @@ module _ (z : Sizes) (s : State (Unit {0}) (View TreeView)) (r : R z s) (pass wo
       ))
           (λ (was : WasDecided z s.words role since r.above.history p begun b.its). inr record {
             last = was.last;
+            some_row = was.some_row;
             decided = let d = was.decided in (d.0, d.1, d.2, d.3, result_same p d.0 d.1 ne ∙ d.4);
             notes = was.notes;
             trues = λ note i. true_then note (was.trues note i);

@@ -1,3 +1,4 @@
+pub mod Aside
 pub mod Attempts
 pub mod Bare
 pub mod Copies

@@ -3,16 +3,17 @@ use Rattle.std.specs.Prelude.{◌≡◌, ◌⊎◌, Bool, ℕ, List}
 use Rattle.atomic_table.specs.Table.{Step}
 use Rattle.ca_model.specs.Event.{Event}
 use Rattle.ca_model.specs.Known.{Counts}
+use Rattle.ca_node.specs.Aside.{PassesOn}
 use Rattle.ca_node.specs.Copies.{Copy, Copies}
 use Rattle.ca_node.specs.Endings.{IsHelpStep, Helps}
 use Rattle.ca_node.specs.JoinSteps.{LoadsJoin, SwapsJoin}
-use Rattle.ca_node.specs.Told.{MyTree, Leads, Reads, ReadsLast, IsRise, Refuses, PassesOn, Watches, IsLastThere, Update, Updates, Divides}
+use Rattle.ca_node.specs.Told.{MyTree, Leads, Reads, ReadsLast, IsRise, Refuses, Watches, IsLastThere, Update, Updates, Divides}
 use Rattle.ca_node.specs.OwnRanges.{Opens, WatchesOwn, DecidesOwn, Aborts, Leaves}
 use Rattle.ca_node.specs.Unlinks.{UnlinksSome}
 use Rattle.ca_node.specs.TreeView.{Note, Border, Begun, Division, KnownRanges, TreeView}
 
 -- All that a load may tell of the tree: that of a link, that of a word that was shown, the ends of calls, which edit nothing or are refused, and how far a
--- range is, or a join; or that the seat passed on. No load counts a lost exchange, a split or an update.
+-- range is, or a join; or that the seat had looked to the left. No load counts a lost exchange, a split or an update.
 abbrev pub MayLoad : Step (Unit {0}) → MyTree → ℕ → MyTree → Type 0
 MayLoad st m n m' = ((walks : Bool) × Leads walks st m n m') ⊎ (Reads st m n m' ⊎ (((event : Event) × ReadsLast event st m n m')
     ⊎ (((rise : Counts → Counts) × IsRise rise × Refuses rise st m n m') ⊎ (Watches st m n m' ⊎ (WatchesOwn st m n m'

@@ -12,7 +12,7 @@ use Rattle.ca_node.specs.Notes.{IsBaseNote}
 use Rattle.ca_node.specs.Ranging.{IsRunShown, Reaches}
 use Rattle.ca_node.specs.Row.{IsMarkedBy}
 use Rattle.ca_node.specs.Told.{MyTree, with_upper, IsKnown, status_word}
-use Rattle.ca_node.specs.TreeView.{Note, Border, Begun, Ranging, Quiet, Unmarked, Marking, Left, Joining, Secured, KnownRanges, TreeView}
+use Rattle.ca_node.specs.TreeView.{Note, Over, Border, Begun, Ranging, Quiet, Unmarked, Marking, Left, Joining, Secured, KnownRanges, TreeView}
 
 -- The seat may begin a range: it is pinned, its last one is over, and this one has the next number.
 pub record IsOpening (m : MyTree) (begun : Begun) : Type 0 where
@@ -49,6 +49,7 @@ pub record HasFoundRun (m : MyTree) (n : ℕ) (m' : MyTree) (begun : Begun) (bor
   pub last : ℕ
   pub word : n ≡ decided_word begun.number last
   pub small : last < row_limit
+  pub some_row : 0 < last
   pub more : History
   pub run : List Note
   pub seen : IsRunSeen m more begun last run
@@ -63,11 +64,15 @@ pub record HasFoundRun (m : MyTree) (n : ℕ) (m' : MyTree) (begun : Begun) (bor
 abbrev pub numbered_by : ℕ → TreeView → TreeView
 numbered_by n u = record u { ranges = record u.ranges { sequence = some (n / sequence_unit) } }
 
--- what the load tells, by how far the seat knew its range to be
+-- The seat knows that this range of its own is over.
+abbrev pub IsKnownEnded : TreeView → ℕ → Type 0
+IsKnownEnded u number = (x : Over) × IsIn x u.ranges.over × (x.pass ≡ u.number) × (number < x.below)
+
+-- what the load tells, by how far the seat knew its range to be: one that it knows to be over isn't active
 abbrev pub IsFoundSo : MyTree → ℕ → MyTree → Ranging → Type 0
 IsFoundSo m n m' Quiet = (n % sequence_unit ≢ row_limit) × (m' ≡ with_upper m (numbered_by n m.0.upper))
 IsFoundSo m n m' (Unmarked begun) = (n ≡ active_word begun.number) × (m' ≡ with_upper m (numbered_by n m.0.upper))
-IsFoundSo m n m' (Marking begun border) = ((n ≡ active_word begun.number) × (m' ≡ with_upper m (numbered_by n m.0.upper)))
+IsFoundSo m n m' (Marking begun border) = ((n ≡ active_word begun.number) × (m' ≡ with_upper m (numbered_by n m.0.upper)) × ¬ IsKnownEnded m.0.upper begun.number)
     ⊎ HasFoundRun m n m' begun border
 IsFoundSo m n m' Left = m' ≡ with_upper m (numbered_by n m.0.upper)
 IsFoundSo m n m' (Joining x) = (n % sequence_unit ≢ row_limit) × (m' ≡ with_upper m (numbered_by n m.0.upper))

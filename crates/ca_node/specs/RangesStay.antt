@@ -144,6 +144,7 @@ module _ (z : Sizes) (words others : List ℕ) (role role' : ℕ → Role)
     unfolding run_on
     decided_still begun its marking was = record {
       last = was.last;
+      some_row = was.some_row;
       decided = decided_on pass begun.number was.last was.decided;
       notes = was.notes;
       bases = was.bases;

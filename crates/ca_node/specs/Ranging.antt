@@ -70,6 +70,7 @@ IsSomeMarked words role pass number = (base : ℕ) × IsBase role base × IsMark
 -- It was decided: its run is shown, and has all keys up to where the range goes.
 pub record WasDecided (z : Sizes) (words : List ℕ) (role : ℕ → Role) (since history : History) (pass : ℕ) (begun : Begun) (its : List ℕ) : Type 0 where
   pub last : ℕ
+  pub some_row : 0 < last
   pub decided : IsDecided words pass begun.number last
   pub notes : List Note
   pub trues : (note : Note) → IsIn note notes → IsTrue z.rows words role note

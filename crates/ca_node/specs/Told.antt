@@ -348,6 +348,7 @@ renewed_by met u new x = record {
   splits = u.splits;
   joins = u.joins;
   loads = u.loads;
+  passed = u.turns.passed;
   met = met;
 }
 
@@ -480,14 +481,6 @@ IsRise rise = (why : Cause) × (rise ≡ one_more why)
 -- A word was loaded as a call was refused, and the call is counted so.
 abbrev pub Refuses : (Counts → Counts) → Step (Unit {0}) → MyTree → ℕ → MyTree → Type 0
 Refuses rise st m n m' = m' ≡ with_upper m (record m.0.upper { counts = rise m.0.upper.counts })
-
--- what a seat knows that passed on to another place
-abbrev pub passed_on : TreeView → TreeView
-passed_on u = record u { turns = one_passed u.turns }
-
--- A word was loaded as the seat passed on, which is counted.
-abbrev pub PassesOn : Step (Unit {0}) → MyTree → ℕ → MyTree → Type 0
-PassesOn st m n m' = m' ≡ with_upper m (passed_on m.0.upper)
 
 -- what a front knows: the history that the pass has seen
 abbrev pub front_of : TreeView → TreeView

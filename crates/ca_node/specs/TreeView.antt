@@ -25,8 +25,8 @@ pub record Way : Type 0 where
   pub place : Place
 
 -- An update that the seat carried out: how many it has carried out with this one, the key that it was about, the base that was there and the one
--- that took its place; and how many exchanges of a link the seat had lost until then, how many splits and joins carried out, how many links loaded, and
--- what it had met of the pool.
+-- that took its place; and how many exchanges of a link the seat had lost until then, how many splits and joins carried out, how many links loaded, how often it
+-- had passed on to another place, and what it had met of the pool.
 pub record Renewal : Type 0 where
   pub count : ℕ
   pub key : List ℕ
@@ -36,6 +36,7 @@ pub record Renewal : Type 0 where
   pub splits : ℕ
   pub joins : ℕ
   pub loads : ℕ
+  pub passed : ℕ
   pub met : Met
 
 -- A split: the base that it takes the place of, the route and the two new bases, with their words, and how many objects go left.
@@ -177,7 +178,7 @@ abbrev pub no_note : Note
 no_note = record { row = 0; its = []; objects = []; place = root_place }
 
 abbrev pub no_renewal : Renewal
-no_renewal = record { count = 0; key = []; old = no_note; new = no_note; lost = 0; splits = 0; joins = 0; loads = 0; met = nothing_met }
+no_renewal = record { count = 0; key = []; old = no_note; new = no_note; lost = 0; splits = 0; joins = 0; loads = 0; passed = 0; met = nothing_met }
 
 abbrev pub no_refusals : Counts
 no_refusals = record { busy = 0; full = 0; deep = 0; worn = 0; last = None }

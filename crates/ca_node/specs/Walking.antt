@@ -1,12 +1,12 @@
 -- Walks from the root link to a base.
 use Rattle.std.specs.Prelude.{◌≡◌, ◌≢◌, ◌⊎◌, Bool, true, false, not, ℕ, ◌+◌, ◌-◌, ◌*◌, ◌<◌, ◌≤◌, List, ◌∷◌, ◌++◌, length, take, drop, Option, None, Some}
-use Rattle.std.specs.declared.cmp.Ordering.TheVariants.{Less, Greater}
 use Rattle.std.specs.Int.{to_be_bytes, w64}
 use Rattle.std.specs.Ordering.{is_lt, is_gt}
 use Rattle.ca_model.specs.Edges.{Bound, Unbounded, Included, Excluded}
 use Rattle.ca_model.specs.History.{History}
 use Rattle.ca_model.specs.StoreMap.{bytes_cmp}
 use Rattle.ca_rows.specs.declared.sizes.Sizes.{Sizes}
+use Rattle.ca_node.specs.Aside.{LeavesNone, LetsLess}
 use Rattle.ca_node.specs.declared.cursor.Cursor.{Cursor}
 use Rattle.ca_node.specs.declared.cursor.Spot.{Spot}
 use Rattle.ca_node.specs.declared.cursor.Spot.TheVariants as spot
@@ -22,18 +22,6 @@ use Rattle.ca_node.specs.Told.{MyTree, with_upper, IsRouteNote, IsKnown, IsKnown
 use Rattle.ca_node.specs.States.{HasState, IsAlone}
 use Rattle.ca_node.specs.TreeView.{Note, Way, TreeView}
 use Rattle.ca_rows.specs.Layout.{row_words}
-
--- A lower bound lets keys in that are less than this one.
-abbrev pub LetsLess : Bound → List ℕ → Type 0
-LetsLess Unbounded key = Unit {0}
-LetsLess (Included low) key = bytes_cmp low key ≡ Less
-LetsLess (Excluded low) key = bytes_cmp low key ≡ Less
-
--- No key that is less than this one is beyond an upper bound.
-abbrev pub LeavesNone : Bound → List ℕ → Type 0
-LeavesNone Unbounded key = Unit {0}
-LeavesNone (Included high) key = bytes_cmp key high ≢ Greater
-LeavesNone (Excluded high) key = bytes_cmp key high ≢ Greater
 
 -- The keys of this part are those that are looked for: the first ones, those among which this one is, those right below it, or the last ones.
 abbrev pub IsSought : Spot → Span → Type 0

@@ -1,11 +1,12 @@
 //! What each step of the tree tells.
 ghost use Rattle.std.specs.Prelude.{ℕ, List, [], ◌∷◌, true, false};
+ghost use Rattle.ca_node.specs.Aside.{PassesOn};
 ghost use Rattle.ca_node.specs.Copies.{Copy, no_copy, Copies, marking_now};
 ghost use Rattle.ca_node.specs.Endings.{Helps};
 ghost use Rattle.ca_node.specs.JoinSteps.{LoadsJoin, AbortsSome, BeginsSome, SecuresSome, LeavesSome};
 ghost use Rattle.ca_node.specs.OwnRanges.{Opens, WatchesOwn, DecidesOwn, Aborts, Leaves};
 ghost use Rattle.ca_node.specs.Row.{mark_bound};
-ghost use Rattle.ca_node.specs.Told.{Leads, PassesOn, Reads, Watches, Update, Updates, no_update, Divides, no_division, front_of, learnt};
+ghost use Rattle.ca_node.specs.Told.{Leads, Reads, Watches, Update, Updates, no_update, Divides, no_division, front_of, learnt};
 ghost use Rattle.ca_node.specs.TreeView.{blank, no_note, no_border, none_begun, Note, Border, Begun, Division};
 ghost use Rattle.ca_node.specs.Unlinks.{Unlinking, no_unlinking, UnlinksRoute};
 ghost use Rattle.ca_rows.specs.Closed.{joined};
@@ -44,7 +45,7 @@ impl Play<(), View<Knowledge>> for Watch {
     ghost then = { Watches };
 }
 
-/// A load by which a pass goes on to another place.
+/// A load by which a pass counts that it looked to the left.
 pub struct PassOn;
 
 impl Play<(), View<Knowledge>> for PassOn {

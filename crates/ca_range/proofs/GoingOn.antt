@@ -1,5 +1,5 @@
 -- A pass's own range goes on: what is left of a pass behind each step.
-use Rattle.std.proofs.Common.{◌≡◌, ◌<◌, ℕ, Bool, List, sym, refl, ap, ◌∙◌, subst}
+use Rattle.std.proofs.Common.{◌≡◌, ◌<◌, ℕ, Bool, List, inl, sym, refl, ap, ◌∙◌, subst}
 use denote.Ref.{Bor}
 use denote.Param.Members.{Shared}
 use Rattle.ca_base.specs.Counting.{HasMet, HasStoppedBy}
@@ -38,7 +38,7 @@ use Rattle.ca_range.specs.declared.sought.Sought.{Sought}
 use Rattle.ca_range.proofs.NextGathered.{marking_on}
 use Rattle.ca_range.proofs.OwnSteps.{ended_on}
 use Rattle.ca_range.proofs.Readied.{ready_still}
-use Rattle.ca_range.proofs.SnapshotSteps.{ranges_by_steps, ranges_none}
+use Rattle.ca_range.proofs.SnapshotSteps.{IsNoLess, crossed_after, crossed_before, ranges_by_steps, ranges_none}
 use Rattle.ca_range.proofs.Stepping.{steps_lost_by}
 
 module _ {R : Type 0} (space : Space R TreeView) where
@@ -84,14 +84,6 @@ stopped_unfinished (stop.Lost exchange.Head) u = refl
 stopped_unfinished stop.Empty u = refl
 stopped_unfinished stop.Worn u = refl
 
--- Where a step ended with a run, nothing was spent.
-pub ends_unspent : (s : Snapped) (a b : Spent) → b ≡ a → EndsUnspent (further.Ended s) a b
-ends_unspent (snapped.Run run) a b same = same
-ends_unspent snapped.Again a b same = tt
-ends_unspent snapped.Busy a b same = tt
-ends_unspent snapped.NoRow a b same = tt
-ends_unspent (snapped.Worn which) a b same = tt
-
 -- So it is where it didn't end with one.
 pub no_run_unspent : (f : Further) (a b : Spent) → HasNoRun f → EndsUnspent f a b
 no_run_unspent (further.On next) a b none = tt
@@ -131,16 +123,19 @@ in_budget (snapped.Worn which) budget a b room same = tt
 
 module _ {F : Type 0} (g : Shared F (Bor (List ℕ) × Unit {0}) Bool) (sought : Sought F) where
   pub stopped_ends : (z : Sizes) (budget : ℕ) (spent : Spent) (why : Stop) (k m n l : MyTree) → HasMet 0 0 k m → HasStoppedBy why m n → HasMet 0 0 n l
-      → HasEnded g sought z budget spent (refused_by why) k l
-  stopped_ends z budget spent (stop.Lost x) k m n l before s behind = met_both 0 0 0 0 k m l before (met_both 0 0 0 0 m n l s.1 behind)
-  stopped_ends z budget spent stop.Empty k m n l before s behind = met_both 0 0 1 0 k m l before (met_both 1 0 0 0 m n l s behind)
-  stopped_ends z budget spent stop.Worn k m n l before s behind = met_both 0 0 0 1 k m l before (met_both 0 1 0 0 m n l s behind)
+      → IsNoLess k m → IsNoLess n l → HasEnded g sought z budget spent (refused_by why) k l
+  stopped_ends z budget spent (stop.Lost x) k m n l before s behind less less' = (
+    met_both 0 0 0 0 k m l before (met_both 0 0 0 0 m n l s.1 behind),
+    inl (crossed_after k m l less (crossed_before m n l less' (inl s.0))),
+  )
+  stopped_ends z budget spent stop.Empty k m n l before s behind less less' = met_both 0 0 1 0 k m l before (met_both 1 0 0 0 m n l s behind)
+  stopped_ends z budget spent stop.Worn k m n l before s behind less less' = met_both 0 0 0 1 k m l before (met_both 0 1 0 0 m n l s behind)
 
   -- So is a refusal of help.
   pub refused_ends : (z : Sizes) (budget : ℕ) (spent : Spent) (s : Snapped) (m n : MyTree) → IsRefused budget spent s m n → HasEnded g sought z budget spent
       s m n
   refused_ends z budget spent (snapped.Run run) m n r = absurd r
-  refused_ends z budget spent snapped.Again m n r = r.0
+  refused_ends z budget spent snapped.Again m n r = (r.0, inl r.1)
   refused_ends z budget spent snapped.Busy m n r = r
   refused_ends z budget spent snapped.NoRow m n r = r
   refused_ends z budget spent (snapped.Worn counter.PoolTag) m n r = r
@@ -148,7 +143,7 @@ module _ {F : Type 0} (g : Shared F (Bor (List ℕ) × Unit {0}) Bool) (sought :
   refused_ends z budget spent (snapped.Worn counter.Sequence) m n r = absurd r
 
   -- One step more, behind others that met nothing of the pool.
-  pub further_on : (z : Sizes) (far budget : ℕ) (spent : Spent) (s : Further) (k m n : MyTree) → HasMet 0 0 k m
+  pub further_on : (z : Sizes) (far budget : ℕ) (spent : Spent) (s : Further) (k m n : MyTree) → HasMet 0 0 k m → IsNoLess k m
       → IsFurther g sought z far budget spent s m n → IsFurther g sought z far budget spent s k n
-  further_on z far budget spent (further.On next) k m n met f = (f.0, f.1, met_both 0 0 0 0 k m n met f.2)
-  further_on z far budget spent (further.Ended s) k m n met f = ended_on g sought z budget spent s k m n met f
+  further_on z far budget spent (further.On next) k m n met less f = (f.0, f.1, met_both 0 0 0 0 k m n met f.2)
+  further_on z far budget spent (further.Ended s) k m n met less f = ended_on g sought z budget spent s k m n met less f

@@ -24,10 +24,11 @@ use Rattle.ca_range.specs.Snapping.{GoesOn, StaysPinned}
 use Rattle.ca_range.specs.Snapshots.{HasSnapped, OnlyRanges}
 use Rattle.ca_range.specs.Staying.{OnlySteps}
 use Rattle.ca_range.specs.declared.own.Own.{Own}
+use Rattle.ca_range.specs.declared.sought.Run.{Run}
 use Rattle.ca_range.specs.declared.sought.Snapped.{Snapped}
 use Rattle.ca_range.specs.declared.sought.Snapped.TheVariants as snapped
 use Rattle.ca_range.specs.declared.sought.Sought.{Sought}
-use Rattle.ca_range.proofs.SnapshotSteps.{ranges_both, ranges_by_steps, ranges_none}
+use Rattle.ca_range.proofs.SnapshotSteps.{IsNoLess, ranges_both, ranges_by_steps, ranges_none, thwarted_after}
 use Rattle.ca_range.proofs.Filled.{raised_met}
 use Rattle.ca_range.proofs.OwnEnds.{steps_over}
 use Rattle.ca_range.proofs.Readied.{ready_reads, ready_still}
@@ -91,26 +92,27 @@ module _ {R : Type 0} (space : Space R TreeView) where
 
 module _ {F : Type 0} (g : Shared F (Bor (List ℕ) × Unit {0}) Bool) (sought : Sought F) where
   -- Steps ended behind others that met nothing of the pool.
-  pub ended_on : (z : Sizes) (budget : ℕ) (spent : Spent) (s : Snapped) (k m n : MyTree) → HasMet 0 0 k m → HasEnded g sought z budget spent s m n
-      → HasEnded g sought z budget spent s k n
-  ended_on z budget spent (snapped.Run run) k m n met r = (met_both 0 0 0 0 k m n met r.0, r.1)
-  ended_on z budget spent snapped.Again k m n met r = met_both 0 0 0 0 k m n met r
-  ended_on z budget spent snapped.Busy k m n met r = (met_both 0 0 0 0 k m n met r.0, r.1)
-  ended_on z budget spent snapped.NoRow k m n met r = met_both 0 0 1 0 k m n met r
-  ended_on z budget spent (snapped.Worn counter.PoolTag) k m n met r = met_both 0 0 0 1 k m n met r
-  ended_on z budget spent (snapped.Worn counter.Epoch) k m n met r = r
-  ended_on z budget spent (snapped.Worn counter.Sequence) k m n met r = r
+  pub ended_on : (z : Sizes) (budget : ℕ) (spent : Spent) (s : Snapped) (k m n : MyTree) → HasMet 0 0 k m → IsNoLess k m
+      → HasEnded g sought z budget spent s m n → HasEnded g sought z budget spent s k n
+  ended_on z budget spent (snapped.Run run) k m n met less r = (met_both 0 0 0 0 k m n met r.0, r.1)
+  ended_on z budget spent snapped.Again k m n met less r = (met_both 0 0 0 0 k m n met r.0, thwarted_after k m n less r.1)
+  ended_on z budget spent snapped.Busy k m n met less r = (met_both 0 0 0 0 k m n met r.0, r.1)
+  ended_on z budget spent snapped.NoRow k m n met less r = met_both 0 0 1 0 k m n met r
+  ended_on z budget spent (snapped.Worn counter.PoolTag) k m n met less r = met_both 0 0 0 1 k m n met r
+  ended_on z budget spent (snapped.Worn counter.Epoch) k m n met less r = r
+  ended_on z budget spent (snapped.Worn counter.Sequence) k m n met less r = r
 
   -- A snapshot came to it, where a turn was spent before.
-  pub snapped_by : (z : Sizes) (budget : ℕ) (spent : Spent) (s : Snapped) (k m n : MyTree) → HasMet 0 0 k m → turns_at k < turns_at m
-      → turns_at m ≤ turns_at n → HasEnded g sought z budget spent s m n → HasSnapped g sought z budget spent s k n
-  snapped_by z budget spent (snapped.Run run) k m n met more on r = (met_both 0 0 0 0 k m n met r.0, r.1)
-  snapped_by z budget spent snapped.Again k m n met more on r = (met_both 0 0 0 0 k m n met r, omega arith)
-  snapped_by z budget spent snapped.Busy k m n met more on r = (met_both 0 0 0 0 k m n met r.0, r.1)
-  snapped_by z budget spent snapped.NoRow k m n met more on r = met_both 0 0 1 0 k m n met r
-  snapped_by z budget spent (snapped.Worn counter.PoolTag) k m n met more on r = met_both 0 0 0 1 k m n met r
-  snapped_by z budget spent (snapped.Worn counter.Epoch) k m n met more on r = r
-  snapped_by z budget spent (snapped.Worn counter.Sequence) k m n met more on r = absurd r
+  pub snapped_by : (z : Sizes) (budget : ℕ) (spent : Spent) (s : Snapped) (k m n : MyTree) → HasMet 0 0 k m → IsNoLess k m → turns_at k < turns_at m
+      → IsNoLess m n → HasEnded g sought z budget spent s m n → HasSnapped g sought z budget spent s k n
+  snapped_by z budget spent (snapped.Run run) k m n met less more on r = (met_both 0 0 0 0 k m n met r.0, r.1)
+  snapped_by z budget spent snapped.Again k m n met less more on r = let lost = on.lost in let helped = on.helped in let passed = on.passed in
+      (met_both 0 0 0 0 k m n met r.0, omega arith, thwarted_after k m n less r.1)
+  snapped_by z budget spent snapped.Busy k m n met less more on r = (met_both 0 0 0 0 k m n met r.0, r.1)
+  snapped_by z budget spent snapped.NoRow k m n met less more on r = met_both 0 0 1 0 k m n met r
+  snapped_by z budget spent (snapped.Worn counter.PoolTag) k m n met less more on r = met_both 0 0 0 1 k m n met r
+  snapped_by z budget spent (snapped.Worn counter.Epoch) k m n met less more on r = r
+  snapped_by z budget spent (snapped.Worn counter.Sequence) k m n met less more on r = absurd r
 
 -- Another pass had decided the range, which the pass learnt.
 module _ {R : Type 0} (space : Space R TreeView) (pass new : Pass R TreeView) (number : ℕ) (ready : IsReady space pass) (keeps : KeepsList pass new)
@@ -157,20 +159,8 @@ module _ {R : Type 0} (space : Space R TreeView) (pass new : Pass R TreeView) (n
   }
 
 module _ {F : Type 0} (g : Shared F (Bor (List ℕ) × Unit {0}) Bool) (sought : Sought F) where
-  pub settled_on : (z : Sizes) (s : Snapped) (k m n : MyTree) → HasMet 0 0 k m → HasSettled g sought z s m n → HasSettled g sought z s k n
-  settled_on z (snapped.Run run) k m n met r = (met_both 0 0 0 0 k m n met r.0, r.1)
-  settled_on z snapped.Again k m n met r = met_both 0 0 0 0 k m n met r
-  settled_on z snapped.Busy k m n met r = r
-  settled_on z snapped.NoRow k m n met r = r
-  settled_on z (snapped.Worn counter) k m n met r = r
-
-  -- So the steps ended.
-  pub settled_ends : (z : Sizes) (budget : ℕ) (spent : Spent) (s : Snapped) (m n : MyTree) → HasSettled g sought z s m n → HasEnded g sought z budget spent s m n
-  settled_ends z budget spent (snapped.Run run) m n r = r
-  settled_ends z budget spent snapped.Again m n r = r
-  settled_ends z budget spent snapped.Busy m n r = absurd r
-  settled_ends z budget spent snapped.NoRow m n r = absurd r
-  settled_ends z budget spent (snapped.Worn counter) m n r = absurd r
+  pub settled_on : (z : Sizes) (run : Run) (k m n : MyTree) → HasMet 0 0 k m → HasSettled g sought z run m n → HasSettled g sought z run k n
+  settled_on z run k m n met r = (met_both 0 0 0 0 k m n met r.0, r.1)
 
 -- Loads of words that were shown.
 module _ {R : Type 0} (space : Space R TreeView) where

@@ -10,7 +10,7 @@ use Rattle.ca_model.specs.declared.outcome.Spent.{Spent}
 use Rattle.ca_model.specs.Edges.{Bound, bound_of, is_up_to}
 use Rattle.ca_node.specs.Endings.{active_word, decided_word, over_up_to}
 use Rattle.ca_node.specs.Layout.{sequence_unit}
-use Rattle.ca_node.specs.OwnRanges.{HasFoundRun, IsFoundSo, numbered_by}
+use Rattle.ca_node.specs.OwnRanges.{HasFoundRun, IsFoundSo, IsKnownEnded, numbered_by}
 use Rattle.ca_node.specs.Told.{MyTree, IsKnown, status_of, with_upper}
 use Rattle.ca_node.specs.TreeView.{Begun, Border, Marking, TreeView}
 use Rattle.ca_node.specs.declared.range_state.RangeState.{RangeState}
@@ -33,12 +33,7 @@ use Rattle.ca_range.proofs.OwnRuns.{own_run}
 use Rattle.ca_range.proofs.OwnSteps.{goes_over}
 use Rattle.ca_range.proofs.Stepping.{known_same, none_more}
 
--- What a word tells that is that of an active range, or of one that was decided.
-active_is : (k n : ℕ) → n ≡ active_word k → status_of n ≡ Active (n / sequence_unit)
-active_is k n e = let on : n % sequence_unit ≡ row_limit = omega arith in
-    ap (λ (b : Bool). cond b (Active (n / sequence_unit))
-    (cond (eqb (n / row_limit % 4) 2) (Decided (n / sequence_unit) (n % row_limit)) (Idle (n / sequence_unit)))) (eq-eqb (n % sequence_unit) row_limit on)
-
+-- What a word tells that is that of a range that was decided.
 decided_is : (k last n : ℕ) → last < row_limit → n ≡ decided_word k last → status_of n ≡ Decided (n / sequence_unit) (n % row_limit)
 decided_is k last n l e = let off : n % sequence_unit ≡ 2 * row_limit + last = omega arith in let two : n / row_limit % 4 ≡ 2 = omega arith in
     let other : n % sequence_unit ≢ row_limit = λ on. omega arith in
@@ -47,20 +42,19 @@ decided_is k last n l e = let off : n % sequence_unit ≡ 2 * row_limit + last =
     ∙ ap (λ (b : Bool). cond b (Decided (n / sequence_unit) (n % row_limit)) (Idle (n / sequence_unit))) (eq-eqb (n / row_limit % 4) 2 two)
 
 -- the last base of the run, where it was decided
-abbrev pub run_in : RangeState → Option ℕ
-run_in (Idle k) = None
-run_in (Active k) = None
-run_in (Decided k last) = Some last
+abbrev pub last_in : RangeState → ℕ
+last_in (Idle k) = 0
+last_in (Active k) = 0
+last_in (Decided k last) = last
 
--- So another pass's decision was found, or none.
+-- Of a range that is known to be over another pass's decision is found.
 pub loaded_by : (state : RangeState) (m m' : MyTree) (n : ℕ) (begun : Begun) (border : Border) → state ≡ status_of n → IsFoundSo m n m' (Marking begun border)
-    → HasLoadedRun begun border (run_in state) m m'
-loaded_by state m m' n begun border e found = ⊎_elim
-    (λ (a : (n ≡ active_word begun.number) × (m' ≡ with_upper m (numbered_by n m.0.upper))).
-    subst (λ (r : Option ℕ). HasLoadedRun begun border r m m') (sym (ap run_in (e ∙ active_is begun.number n a.0))) (n, a.1))
+    → IsKnownEnded m.0.upper begun.number → (last : ℕ) × (state ≡ Decided (n / sequence_unit) last) × HasLoadedRun begun border last m m'
+loaded_by state m m' n begun border e found over = ⊎_elim
+    (λ (a : (n ≡ active_word begun.number) × (m' ≡ with_upper m (numbered_by n m.0.upper)) × ¬ IsKnownEnded m.0.upper begun.number). absurd (a.2 over))
     (λ (f : HasFoundRun m n m' begun border). let small = f.small in let word = f.word in
     let same : f.last ≡ n % row_limit = omega arith in
-    subst (λ (r : Option ℕ). HasLoadedRun begun border r m m') (sym (ap run_in (e ∙ decided_is begun.number f.last n f.small f.word))) (n, f, same))
+    (n % row_limit, e ∙ decided_is begun.number f.last n f.small f.word, (n, f, same)))
     found
 
 -- The range is over then.
@@ -76,34 +70,10 @@ found_so z begun border n m m' sizes rows f = subst (HasEndedOwn z m) (sym f.now
 module _ {F : Type 0} (g : Shared F (Bor (List ℕ) × Unit {0}) Bool) (sought : Sought F) where
   -- It has all up to the upper edge.
   pub found_run : (z : Sizes) (n : ℕ) (m m' : MyTree) (own : Own) (b : IsBetween g sought z m.0.upper own) → m.0.sizes ≡ z → 0 < z.rows → z.leaf ≤ 120
-      → IsKnown z m.0.upper → (f : HasFoundRun m n m' b.marking.begun b.marking.border) → 0 < f.last
+      → IsKnown z m.0.upper → (f : HasFoundRun m n m' b.marking.begun b.marking.border)
       → HasRun g sought z m'.0.upper (record { last = f.last; chained = true; whole = true })
-  found_run z n m m' own b sizes rows leaf known f l = own_run g sought z m m' b.marking.begun f.more f.last f.run f.seen l
+  found_run z n m m' own b sizes rows leaf known f = own_run g sought z m m' b.marking.begun f.more f.last f.run f.seen f.some_row
       (ap (λ (x : MyTree). x.0.upper.ranges.run) f.now) (ap (λ (x : MyTree). x.0.upper.seen) f.now) (ap (λ (x : MyTree). x.0.upper.since) f.now)
       sizes rows leaf ((found_so z b.marking.begun b.marking.border n m m' sizes rows f).only.known known) true (bound_of sought.hi) b.edge
       (subst (λ (top : Bound). (key : List ℕ) → is_up_to top key ≡ true → is_up_to f.seen.shown.high key ≡ true) b.top f.whole)
       (λ e. let no : true ≡ false = e in absurd cc) refl
-
--- The number of the range was learnt alone.
-module _ {R : Type 0} (space : Space R TreeView) (p q : Pass R TreeView) (n : ℕ) (ready : IsReady space p) (keeps : KeepsList p q)
-    (is : q.seat.me ≡ with_upper p.seat.me (numbered_by n p.seat.me.0.upper)) where
-  pub numbered_goes : (a : Spent) → GoesOn space a a p q
-  numbered_goes a = goes_over space a p q (record {
-    same = keeps.same;
-    number = keeps.number;
-    tally = tallied_still p.tally q.tally p.seat.me.0.upper q.seat.me.0.upper keeps.tally (ap (λ (x : MyTree). x.0.upper.splits) is)
-        (ap (λ (x : MyTree). x.0.upper.joins) is);
-    pin = (ap (λ (x : MyTree). x.0.sizes) is, ap (λ (x : MyTree). x.0.pin) is);
-    none = subst (λ (x : MyTree × KeptRows). AreHeld space.table.shared.key.rows x.1.rows x.0.0 []) (λ i. (sym is i, sym keeps.kept i))
-        (ready.none.0, record { now = ready.none.1.now; ever = ready.none.1.ever });
-  }) (subst (λ (x : MyTree). OnlyRanges space.table.shared.key p.seat.me.0.upper x.0.upper) (sym is) record {
-    only = refl;
-    seen = none_more p.seat.me.0.upper;
-    known = known_same space.table.shared.key p.seat.me.0.upper _ refl refl refl;
-    joins = omega arith;
-    joined = omega arith;
-  }) (ap losses is) (ap (λ (x : MyTree). x.0.upper.turns) is)
-
-  pub numbered_marking : (z : Sizes) (own : Own) → IsMarking z p.seat.me.0.upper own → IsMarking z q.seat.me.0.upper own
-  numbered_marking z own k = subst (λ (x : MyTree). IsMarking z x.0.upper own) (sym is)
-      (marking_on z p.seat.me.0.upper (numbered_by n p.seat.me.0.upper) own refl refl (λ border i. i) k)

@@ -1,5 +1,5 @@
 -- Steps of a snapshot, one after another, and what they come to.
-use Rattle.std.proofs.Common.{◌≡◌, ℕ, ◌≤◌, ◌++◌, sym, ap, ◌∙◌, subst, ◌⊎◌, ⊎_elim, arith, append_assoc}
+use Rattle.std.proofs.Common.{◌≡◌, ℕ, ◌<◌, ◌≤◌, ◌++◌, inl, inr, sym, ap, ◌∙◌, subst, ◌⊎◌, ⊎_elim, arith, append_assoc}
 use denote.Ref.{Bor}
 use denote.Param.Members.{Shared}
 use Rattle.std.specs.Prelude.{Bool, List}
@@ -10,13 +10,14 @@ use Rattle.ca_base.specs.Counting.{HasMet, losses}
 use Rattle.ca_base.proofs.Counts.{met_both}
 use Rattle.ca_node.specs.Told.{MyTree, with_upper}
 use Rattle.ca_node.specs.Links.{IsIn}
-use Rattle.ca_node.specs.TreeView.{KnownRanges, TreeView, Unfinished}
+use Rattle.ca_node.specs.TreeView.{KnownRanges, Turns, TreeView, Unfinished, one_helped}
 use Rattle.ca_rows.specs.declared.sizes.Sizes.{Sizes}
 use Rattle.ca_range.specs.Attempts.{CountsJoin}
-use Rattle.ca_range.specs.Clearing.{HasGone, turns_at}
+use Rattle.ca_range.specs.Clearing.{HasGone, IsCrossed, turns_at}
 use Rattle.ca_range.specs.Gathering.{HasEnded}
+use Rattle.ca_range.specs.Marked.{IsAstray}
 use Rattle.ca_range.specs.Snapping.{IsRefused, snapped_so}
-use Rattle.ca_range.specs.Snapshots.{HasSnapped, IsInBudget, OnlyRanges}
+use Rattle.ca_range.specs.Snapshots.{HasSnapped, IsInBudget, IsThwarted, OnlyRanges}
 use Rattle.ca_base.specs.Spending.{IsSpentOn}
 use Rattle.ca_range.specs.Filling.{IsHelpedTo, IsOneOver}
 use Rattle.ca_range.specs.Staying.{HasJoined, OnlySteps, with_steps_of}
@@ -56,20 +57,59 @@ ranges_both u v w a b = record {
   joined = let less = a.joined in let less' = b.joined in omega arith;
 }
 
--- No fewer turns were spent.
-pub more_turns : (a b : Spent) (m n : MyTree) → IsSpentOn a b m n → turns_at m ≤ turns_at n
-more_turns a b m n s = let l = s.lost.more in let h = s.helped.more in let p = s.passed.more in omega arith
+-- No fewer turns were spent, of each kind.
+pub record IsNoLess (m n : MyTree) : Type 0 where
+  pub lost : losses m ≤ losses n
+  pub helped : m.0.upper.turns.helped ≤ n.0.upper.turns.helped
+  pub passed : m.0.upper.turns.passed ≤ n.0.upper.turns.passed
+
+pub more_turns : (a b : Spent) (m n : MyTree) → IsSpentOn a b m n → IsNoLess m n
+more_turns a b m n s = record { lost = s.lost.more; helped = s.helped.more; passed = s.passed.more }
+
+-- Nor was anything by loads of words, or by what counts nothing.
+pub no_less : (m n : MyTree) → losses n ≡ losses m → n.0.upper.turns ≡ m.0.upper.turns → IsNoLess m n
+no_less m n lost turns = let helped = ap (λ (t : Turns). t.helped) turns in let passed = ap (λ (t : Turns). t.passed) turns in
+    record { lost = omega arith; helped = omega arith; passed = omega arith }
+
+pub no_less_both : (k m n : MyTree) → IsNoLess k m → IsNoLess m n → IsNoLess k n
+no_less_both k m n a b = let lost = a.lost in let helped = a.helped in let passed = a.passed in let lost' = b.lost in let helped' = b.helped in
+    let passed' = b.passed in record { lost = omega arith; helped = omega arith; passed = omega arith }
+
+pub read_less : (m n : MyTree) → n ≡ m → IsNoLess m n
+read_less m n still = no_less m n (ap losses still) (ap (λ (x : MyTree). x.0.upper.turns) still)
+
+-- Who met another pass then met it since before.
+pub crossed_after : (k m n : MyTree) → IsNoLess k m → IsCrossed m n → IsCrossed k n
+crossed_after k m n less c = let lost = less.lost in let helped = less.helped in
+    ⊎_elim (λ (l : losses m < losses n). inl (omega arith)) (λ (h : m.0.upper.turns.helped < n.0.upper.turns.helped). inr (omega arith)) c
+
+pub thwarted_after : (k m n : MyTree) → IsNoLess k m → IsThwarted m n → IsThwarted k n
+thwarted_after k m n less t = ⊎_elim (λ (c : IsCrossed m n). inl (crossed_after k m n less c)) (λ (a : IsAstray n.0.upper). inr a) t
+
+-- So it was behind, where nothing is counted and the same bases are remembered.
+pub crossed_before : (m n l : MyTree) → IsNoLess n l → IsCrossed m n → IsCrossed m l
+crossed_before m n l less c = let lost = less.lost in let helped = less.helped in
+    ⊎_elim (λ (k : losses m < losses n). inl (omega arith)) (λ (h : m.0.upper.turns.helped < n.0.upper.turns.helped). inr (omega arith)) c
+
+-- By that turns were spent.
+pub crossed_turns : (m n : MyTree) → IsNoLess m n → IsCrossed m n → turns_at m < turns_at n
+crossed_turns m n less c = let lost = less.lost in let helped = less.helped in let passed = less.passed in
+    ⊎_elim (λ (l : losses m < losses n). omega arith) (λ (h : m.0.upper.turns.helped < n.0.upper.turns.helped). omega arith) c
 
 -- What steps came to, behind others that met nothing of the pool.
-pub refused_after : (budget : ℕ) (spent : Spent) (s : Snapped) (k m n : MyTree) → HasMet 0 0 k m → turns_at k ≤ turns_at m → IsRefused budget spent s m n
+pub refused_after : (budget : ℕ) (spent : Spent) (s : Snapped) (k m n : MyTree) → HasMet 0 0 k m → IsNoLess k m → IsRefused budget spent s m n
     → IsRefused budget spent s k n
 refused_after budget spent (snapped.Run run) k m n met less r = r
-refused_after budget spent snapped.Again k m n met less r = let more = r.1 in (met_both 0 0 0 0 k m n met r.0, omega arith)
+refused_after budget spent snapped.Again k m n met less r = (met_both 0 0 0 0 k m n met r.0, crossed_after k m n less r.1)
 refused_after budget spent snapped.Busy k m n met less r = (met_both 0 0 0 0 k m n met r.0, r.1)
 refused_after budget spent snapped.NoRow k m n met less r = met_both 0 0 1 0 k m n met r
 refused_after budget spent (snapped.Worn counter.PoolTag) k m n met less r = met_both 0 0 0 1 k m n met r
 refused_after budget spent (snapped.Worn counter.Epoch) k m n met less r = r
 refused_after budget spent (snapped.Worn counter.Sequence) k m n met less r = r
+
+-- A join that was carried out was counted as one that was helped.
+joined_crosses : (m n : MyTree) → n.0.upper.turns ≡ one_helped m.0.upper.turns → IsCrossed m n
+joined_crosses m n one = let more = ap (λ (t : Turns). t.helped) one in inr (omega arith)
 
 -- What comes of help says nothing of the budget, nor does a refusal.
 pub budget_so : (budget : ℕ) (spent : Spent) (h : Helped) → IsInBudget budget spent (snapped_so h)
@@ -91,52 +131,54 @@ module _ (z : Sizes) (range : Range) (budget : ℕ) (a spent : Spent) where
   pub refused_by_help : (h : Helped) (m n : MyTree)
       → IsIn {A = Unfinished} (record { pass = range.owner; number = range.number }) m.0.upper.ranges.unfinished → IsSpentOn a spent m n
       → IsHelpedTo z range budget spent h m n → IsRefused budget spent (snapped_so h) m n
-  refused_by_help helped.Finished m n met all h = let lost = all.lost.more in let passed = all.passed.more in
-      let one = ⊎_elim (λ (o : IsOneOver range m.0.upper n.0.upper). o.counted met) (λ (j : HasJoined m.0.upper n.0.upper). j.1) h.0 in (h.1, omega arith)
-  refused_by_help (helped.Lost x) m n met all h = let helps = all.helped.more in let passed = all.passed.more in let one = h.0 in (h.1, omega arith)
+  refused_by_help helped.Finished m n met all h =
+      (h.1, inr (⊎_elim (λ (o : IsOneOver range m.0.upper n.0.upper). o.counted met) (λ (j : HasJoined m.0.upper n.0.upper). j.1) h.0))
+  refused_by_help (helped.Lost x) m n met all h = (h.1, inl h.0)
   refused_by_help (helped.Busy told) m n met all h = (h.2, h.1)
   refused_by_help helped.NoRow m n met all h = h
   refused_by_help (helped.Worn which) m n met all h = h.0
 
 module _ {F : Type 0} (g : Shared F (Bor (List ℕ) × Unit {0}) Bool) (sought : Sought F) where
-  pub snapped_after : (z : Sizes) (budget : ℕ) (spent : Spent) (s : Snapped) (k m n : MyTree) → HasMet 0 0 k m → turns_at k ≤ turns_at m
+  pub snapped_after : (z : Sizes) (budget : ℕ) (spent : Spent) (s : Snapped) (k m n : MyTree) → HasMet 0 0 k m → IsNoLess k m
       → HasSnapped g sought z budget spent s m n → HasSnapped g sought z budget spent s k n
   snapped_after z budget spent (snapped.Run run) k m n met less r = (met_both 0 0 0 0 k m n met r.0, r.1)
-  snapped_after z budget spent snapped.Again k m n met less r = let more = r.1 in (met_both 0 0 0 0 k m n met r.0, omega arith)
+  snapped_after z budget spent snapped.Again k m n met less r = let more = r.1 in let lost = less.lost in let helped = less.helped in
+      let passed = less.passed in (met_both 0 0 0 0 k m n met r.0, omega arith, thwarted_after k m n less r.2)
   snapped_after z budget spent snapped.Busy k m n met less r = (met_both 0 0 0 0 k m n met r.0, r.1)
   snapped_after z budget spent snapped.NoRow k m n met less r = met_both 0 0 1 0 k m n met r
   snapped_after z budget spent (snapped.Worn counter.PoolTag) k m n met less r = met_both 0 0 0 1 k m n met r
   snapped_after z budget spent (snapped.Worn counter.Epoch) k m n met less r = r
-  snapped_after z budget spent (snapped.Worn counter.Sequence) k m n met less r = (met_both 0 0 0 0 k m n met r.0, r.1)
+  snapped_after z budget spent (snapped.Worn counter.Sequence) k m n met less r = (met_both 0 0 0 0 k m n met r.0, r.1, r.2)
 
   -- So it came to nothing where an attempt to join was in the way.
   pub gone_snaps : (z : Sizes) (budget : ℕ) (spent : Spent) (h : Helped) (m n : MyTree) → HasGone h m n → CountsJoin h m n
       → HasSnapped g sought z budget spent (snapped_so h) m n
-  gone_snaps z budget spent helped.Finished m n gone c = gone
-  gone_snaps z budget spent (helped.Lost x) m n gone c = gone
+  gone_snaps z budget spent helped.Finished m n gone c = (gone.0, gone.1, inl (joined_crosses m n c.1))
+  gone_snaps z budget spent (helped.Lost x) m n gone c = (gone.0, gone.1, inl (inl c.1))
   gone_snaps z budget spent (helped.Busy told) m n gone c = absurd c
   gone_snaps z budget spent helped.NoRow m n gone c = gone
   gone_snaps z budget spent (helped.Worn which) m n gone c = gone
 
   -- The own range was over then.
-  pub gone_ends : (z : Sizes) (budget : ℕ) (spent : Spent) (h : Helped) (m k n : MyTree) → HasGone h m k → CountsJoin h m k → HasMet 0 0 k n
+  pub gone_ends : (z : Sizes) (budget : ℕ) (spent : Spent) (h : Helped) (m k n : MyTree) → HasGone h m k → CountsJoin h m k → HasMet 0 0 k n → IsNoLess k n
       → HasEnded g sought z budget spent (snapped_so h) m n
-  gone_ends z budget spent helped.Finished m k n gone c met = met_both 0 0 0 0 m k n gone.0 met
-  gone_ends z budget spent (helped.Lost x) m k n gone c met = met_both 0 0 0 0 m k n gone.0 met
-  gone_ends z budget spent (helped.Busy told) m k n gone c met = absurd c
-  gone_ends z budget spent helped.NoRow m k n gone c met = met_both 1 0 0 0 m k n gone met
-  gone_ends z budget spent (helped.Worn which) m k n gone c met = met_both 0 1 0 0 m k n gone met
+  gone_ends z budget spent helped.Finished m k n gone c met less =
+      (met_both 0 0 0 0 m k n gone.0 met, inl (crossed_before m k n less (joined_crosses m k c.1)))
+  gone_ends z budget spent (helped.Lost x) m k n gone c met less = (met_both 0 0 0 0 m k n gone.0 met, inl (crossed_before m k n less (inl c.1)))
+  gone_ends z budget spent (helped.Busy told) m k n gone c met less = absurd c
+  gone_ends z budget spent helped.NoRow m k n gone c met less = met_both 1 0 0 0 m k n gone met
+  gone_ends z budget spent (helped.Worn which) m k n gone c met less = met_both 0 1 0 0 m k n gone met
 
   -- A refusal is one of a snapshot.
-  pub refused_so : (z : Sizes) (budget : ℕ) (spent : Spent) (s : Snapped) (m n : MyTree) → IsRefused budget spent s m n
+  pub refused_so : (z : Sizes) (budget : ℕ) (spent : Spent) (s : Snapped) (m n : MyTree) → IsNoLess m n → IsRefused budget spent s m n
       → HasSnapped g sought z budget spent s m n
-  refused_so z budget spent (snapped.Run run) m n r = absurd r
-  refused_so z budget spent snapped.Again m n r = r
-  refused_so z budget spent snapped.Busy m n r = r
-  refused_so z budget spent snapped.NoRow m n r = r
-  refused_so z budget spent (snapped.Worn counter.PoolTag) m n r = r
-  refused_so z budget spent (snapped.Worn counter.Epoch) m n r = absurd r
-  refused_so z budget spent (snapped.Worn counter.Sequence) m n r = absurd r
+  refused_so z budget spent (snapped.Run run) m n less r = absurd r
+  refused_so z budget spent snapped.Again m n less r = (r.0, crossed_turns m n less r.1, inl r.1)
+  refused_so z budget spent snapped.Busy m n less r = r
+  refused_so z budget spent snapped.NoRow m n less r = r
+  refused_so z budget spent (snapped.Worn counter.PoolTag) m n less r = r
+  refused_so z budget spent (snapped.Worn counter.Epoch) m n less r = absurd r
+  refused_so z budget spent (snapped.Worn counter.Sequence) m n less r = absurd r
 
 -- Steps that were taken behind loads of words that were shown, which were behind others that counted nothing.
 module _ (z : Sizes) (m k l n : MyTree) (raised : k ≡ with_upper m k.0.upper) (steps : OnlySteps z 0 m.0.upper k.0.upper)

@@ -1,5 +1,5 @@
 -- What a pass learns of a base that it is to mark, of ranges and of joins.
-use Rattle.std.proofs.Common.{◌≡◌, ◌≢◌, ◌<◌, ◌≤◌, ℕ, Bool, Some, sym, ap, ◌∙◌, subst, inl, inr}
+use Rattle.std.proofs.Common.{◌≡◌, ◌≢◌, ◌<◌, ◌≤◌, ℕ, Bool, List, Some, sym, ap, ◌∙◌, subst, inl, inr, arith}
 use Rattle.ca_base.specs.Finding.{IsBaseShown}
 use Rattle.ca_node.specs.Links.{IsIn}
 use Rattle.ca_node.specs.Row.{mark, IsMarkedBy}
@@ -10,13 +10,14 @@ use Rattle.ca_rows.specs.declared.space.Pass.{Pass}
 use Rattle.ca_rows.specs.declared.space.Space.{Space}
 use Rattle.ca_range.specs.Attempts.{HasFreed, LearnsOfJoins}
 use Rattle.ca_range.specs.Filling.{IsInUse}
+use Rattle.ca_range.specs.Marked.{IsOwnLast}
 use Rattle.ca_range.specs.Meeting.{active_of}
 use Rattle.ca_range.specs.Staying.{OnlySteps}
 use Rattle.ca_range.specs.Using.{HasFoundOf, OnlyLearns}
 use Rattle.ca_range.specs.declared.account.Range.{Range}
 use Rattle.ca_range.proofs.JoinsEnded.{joined_all, joined_borders, joined_none, joined_raised, joined_steps}
 use Rattle.ca_range.proofs.Learning.{keeps_then, no_join_then, raised_then, ranged_unjoined, reads_keep, steps_then}
-use Rattle.ca_range.proofs.Watched.{met_by_word, over_now}
+use Rattle.ca_range.proofs.Watched.{is_active, met_by_word, over_now}
 use Rattle.ca_range.proofs.WordsWatched.{borders_by_word}
 
 module _ {R : Type 0} (space : Space R TreeView) (pass mid new : Pass R TreeView) (reads : OnlyReads pass mid) where
@@ -36,6 +37,7 @@ module _ {R : Type 0} (space : Space R TreeView) (pass mid new : Pass R TreeView
           all = joined_all helped m n l;
           borders = joined_borders helped m n l;
           no_join = joined_none helped m n l;
+          last = ap (λ (x : MyTree). x.0.upper.last) l.1;
         },
         λ note s. (
           inl (unranged note s),
@@ -57,6 +59,7 @@ module _ {R : Type 0} (space : Space R TreeView) (pass mid new : Pass R TreeView
       borders = λ border i. borders_by_word range.owner word mid.seat.me new.seat.me h border
           (subst (λ (x : MyTree). IsIn border x.0.upper.ranges.borders) (sym reads.still) i);
       no_join = no_join_then z pass mid new range.owner word reads keep h;
+      last = ap (λ (x : MyTree). x.0.upper.last) h.now ∙ ap (λ (x : MyTree). x.0.upper.last) reads.still;
     }
 
     -- That range isn't the one that is active.
@@ -70,6 +73,19 @@ module _ {R : Type 0} (space : Space R TreeView) (pass mid new : Pass R TreeView
             inr (over.0, over.1, r.1 ∙ sym over.2, subst (λ (n : ℕ). n < over.0.below) (sym r.2) over.3),
             ranged_unjoined new.seat.me.0.upper note.its r.0,
           ),
+    )
+
+    -- It is, and it is the pass's own.
+    pub found_own : (base : ℕ) → ((note : Note) → IsBaseShown space.table.shared.key u base note → IsMarkedBy note.its range.owner range.number)
+        → active_of word ≡ Some range.number → range.owner ≡ mid.seat.me.0.upper.number → HasFoundOf space base IsOwnLast pass new
+    found_own base marked on own = let number = own ∙ sym (ap (λ (x : MyTree). x.0.upper.number) h.now) in (
+      only_watched,
+      λ note s. let r = marked note s in (
+        r.0,
+        r.1 ∙ number,
+        λ other i mark owner. let here = h.begun other (subst (λ (ns : List Note). IsIn other ns) (ap (λ (x : MyTree). x.0.upper.notes) h.now) i) mark
+            (owner ∙ sym number) in let last = (is_active word range.number on).1 in let same = r.2 in omega arith,
+      ),
     )
 
     -- It is, and it isn't the pass's own.

@@ -25,6 +25,10 @@ use Rattle.ca_rows.specs.declared.sizes.Sizes.{Sizes}
 abbrev pub turns_at : MyTree → ℕ
 turns_at m = losses m + m.0.upper.turns.helped + m.0.upper.turns.passed
 
+-- Another pass was met: an exchange was lost, or an operation of another one was helped to its end.
+abbrev pub IsCrossed : MyTree → MyTree → Type 0
+IsCrossed m m' = (losses m < losses m') ⊎ (m.0.upper.turns.helped < m'.0.upper.turns.helped)
+
 -- It learnt of ranges and joins alone, but of its own range nothing. Where the base wasn't marked it found none of another pass unfinished.
 abbrev pub LearnsOfRanges : Bool → MyTree → MyTree → Type 0
 LearnsOfRanges marked m m' = (ranges : KnownRanges) × (marked ≡ false → ranges.unfinished ≡ []) × (ranges.own ≡ m.0.upper.ranges.own)

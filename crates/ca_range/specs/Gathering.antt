@@ -1,5 +1,5 @@
 -- A range of a pass's own, whose bases are gathered.
-use Rattle.std.specs.Prelude.{◌≡◌, ℕ, ◌<◌, ◌≤◌, Bool, List, Option, Some, None, slice_index}
+use Rattle.std.specs.Prelude.{◌≡◌, ℕ, ◌<◌, ◌≤◌, Bool, List, slice_index}
 use denote.Ref.{Bor}
 use denote.Param.Members.{Shared}
 use Rattle.ca_base.specs.Counting.{HasMet}
@@ -13,12 +13,12 @@ use Rattle.ca_model.specs.Edges.{Excluded, bound_of, from, objects_of}
 use Rattle.ca_model.specs.Runs.{HasCounted}
 use Rattle.ca_node.specs.declared.cursor.Cursor.{Cursor}
 use Rattle.ca_node.specs.Links.{IsIn}
-use Rattle.ca_node.specs.OwnRanges.{HasFoundRun, numbered_by}
+use Rattle.ca_node.specs.OwnRanges.{HasFoundRun}
 use Rattle.ca_node.specs.Place.{HasKey}
 use Rattle.ca_node.specs.Ranging.{AreChained, top_of}
 use Rattle.ca_node.specs.Ranging as ranging
 use Rattle.ca_node.specs.Row.{IsMarkedBy, mark_back, mark_bound}
-use Rattle.ca_node.specs.Told.{MyTree, IsKnown, with_upper}
+use Rattle.ca_node.specs.Told.{MyTree, IsKnown}
 use Rattle.ca_node.specs.TreeView.{Begun, Border, Marking, Note, Quiet, TreeView}
 use Rattle.ca_rows.specs.declared.sizes.Sizes.{Sizes}
 use Rattle.ca_rows.specs.Layout.{last_sequence}
@@ -26,12 +26,13 @@ use Rattle.ca_range.specs.Farther.{reach}
 use Rattle.ca_range.specs.Filling.{turns_of}
 use Rattle.ca_range.specs.Looking.{HasLooked, IsGoneTo}
 use Rattle.ca_range.specs.Marked.{second_note}
-use Rattle.ca_range.specs.Snapshots.{HasRun}
+use Rattle.ca_range.specs.Snapshots.{HasRun, IsThwarted}
 use Rattle.ca_range.specs.declared.gathering.Further.{Further}
 use Rattle.ca_range.specs.declared.gathering.Further.TheVariants as further
 use Rattle.ca_range.specs.declared.looking.Looked.TheVariants as looked
 use Rattle.ca_range.specs.declared.own.Own.{Own}
 use Rattle.ca_range.specs.declared.own.Gathered.{Gathered}
+use Rattle.ca_range.specs.declared.sought.Run.{Run}
 use Rattle.ca_range.specs.declared.sought.Snapped.{Snapped}
 use Rattle.ca_range.specs.declared.sought.Snapped.TheVariants as snapped
 use Rattle.ca_range.specs.declared.sought.Sought.{Sought}
@@ -77,10 +78,9 @@ refused_by (stop.Lost exchange) = snapped.Again
 refused_by stop.Empty = snapped.NoRow
 refused_by stop.Worn = snapped.Worn counter.PoolTag
 
--- Another pass had decided the range with this row as the last one of its run, which is shown then; or nothing is known of that.
-abbrev pub HasLoadedRun : Begun → Border → Option ℕ → MyTree → MyTree → Type 0
-HasLoadedRun begun border None m m' = (n : ℕ) × (m' ≡ with_upper m (numbered_by n m.0.upper))
-HasLoadedRun begun border (Some last) m m' = (n : ℕ) × (found : HasFoundRun m n m' begun border) × (found.last ≡ last)
+-- Another pass had decided the range with this row as the last one of its run, which is shown then.
+abbrev pub HasLoadedRun : Begun → Border → ℕ → MyTree → MyTree → Type 0
+HasLoadedRun begun border last m m' = (n : ℕ) × (found : HasFoundRun m n m' begun border) × (found.last ≡ last)
 
 module _ {F : Type 0} (g : Shared F (Bor (List ℕ) × Unit {0}) Bool) (sought : Sought F) where
   -- It goes from the lower edge up to the upper one.
@@ -123,18 +123,14 @@ module _ {F : Type 0} (g : Shared F (Bor (List ℕ) × Unit {0}) Bool) (sought :
   IsEnough z u now whole = IsGathering z u now
       × ((key : List ℕ) × HasLooked g sought now.counted (looked.Done whole) key (first_note u.notes))
 
-  -- A run was decided, by the pass or by another one; or it is to be tried again.
-  abbrev pub HasSettled : Sizes → Snapped → MyTree → MyTree → Type 0
-  HasSettled z (snapped.Run run) m m' = HasMet 0 0 m m' × HasRun g sought z m'.0.upper run
-  HasSettled z snapped.Again m m' = HasMet 0 0 m m'
-  HasSettled z snapped.Busy m m' = ⊥
-  HasSettled z snapped.NoRow m m' = ⊥
-  HasSettled z (snapped.Worn counter) m m' = ⊥
+  -- A run was decided, by the pass or by another one.
+  abbrev pub HasSettled : Sizes → Run → MyTree → MyTree → Type 0
+  HasSettled z run m m' = HasMet 0 0 m m' × HasRun g sought z m'.0.upper run
 
   -- So the steps on the range ended, with this budget, of which so much was spent.
   abbrev pub HasEnded : Sizes → ℕ → Spent → Snapped → MyTree → MyTree → Type 0
-  HasEnded z budget spent (snapped.Run run) m m' = HasMet 0 0 m m' × HasRun g sought z m'.0.upper run
-  HasEnded z budget spent snapped.Again m m' = HasMet 0 0 m m'
+  HasEnded z budget spent (snapped.Run run) m m' = HasSettled z run m m'
+  HasEnded z budget spent snapped.Again m m' = HasMet 0 0 m m' × IsThwarted m m'
   HasEnded z budget spent snapped.Busy m m' = HasMet 0 0 m m' × (budget ≤ turns_of spent)
   HasEnded z budget spent snapped.NoRow m m' = HasMet 1 0 m m'
   HasEnded z budget spent (snapped.Worn counter.PoolTag) m m' = HasMet 0 1 m m'

@@ -3,11 +3,11 @@ use Rattle.std.specs.Prelude.{◌≡◌, ℕ, ◌+◌, ◌<◌, ◌≤◌, Bool,
 use denote.Ref.{Bor}
 use denote.Param.Members.{Shared}
 use Rattle.ca_base.specs.Putting.{first_note}
-use Rattle.ca_model.specs.Edges.{Bound, Excluded, bound_of, from, objects_of}
+use Rattle.ca_model.specs.Edges.{Bound, Unbounded, Included, Excluded, bound_of, from, objects_of}
 use Rattle.ca_model.specs.Runs.{HasCounted}
 use Rattle.ca_model.specs.StoreMap.{IsStoreMap}
 use Rattle.ca_node.specs.declared.cursor.Cursor.{Cursor}
-use Rattle.ca_node.specs.Place.{Span}
+use Rattle.ca_node.specs.Place.{HasKey, Span}
 use Rattle.ca_node.specs.Row.{count, pair}
 use Rattle.ca_node.specs.Told.{IsKnown}
 use Rattle.ca_node.specs.TreeView.{Note, TreeView}
@@ -22,6 +22,12 @@ use Rattle.ca_range.specs.declared.sought.Sought.{Sought}
 -- All keys from a lower edge on are from the lower bound of these on.
 abbrev pub BeginsFor : Bound → Span → Type 0
 BeginsFor lo span = BeginsBefore span.low lo
+
+-- The keys with which a lower edge begins are among these.
+abbrev pub HoldsEdge : Bound → Span → Type 0
+HoldsEdge Unbounded span = span.low ≡ Unbounded
+HoldsEdge (Included key) span = HasKey span key
+HoldsEdge (Excluded key) span = HasKey span key
 
 -- The base under the cursor was shown last. It has few enough objects for a row, and their keys ascend.
 pub record IsGoneTo (z : Sizes) (u : TreeView) (cursor : Cursor) : Type 0 where
@@ -52,3 +58,10 @@ module _ {F : Type 0} (g : Shared F (Bor (List ℕ) × Unit {0}) Bool) (sought :
       × ((now : ℕ) × HasAdded counted now note × (sought.want ≤ now))
   HasLooked counted (looked.On now) key note = (note.place.span.high ≡ Excluded key) × HasAdded counted now note
       × (reaches_to (bound_of sought.hi) note.place.span.high ≡ false) × (1 ≤ sought.want → now < sought.want)
+
+  -- The base has the keys with which the lower edge begins, but not all up to the upper one, nor as many objects as are wanted: more bases are needed.
+  pub record IsNotEnough (note : Note) : Type 0 where
+    pub holds : HoldsEdge (bound_of sought.lo) note.place.span
+    pub counted : ℕ
+    pub key : List ℕ
+    pub looked : HasLooked 0 (looked.On counted) key note

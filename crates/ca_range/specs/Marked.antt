@@ -1,5 +1,5 @@
 -- A base is marked as the next one of a range.
-use Rattle.std.specs.Prelude.{◌≡◌, ℕ, List, [], ◌∷◌, Result, Ok, Err, slice_index}
+use Rattle.std.specs.Prelude.{◌≡◌, ℕ, ◌≤◌, List, [], ◌∷◌, Result, Ok, Err, slice_index}
 use Rattle.ca_model.specs.Edges.{Excluded}
 pub use Rattle.ca_base.specs.Copied.{copy_of, HasPut}
 use Rattle.ca_base.specs.Putting.{first_note, stopped}
@@ -8,7 +8,7 @@ use Rattle.ca_node.specs.Copies.{Copy, copied, copy_note}
 use Rattle.ca_node.specs.Links.{IsIn}
 use Rattle.ca_node.specs.Notes.{IsBaseNote}
 use Rattle.ca_node.specs.Place.{HasKey}
-use Rattle.ca_node.specs.Row.{mark_back, mark_bound, IsMarkedBy}
+use Rattle.ca_node.specs.Row.{mark, mark_back, mark_bound, mark_number, mark_owner, IsMarkedBy}
 use Rattle.ca_node.specs.TreeView.{Note, TreeView, no_note}
 use Rattle.ca_rows.specs.declared.sizes.Sizes.{Sizes}
 use Rattle.ca_range.specs.declared.copying.Mark.{Mark}
@@ -27,6 +27,30 @@ pub record IsNextTo (u : TreeView) (mark : Mark) (left note : Note) : Type 0 whe
   pub key : List ℕ
   pub ends : left.place.span.high ≡ Excluded key
   pub has : HasKey note.place.span key
+
+-- A range of the pass marked the base, and no later one marked a base that was shown.
+abbrev pub IsOwnLast : TreeView → Note → Type 0
+IsOwnLast u note = (mark note.its ≡ 1) × (mark_owner note.its ≡ u.number)
+    × ((other : Note) → IsIn other u.notes → mark other.its ≡ 1 → mark_owner other.its ≡ u.number → mark_number other.its ≤ mark_number note.its)
+
+-- The range marked the base as the next one behind this row, and this row says up to where it goes.
+abbrev pub IsBehindRow : Note → ℕ → ℕ → ℕ → ℕ → Type 0
+IsBehindRow note pass number back bound = IsMarkedBy note.its pass number × (mark_back note.its ≡ back) × (mark_bound note.its ≡ bound)
+
+-- Behind a base that a range of the pass marked one was shown that this range marked, or a later one, but not as the next one. No step marks a base so, but the pass
+-- doesn't know that.
+pub record IsAstray (u : TreeView) : Type 0 where
+  pub left : Note
+  pub next : Note
+  pub number : ℕ
+  pub left_shown : IsIn left u.notes
+  pub next_shown : IsIn next u.notes
+  pub left_marked : IsMarkedBy left.its u.number number
+  pub key : List ℕ
+  pub ends : left.place.span.high ≡ Excluded key
+  pub has : HasKey next.place.span key
+  pub own : (mark next.its ≡ 1) × (mark_owner next.its ≡ u.number) × (number ≤ mark_number next.its)
+  pub apart : ¬ IsBehindRow next u.number number left.row (mark_bound left.its)
 
 -- A copy of the base with this mark took its place.
 pub record IsMarkedNow (z : Sizes) (note : Note) (mark : Mark) (row : ℕ) (u v : TreeView) : Type 0 where

@@ -7,7 +7,7 @@ use Rattle.ca_model.specs.declared.outcome.Spent.{Spent}
 use Rattle.ca_node.specs.Tallied.{IsTallied}
 use Rattle.ca_node.specs.Told.{MyTree}
 use Rattle.ca_node.specs.TreeView.{TreeView}
-use Rattle.ca_range.specs.Clearing.{turns_at}
+use Rattle.ca_range.specs.Clearing.{IsCrossed}
 use Rattle.ca_range.specs.Filling.{turns_of}
 use Rattle.ca_range.specs.Snapshots.{OnlyRanges}
 use Rattle.ca_base.specs.Spending.{IsSpentOn}
@@ -42,10 +42,10 @@ snapped_so (helped.Busy spent) = snapped.Busy
 snapped_so helped.NoRow = snapped.NoRow
 snapped_so (helped.Worn which) = snapped.Worn counter.PoolTag
 
--- No run came out, and this is why: turns were spent, or the budget was, or no row was free, or the pool's tag can rise no more.
+-- No run came out, and this is why: another pass was met, or the budget was, or no row was free, or the pool's tag can rise no more.
 abbrev pub IsRefused : ℕ → Spent → Snapped → MyTree → MyTree → Type 0
 IsRefused budget spent (snapped.Run run) m m' = ⊥
-IsRefused budget spent snapped.Again m m' = HasMet 0 0 m m' × (turns_at m < turns_at m')
+IsRefused budget spent snapped.Again m m' = HasMet 0 0 m m' × IsCrossed m m'
 IsRefused budget spent snapped.Busy m m' = HasMet 0 0 m m' × (budget ≤ turns_of spent)
 IsRefused budget spent snapped.NoRow m m' = HasMet 1 0 m m'
 IsRefused budget spent (snapped.Worn counter.PoolTag) m m' = HasMet 0 1 m m'

@@ -1,5 +1,5 @@
 -- What a pass knows behind a snapshot: bases that have together what one state of the history has.
-use Rattle.std.specs.Prelude.{◌≡◌, ℕ, ◌+◌, ◌<◌, ◌≤◌, ◌++◌, Bool, true, false, List, [], ◌∷◌, cond, length}
+use Rattle.std.specs.Prelude.{◌≡◌, ◌⊎◌, ℕ, ◌+◌, ◌<◌, ◌≤◌, ◌++◌, Bool, true, false, List, [], ◌∷◌, cond, length}
 use denote.Ref.{Bor}
 use denote.Param.Members.{Shared}
 use mathlib.Core.Option.{some}
@@ -16,9 +16,11 @@ use Rattle.ca_node.specs.Ranging.{AreChained}
 use Rattle.ca_node.specs.Ranging as ranging
 use Rattle.ca_node.specs.Told.{MyTree, IsKnown}
 use Rattle.ca_node.specs.TreeView.{Note, TreeView}
-use Rattle.ca_range.specs.Clearing.{turns_at}
+use Rattle.ca_range.specs.Clearing.{IsCrossed, turns_at}
 use Rattle.ca_range.specs.Edged.{EndsBefore}
 use Rattle.ca_range.specs.Filling.{turns_of}
+use Rattle.ca_range.specs.Looking.{IsNotEnough}
+use Rattle.ca_range.specs.Marked.{IsAstray}
 use Rattle.ca_range.specs.Staying.{with_steps_of}
 use Rattle.ca_range.specs.declared.sought.Run.{Run}
 use Rattle.ca_range.specs.declared.sought.Snapped.{Snapped}
@@ -58,6 +60,11 @@ pub record IsRemembered (z : Sizes) (u : TreeView) (run : Run) : Type 0 where
   pub chained : run.chained ≡ true → AreChained run.last u.ranges.run
   pub readable : (note : Note) → IsIn note (bases_of run u) → IsReadable z u note.row note
 
+-- An exchange was lost, or an operation of another pass was helped; or a base was met that a range of the pass's own marked, but not as its next one. What the
+-- pass marked itself is no cause.
+abbrev pub IsThwarted : MyTree → MyTree → Type 0
+IsThwarted m m' = IsCrossed m m' ⊎ IsAstray m'.0.upper
+
 module _ {F : Type 0} (g : Shared F (Bor (List ℕ) × Unit {0}) Bool) (sought : Sought F) where
   -- They have what a state since the pin has: from the lower edge on, or from before it, up to the last one's end. Up to the cut these are the objects from the
   -- lower edge on: all within the edges, or as many as were wanted.
@@ -80,9 +87,10 @@ module _ {F : Type 0} (g : Shared F (Bor (List ℕ) × Unit {0}) Bool) (sought :
   -- So a snapshot came out, with this budget, of which so much was spent.
   abbrev pub HasSnapped : Sizes → ℕ → Spent → Snapped → MyTree → MyTree → Type 0
   HasSnapped z budget spent (snapped.Run run) m m' = HasMet 0 0 m m' × HasRun z m'.0.upper run
-  HasSnapped z budget spent snapped.Again m m' = HasMet 0 0 m m' × (turns_at m < turns_at m')
+  HasSnapped z budget spent snapped.Again m m' = HasMet 0 0 m m' × (turns_at m < turns_at m') × IsThwarted m m'
   HasSnapped z budget spent snapped.Busy m m' = HasMet 0 0 m m' × (budget ≤ turns_of spent)
   HasSnapped z budget spent snapped.NoRow m m' = HasMet 1 0 m m'
   HasSnapped z budget spent (snapped.Worn counter.PoolTag) m m' = HasMet 0 1 m m'
   HasSnapped z budget spent (snapped.Worn counter.Epoch) m m' = ⊥
   HasSnapped z budget spent (snapped.Worn counter.Sequence) m m' = HasMet 0 0 m m' × (m'.0.upper.ranges.sequence ≡ some last_sequence)
+      × IsNotEnough g sought m'.0.upper.last

@@ -6,6 +6,7 @@ use Rattle.ca_node.specs.Told.{IsSettled, with_upper}
 use Rattle.ca_node.specs.TreeView.{Border, Note, TreeView}
 use Rattle.ca_range.specs.Attempts.{HasFinishedJoin}
 use Rattle.ca_range.specs.Filling.{IsInUse, IsUseOf, RemembersAll}
+use Rattle.ca_range.specs.Marked.{IsOwnLast}
 use Rattle.ca_range.specs.Staying.{OnlySteps}
 use Rattle.ca_range.specs.declared.account.Range.{Range}
 use Rattle.ca_range.specs.declared.helped.Helped.{Helped}
@@ -16,7 +17,7 @@ use Rattle.ca_rows.specs.declared.space.Pass.{Pass}
 use Rattle.ca_rows.specs.declared.space.Space.{Space}
 
 module _ {R : Type 0} where
-  -- The pass learnt of ranges and of joins alone: it remembers the same bases and routes, and carried out no join.
+  -- The pass learnt of ranges and of joins alone: it remembers the same bases and routes, and which base a walk came to last, and carried out no join.
   pub record OnlyLearns (space : Space R TreeView) (pass new : Pass R TreeView) : Type 0 where
     pub frame : KeepsList pass new
     pub raised : new.seat.me ≡ with_upper pass.seat.me new.seat.me.0.upper
@@ -24,6 +25,7 @@ module _ {R : Type 0} where
     pub all : RemembersAll pass.seat.me.0.upper new.seat.me.0.upper
     pub borders : (border : Border) → IsIn border pass.seat.me.0.upper.ranges.borders → IsIn border new.seat.me.0.upper.ranges.borders
     pub no_join : new.seat.me.0.upper.joins ≡ pass.seat.me.0.upper.joins
+    pub last : new.seat.me.0.upper.last ≡ pass.seat.me.0.upper.last
 
   -- It found that of a base that it was shown.
   abbrev pub HasFoundOf : Space R TreeView → ℕ → (TreeView → Note → Type 0) → Pass R TreeView → Pass R TreeView → Type 0
@@ -38,6 +40,6 @@ module _ {R : Type 0} where
   -- No range has the base, as the pass knows; or one of its own; or this one of another pass, which was found unfinished; or so it is with an attempt to join.
   abbrev pub IsUsedBy : Space R TreeView → ℕ → Use → Pass R TreeView → Pass R TreeView → Type 0
   IsUsedBy space base using.Free pass new = HasFoundOf space base (λ u note. IsSettled u note.its) pass new
-  IsUsedBy space base using.Own pass new = OnlyLearns space pass new
+  IsUsedBy space base using.Own pass new = HasFoundOf space base IsOwnLast pass new
   IsUsedBy space base (using.Other range) pass new = HasFoundOf space base (λ u note. IsInUse u note range) pass new
   IsUsedBy space base (using.Gone helped) pass new = HasFinishedJoin space helped pass new

@@ -93,7 +93,8 @@ fn go_further<F: Fn(&[u8]) -> bool>(
         &mut key,
     ) {
         Looked::Done(whole) => {
-            Further::Ended(decide_run(space, pass, &from, search.sought, whole))
+            let run = decide_run(space, pass, &from, search.sought, whole);
+            Further::Ended(Snapped::Run(run))
         }
         Looked::On(counted) => {
             let next = walk(space, pass, Spot::At(&key));

@@ -1,16 +1,16 @@
 //! The pass's own range goes on to the next base.
-ghost use Rattle.std.specs.Prelude.{◌≡◌, ◌<◌, ℕ, true};
+ghost use Rattle.std.specs.Prelude.{◌≡◌, ◌↔◌, ◌<◌, ℕ, IsTrue};
 ghost use Rattle.ca_adapt.specs.Tuned.{IsTuned};
 ghost use Rattle.ca_base.specs.Finding.{IsBaseShown};
 ghost use Rattle.ca_base.specs.Putting.{first_note};
 ghost use Rattle.ca_base.specs.Readiness.{IsReady};
 ghost use Rattle.ca_model.specs.declared.outcome.Spent.{Spent};
-ghost use Rattle.ca_node.specs.Row.{mark_back, mark_bound, IsMarkedBy};
 ghost use Rattle.ca_node.specs.Told.{IsSettled};
 ghost use Rattle.ca_node.specs.TreePasses.{tree_of};
 ghost use Rattle.ca_node.specs.TreeView.{Note};
 ghost use Rattle.ca_range.specs.Farther.{reach};
 ghost use Rattle.ca_range.specs.Gathering.{HasNoRun, IsFurther, IsGatheredNext, IsOver, refused_by};
+ghost use Rattle.ca_range.specs.Marked.{IsBehindRow, IsOwnLast};
 ghost use Rattle.ca_range.specs.Meeting.{AreMet};
 ghost use Rattle.ca_range.specs.Snapping.{GoesOn};
 ghost use Rattle.ca_rows.specs.Passes.{IsReading, OnlyReads, sizes, known};
@@ -80,6 +80,7 @@ fn follow<F: Fn(&[u8]) -> bool>(
     requires ready { IsReady space.now pass.old }
     requires number { pass.old.number ≡ (tree_of pass.old).number }
     requires next { IsGatheredNext F.Fn sought.now (sizes space.now) (tree_of pass.old) from next }
+    requires own { IsOwnLast (tree_of pass.old) (first_note (tree_of pass.old).notes) }
     ensures goes { (spent : Spent) → GoesOn space.now spent spent pass.old pass.new }
     ensures unfinished { (tree_of pass.new).ranges.unfinished ≡ (tree_of pass.old).ranges.unfinished }
     ensures further { (far budget : ℕ) (spent : Spent) → far < reach (tree_of pass.old)
@@ -110,8 +111,8 @@ fn is_behind(
     requires reading { IsReading space.now pass.old }
     requires shown { (note : Note) × IsBaseShown (sizes space.now) (tree_of pass.old) base note }
     ensures frame { OnlyReads pass.old pass.new }
-    ensures behind { result ≡ true → (note : Note) → IsBaseShown (sizes space.now) (tree_of pass.old) base note
-        → IsMarkedBy note.its range.owner range.number × (mark_back note.its ≡ last.now.left.base) × (mark_bound note.its ≡ last.now.own.border) }
+    ensures behind { (note : Note) → IsBaseShown (sizes space.now) (tree_of pass.old) base note
+        → IsTrue result ↔ IsBehindRow note range.owner range.number last.now.left.base last.now.own.border }
 {
     if !is_of(space, pass, base, range) {
         return false;

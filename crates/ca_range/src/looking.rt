@@ -9,7 +9,7 @@ ghost use Rattle.ca_node.specs.States.{HasState};
 ghost use Rattle.ca_node.specs.Told.{with_upper};
 ghost use Rattle.ca_node.specs.TreePasses.{tree_of};
 ghost use Rattle.ca_node.specs.Walking.{IsSought};
-ghost use Rattle.ca_range.specs.Looking.{BeginsFor, HasAdded, HasLooked, IsFirst, IsGoneTo};
+ghost use Rattle.ca_range.specs.Looking.{BeginsFor, HasAdded, HasLooked, HoldsEdge, IsFirst, IsGoneTo};
 ghost use Rattle.ca_range.specs.Staying.{OnlySteps};
 ghost use Rattle.ca_rows.specs.Passes.{OnlyReads, IsReading, KeepsList, sizes, known};
 
@@ -39,6 +39,8 @@ pub(crate) fn walk_to_first(space: &TreeSpace, pass: &mut TreePass, lo: Edge<'_>
     ensures no_join { (tree_of pass.new).joins ≡ (tree_of pass.old).joins }
     ensures turns { (tree_of pass.new).turns ≡ (tree_of pass.old).turns }
     ensures unfinished { (tree_of pass.new).ranges.unfinished ≡ (tree_of pass.old).ranges.unfinished }
+    ensures last { (tree_of pass.new).last ≡ first_note (tree_of pass.new).notes }
+    ensures holds { HoldsEdge (bound_of lo.entry) (tree_of pass.new).last.place.span }
     ensures first { IsFirst (sizes space.now) (bound_of lo.entry) (tree_of pass.new) result }
     ensures has { HasState (sizes space.now) (tree_of pass.new) (first_note (tree_of pass.new).notes) }
 {
@@ -47,7 +49,8 @@ pub(crate) fn walk_to_first(space: &TreeSpace, pass: &mut TreePass, lo: Edge<'_>
 
 // Where the first keys within a lower edge are.
 fn spot_of<'a>(lo: Edge<'a>) -> Spot<'a>
-    ensures { (span : Span) → IsSought result span → BeginsFor (bound_of lo.entry) span }
+    ensures begins { (span : Span) → IsSought result span → BeginsFor (bound_of lo.entry) span }
+    ensures holds { (span : Span) → IsSought result span → HoldsEdge (bound_of lo.entry) span }
 {
     match lo {
         Edge::Open => Spot::First,

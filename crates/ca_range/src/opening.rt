@@ -16,7 +16,7 @@ ghost use Rattle.ca_node.specs.Told.{IsSettled, status_of, with_upper};
 ghost use Rattle.ca_node.specs.TreePasses.{tree_of, IsOwner};
 ghost use Rattle.ca_node.specs.TreeView.{Note, Quiet};
 ghost use Rattle.ca_range.specs.Gathering.{IsGathering};
-ghost use Rattle.ca_range.specs.Looking.{IsFirst};
+ghost use Rattle.ca_range.specs.Looking.{IsFirst, IsNotEnough};
 ghost use Rattle.ca_range.specs.Meeting.{AreMet};
 ghost use Rattle.ca_range.specs.Opening.{begun_at, IsKeptWord, HasNumbered, HasPutFirst, HasWrittenFirst, IsFirstReady, IsNumberOf};
 ghost use Rattle.ca_range.specs.Snapping.{GoesOn, StaysPinned};
@@ -50,7 +50,7 @@ pub(crate) struct Rows {
     pub(crate) copy: u32,
 }
 
-/// Begins a range of the pass with the base that was shown last, which no range has, and gathers its bases.
+/// Begins a range of the pass with the base that was shown last, which no range has and which isn't enough, and gathers its bases.
 pub(crate) fn begin_range<F: Fn(&[u8]) -> bool>(
     space: &TreeSpace,
     pass: &mut TreePass,
@@ -67,6 +67,7 @@ pub(crate) fn begin_range<F: Fn(&[u8]) -> bool>(
     requires met { AreMet account.old.met.numbers (tree_of pass.old).ranges.unfinished }
     requires first { IsFirst (sizes space.now) (bound_of search.now.sought.now.lo) (tree_of pass.old) first }
     requires settled { IsSettled (tree_of pass.old) (first_note (tree_of pass.old).notes).its }
+    requires needed { IsNotEnough F.Fn search.now.sought.now (tree_of pass.old).last }
     ensures frame { StaysReady space.now pass.old pass.new }
     ensures steps { OnlyRanges (sizes space.now) (tree_of pass.old) (tree_of pass.new) }
     ensures met { AreMet account.new.met.numbers (tree_of pass.new).ranges.unfinished }

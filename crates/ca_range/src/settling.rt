@@ -2,6 +2,7 @@
 ghost use Rattle.std.specs.Prelude.{◌≡◌, ◌<◌, ◌≤◌};
 ghost use Rattle.ca_base.specs.Counting.{losses, HasMet};
 ghost use Rattle.ca_base.specs.Readiness.{IsReady};
+ghost use Rattle.ca_node.specs.OwnRanges.{IsKnownEnded};
 ghost use Rattle.ca_node.specs.Told.{IsKnown};
 ghost use Rattle.ca_node.specs.TreePasses.{tree_of, IsOwner};
 ghost use Rattle.ca_node.specs.TreeView.{Begun, Border, Marking, Quiet};
@@ -11,7 +12,7 @@ ghost use Rattle.ca_range.specs.Snapshots.{OnlyRanges};
 ghost use Rattle.ca_rows.specs.Passes.{KeepsList, sizes, known};
 
 use crate::own::{Gathered, Own};
-use crate::sought::{Run, Snapped, Sought};
+use crate::sought::{Run, Sought};
 use ca_base::retire_border;
 use ca_node::{RangeState, TreePass, TreeSpace, abort_own, decide_own, load_own_status};
 use std::marker::Brand;
@@ -40,7 +41,7 @@ pub(crate) fn decide_run<F: Fn(&[u8]) -> bool>(
     from: &Gathered,
     sought: &Sought<'_, F>,
     whole: bool,
-) -> Snapped
+) -> Run
     requires ready { IsReady space.now pass.old }
     requires number { pass.old.number ≡ (tree_of pass.old).number }
     requires leaf { (sizes space.now).leaf ≤ 120 }
@@ -58,11 +59,11 @@ pub(crate) fn decide_run<F: Fn(&[u8]) -> bool>(
     }
     retire_border(space, pass, from.own.border);
     let chained = true;
-    Snapped::Run(Run {
+    Run {
         last,
         chained,
         whole,
-    })
+    }
 }
 
 // Takes the run of a range that another pass decided.
@@ -71,12 +72,13 @@ fn take_run<F: Fn(&[u8]) -> bool>(
     pass: &mut TreePass,
     own: Own,
     sought: &Sought<'_, F>,
-) -> Snapped
+) -> Run
     requires ready { IsReady space.now pass.old }
     requires number { pass.old.number ≡ (tree_of pass.old).number }
     requires sizes { ((sizes space.now).leaf ≤ 120) × (0 < (sizes space.now).rows) }
     requires between { IsBetween F.Fn sought.now (sizes space.now) (tree_of pass.old) own }
     requires known { IsKnown (sizes space.now) (tree_of pass.old) }
+    requires over { IsKnownEnded (tree_of pass.old) own.number }
     ensures frame { StaysPinned space.now pass.old pass.new }
     ensures quiet { (tree_of pass.new).ranges.own ≡ Quiet }
     ensures steps { OnlyRanges (sizes space.now) (tree_of pass.old) (tree_of pass.new) }
@@ -85,32 +87,27 @@ fn take_run<F: Fn(&[u8]) -> bool>(
     ensures ended { HasSettled F.Fn sought.now (sizes space.now) result (known pass.old) (known pass.new) }
 {
     let _sought = sought;
-    let Some(last) = load_run(space, pass) else {
-        give_up(space, pass, own);
-        return Snapped::Again;
-    };
+    let last = load_run(space, pass);
     retire_border(space, pass, own.border);
-    if last == 0 {
-        return Snapped::Again;
-    }
-    Snapped::Run(Run {
+    Run {
         last,
         chained: true,
         whole: true,
-    })
+    }
 }
 
-// The last base of the run of the pass's range, where another pass decided that.
-fn load_run(space: &TreeSpace, pass: &mut TreePass) -> Option<u32>
+// The last base of the run of the pass's range, which another pass decided.
+fn load_run(space: &TreeSpace, pass: &mut TreePass) -> u32
     requires owner { IsOwner space.now pass.old }
-    requires marking { (begun : Begun) × (border : Border) × ((tree_of pass.old).ranges.own ≡ Marking begun border) }
+    requires marking { (begun : Begun) × (border : Border) × ((tree_of pass.old).ranges.own ≡ Marking begun border)
+        × IsKnownEnded (tree_of pass.old) begun.number }
     ensures frame { KeepsList pass.old pass.new }
     ensures loaded { (begun : Begun) (border : Border) → (tree_of pass.old).ranges.own ≡ Marking begun border
         → HasLoadedRun begun border result (known pass.old) (known pass.new) }
 {
     match load_own_status(space, pass) {
-        RangeState::Idle(_) => None,
-        RangeState::Active(_) => None,
-        RangeState::Decided(_, last) => Some(last),
+        RangeState::Decided(_, last) => last,
+        RangeState::Idle(_) => unreachable!(),
+        RangeState::Active(_) => unreachable!(),
     }
 }

@@ -53,13 +53,16 @@ pub fn snapshot<F: Fn(&[u8]) -> bool>(
 {
     let first = walk_to_first(space, pass, sought.lo);
     let mut key = Code::new();
-    if let Looked::Done(whole) = look(space, pass, &first, sought, 0, &mut key) {
-        let (last, chained) = (first.base, false);
-        return Snapped::Run(Run {
-            last,
-            chained,
-            whole,
-        });
+    match look(space, pass, &first, sought, 0, &mut key) {
+        Looked::Done(whole) => {
+            let (last, chained) = (first.base, false);
+            return Snapped::Run(Run {
+                last,
+                chained,
+                whole,
+            });
+        }
+        Looked::On(_) => {}
     }
     match range_in_use(space, pass, first, account) {
         Ok(None) => {}

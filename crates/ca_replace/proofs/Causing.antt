@@ -213,7 +213,7 @@ deep_adds {T} z number budget adds why o m m' kept kept' is h = subst
     (λ (x : Outcome T). IfDeep x (adds ≢ Nothing)) (sym is) (by why h)
   where
     adds_one : (a : Option (List ℕ)) → IsFullSince z a m'.0.upper → a ≢ Nothing
-    adds_one Nothing full = absurd full.2
+    adds_one Nothing full = absurd full.0.2
     adds_one (Just key) full = λ e. cc
 
     by : (why : Cause) → IsCaused z number budget adds why m kept m' kept'

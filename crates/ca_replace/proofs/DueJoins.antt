@@ -1,12 +1,14 @@
 -- A try to join the new base of an update, which is due: what it comes to.
-use Rattle.std.proofs.Common.{◌≡◌, ℕ, ◌+◌, List, Option, None, Some, sym, refl, ap, ◌∙◌, subst, inl, inr, arith}
+use Rattle.std.proofs.Common.{◌≡◌, ◌≢◌, ◌⊎◌, ◌<◌, ℕ, ◌+◌, List, Option, Err, None, Some, sym, refl, ap, ◌∙◌, subst, inl, inr, ⊎_elim, arith}
 use denote.Ref.{Bor}
 use Rattle.ca_adapt.specs.declared.adapted.Adapted.{Adapted}
 use Rattle.ca_adapt.specs.declared.adapted.Adapted.TheVariants as adapted
 use Rattle.ca_adapt.specs.declared.adapted.Why.{Why}
 use Rattle.ca_adapt.specs.declared.adapted.Why.TheVariants as why
 use Rattle.ca_adapt.specs.Finishing.{IsHungBy}
-use Rattle.ca_adapt.specs.Trying.{HasLooked, IsFoundUnranged, IsHungUnder, IsJoinOutcome, IsJoinSteps, IsLoneTry, IsSpentTrying, IsWhyNotJoined}
+use Rattle.ca_adapt.proofs.Ranged.{turned_passed}
+use Rattle.ca_adapt.specs.Joins.{HasBegunAt}
+use Rattle.ca_adapt.specs.Trying.{HasBegunThen, HasLeft, HasLooked, IsFoundUnranged, IsHungUnder, IsJoinOutcome, IsJoinSteps, IsLoneTry, IsLostTo, IsOvertaken, IsSpentTrying, IsUnlinkedBefore, IsWhyNotJoined, route_of}
 use Rattle.ca_base.specs.Counting.{losses, HasMet}
 use Rattle.ca_base.specs.Progress.{IsFurther}
 use Rattle.ca_base.specs.Putting.{first_note}
@@ -14,7 +16,7 @@ use Rattle.ca_base.specs.Spending.{RisesBy}
 use Rattle.ca_model.specs.declared.outcome.Spent.{Spent}
 use Rattle.ca_node.specs.JoinSteps.{HasLoadedJoin}
 use Rattle.ca_node.specs.Place.{HasKey, all_keys, left_of, right_of}
-use Rattle.ca_node.specs.Row.{route_key}
+use Rattle.ca_node.specs.Row.{mark, mark_owner, route_key}
 use Rattle.ca_node.specs.Told.{MyTree, IsAnyLink, IsKnown, link_word}
 use Rattle.ca_node.specs.TreeView.{Inventory, Note, Renewal, Turns, TreeView}
 use Rattle.ca_node.specs.Walking.{IsAbove, IsHungOn, IsLinkAmong, IsWalked}
@@ -25,7 +27,7 @@ use Rattle.ca_node.specs.declared.link.Link.TheVariants as on
 use Rattle.ca_replace.proofs.DueCauses.{walked_met}
 use Rattle.ca_replace.proofs.Meeting.{further_on}
 use Rattle.ca_replace.proofs.Showing.{walked_further, walked_quiet}
-use Rattle.ca_replace.specs.Adapting.{HasLookedToJoin, HasMetNothing, HasMetPool, IsCauseMet, IsMetUnjoined, IsNew}
+use Rattle.ca_replace.specs.Adapting.{HasLookedToJoin, HasLostSome, HasMetNothing, HasMetPool, IsCauseMet, IsMetUnjoined, IsNew}
 use Rattle.ca_replace.specs.Attempting.{IsPaidBut, passes}
 use Rattle.ca_replace.specs.Cutting.{HasCutDue}
 use Rattle.ca_replace.specs.Growing.{Grows}
@@ -73,13 +75,23 @@ looked_meets : (z : Sizes) (l : Link) (note : Note) (m m' : MyTree) → HasLooke
 looked_meets z l note m m' h = let led = h.found.led in meets_both m h.between m'
     (ap met_of led.now, ap (λ (x : MyTree). x.0.upper.lost) led.now) (unranged_meets h.sibling h.between m' h.unranged)
 
+-- Nor was an exchange lost, or a place passed.
+looked_counts : (z : Sizes) (l : Link) (note : Note) (m m' : MyTree) → HasLooked z l note m m'
+    → (losses m' ≡ losses m) × (m'.0.upper.turns.passed ≡ m.0.upper.turns.passed)
+looked_counts z l note m m' h = let led = h.found.led in let first = ap losses led.now in let first' = ap (λ (x : MyTree). x.0.upper.turns.passed) led.now in
+    ⊎_elim (λ (n : (mark h.sibling.its ≢ 1) × (m' ≡ h.between)).
+    let then = ap losses n.1 in let then' = ap (λ (x : MyTree). x.0.upper.turns.passed) n.1 in (omega (arith, first, then), omega (arith, first', then')))
+    (λ o. let watched = o.1.1 in let then = ap losses watched.now in
+    let then' = ap (λ (x : MyTree). x.0.upper.turns.passed) watched.now ∙ turned_passed (mark_owner h.sibling.its) o.1.0 h.between.0.upper in
+    (omega (arith, first, then), omega (arith, first', then'))) h.unranged
+
 -- A join word was loaded, and nothing was tried.
 loaded_meets : (route word : ℕ) (m n m' : MyTree) → HasLoadedJoin route m word n → m' ≡ n → MeetsNone m m'
 loaded_meets route word m n m' h same = (ap met_of (same ∙ h.now), ap (λ (x : MyTree). x.0.upper.lost) (same ∙ h.now))
 
 -- Nothing had been met since the update until a moment, and nothing was from then on; or so much of the pool.
 module _ (m m' : MyTree) (met : met_of m ≡ m.0.upper.renewal.met) (lost : m.0.upper.lost ≡ m.0.upper.renewal.lost)
-    (same : m'.0.upper.renewal ≡ m.0.upper.renewal) where
+    (passed : m.0.upper.turns.passed ≡ m.0.upper.renewal.passed) (same : m'.0.upper.renewal ≡ m.0.upper.renewal) where
   none_since : MeetsNone m m' → HasMetNothing m'.0.upper.renewal (met_of m') m'.0.upper.lost
   none_since h = let now : met_of m' ≡ m'.0.upper.renewal.met = h.0 ∙ (met ∙ ap (λ (r : Renewal). r.met) (sym same)) in
       let empty = ap (λ (x : Met). x.empty) now in let worn = ap (λ (x : Met). x.worn) now in
@@ -91,9 +103,34 @@ module _ (m m' : MyTree) (met : met_of m ≡ m.0.upper.renewal.met) (lost : m.0.
       let now : met_of m ≡ m'.0.upper.renewal.met = met ∙ ap (λ (r : Renewal). r.met) (sym same) in
       let before = ap (λ (x : Met). x.empty) now in let before' = ap (λ (x : Met). x.worn) now in (omega arith, omega arith)
 
+  -- An exchange was lost since, where more were than until that moment; or two bases were marked.
+  some_lost : losses m < losses m' → HasLostSome m'.0.upper.renewal (met_of m') m'.0.upper.lost m'.0.upper.turns.passed
+  some_lost less = let pool = ap (λ (x : Met). x.lost) met in let then_pool = ap (λ (r : Renewal). r.met.lost) same in
+      let then_links = ap (λ (r : Renewal). r.lost) same in inl (omega (arith, lost, less))
+
+  two_marked : m'.0.upper.turns.passed ≡ m.0.upper.turns.passed + 2
+      → HasLostSome m'.0.upper.renewal (met_of m') m'.0.upper.lost m'.0.upper.turns.passed
+  two_marked two = let then_passed = ap (λ (r : Renewal). r.passed) same in inr (omega (arith, passed, two))
+
+  lost_some : (z : Sizes) (l : Link) (note : Note) (then : MyTree) → HasLooked z l note m then
+      → HasBegunAt (route_of l) (Err why.Lost) then m' ⊎ HasBegunThen (route_of l) (λ x n. IsLostTo x n m') then
+      → HasLostSome m'.0.upper.renewal (met_of m') m'.0.upper.lost m'.0.upper.turns.passed
+  lost_some z l note then looked (inl b) = let none = looked_counts z l note m then looked in
+      let load = ap losses b.2.now in let one = ap losses b.3.2 in some_lost (omega (arith, none.0, load, one))
+  lost_some z l note then looked (inr t) = let none = looked_counts z l note m then looked in
+      let load = ap losses t.2.2.2.now in let began = ap losses t.2.2.5 in
+      let load' = ap (λ (x : MyTree). x.0.upper.turns.passed) t.2.2.2.now in
+      let began' = ap (λ (x : MyTree). x.0.upper.turns.passed) t.2.2.5 in
+      let same_lost : losses t.1 ≡ losses m = omega (arith, none.0, load, began) in
+      let same_passed : t.1.0.upper.turns.passed ≡ m.0.upper.turns.passed = omega (arith, none.1, load', began') in ⊎_elim
+      (λ (left : HasLeft t.1 m' × (losses t.1 < losses m')). let less = left.1 in some_lost (omega (arith, less, same_lost)))
+      (λ (o : IsUnlinkedBefore t.1 m' ⊎ IsOvertaken t.0 t.1 m'). ⊎_elim
+      (λ (before : IsUnlinkedBefore t.1 m'). let less = before.2 in some_lost (omega (arith, less, same_lost)))
+      (λ (over : IsOvertaken t.0 t.1 m'). let two = over.0.passed in two_marked (omega (arith, two, same_passed))) o) t.3
+
   -- Why a base was not joined was met since the update.
   unjoined_met : (z : Sizes) (l : Link) (note : Note) (w : Why) → IsWhyNotJoined z l note w m m'
-      → IsMetUnjoined w m'.0.upper.renewal (met_of m') m'.0.upper.lost
+      → IsMetUnjoined w m'.0.upper.renewal (met_of m') m'.0.upper.lost m'.0.upper.turns.passed
   unjoined_met z l note why.Root h = none_since (ap met_of h.1, ap (λ (x : MyTree). x.0.upper.lost) h.1)
   unjoined_met z l note why.OneObject h = tt
   unjoined_met z l note why.AtLevel h = tt
@@ -104,7 +141,7 @@ module _ (m m' : MyTree) (met : met_of m ≡ m.0.upper.renewal.met) (lost : m.0.
       (ap met_of watched.now, ap (λ (x : MyTree). x.0.upper.lost) watched.now))
   unjoined_met z l note why.Taken (some, inr x) = none_since
       (meets_both m x.0 m' (looked_meets z l note m x.0 x.1) (loaded_meets _ x.2.0 x.0 x.2.1 m' x.2.2 x.2.3.1))
-  unjoined_met z l note why.Lost h = pool_since 0 0 h.1.2
+  unjoined_met z l note why.Lost h = (pool_since 0 0 h.1.2, lost_some z l note h.1.0 h.1.1 h.1.3)
   unjoined_met z l note why.NoRow h = pool_since 1 0 h.1.2
   unjoined_met z l note why.Worn (some, (then, looked, inl begun)) = inr (none_since
       (meets_both m then m' (looked_meets z l note m then looked) (loaded_meets _ begun.0 then begun.1 m' begun.2 begun.3.2)))
@@ -135,6 +172,11 @@ module _ (z : Sizes) (key : Bor (List ℕ)) (placed : ℕ) (k m m' : MyTree) (cu
   row_is : m'.0.upper.last.row ≡ m'.0.upper.renewal.new.row
   row_is = ap (λ (n : Note). n.row) last_is ∙ (w.cursor_is.base ∙ (here ∙ (new.row ∙ ap (λ (r : Renewal). r.new.row) (sym renewal_is))))
 
+  -- Nor did it pass on to another place on its way there.
+  passed_there : m.0.upper.turns.passed ≡ m.0.upper.renewal.passed
+  passed_there = ap (λ (x : MyTree). x.0.upper.turns.passed) w.now
+      ∙ (new.passed_are ∙ ap (λ (r : Renewal). r.passed) (sym (ap (λ (x : MyTree). x.0.upper.renewal) w.now)))
+
   pub joins_there : k.0.sizes ≡ z → IsJoinOutcome z cursor.link (first_note m.0.upper.notes) a m m'
       → HasLookedToJoin z a k.0.upper m'.0.upper
   joins_there sized h = let met = walked_met z key placed k m cursor new w in
@@ -164,6 +206,7 @@ module _ (z : Sizes) (key : Bor (List ℕ)) (placed : ℕ) (k m m' : MyTree) (cu
                 ap (λ (x : MyTree). x.0.upper.joins) w.now ∙ (new.joins_are ∙ ap (λ (r : Renewal). r.joins) (sym renewal_is)),
                 met.1 ∙ ap (λ (r : Renewal). r.lost) same,
                 met.0 ∙ ap (λ (r : Renewal). r.met) same,
+                passed_there ∙ ap (λ (r : Renewal). r.passed) same,
               ),
               (refl, refl, refl, refl, refl),
               subst (λ (n : Note). IsJoinOutcome z cursor.link n a m m') (first ∙ sym last_is) h,
@@ -187,7 +230,7 @@ module _ (z : Sizes) (key : Bor (List ℕ)) (placed : ℕ) (k m m' : MyTree) (cu
 
   pub join_met : (l : Link) (note : Note) → IsJoinOutcome z l note a m m' → IsCauseMet a (met_of m') m'.0.upper
   join_met l note h = let met = walked_met z key placed k m cursor new w in
-      tried_met m m' met.0 met.1 (ap (λ (u : TreeView). u.renewal) steps.only) z l note a h
+      tried_met m m' met.0 met.1 passed_there (ap (λ (u : TreeView). u.renewal) steps.only) z l note a h
 
   pub join_paid : (before now : Spent) → IsSpentTrying before now m m' → IsPaidBut before now k m'
   join_paid before now s = let q = walked_quiet z (spot.At key) k m cursor w in record {

@@ -184,6 +184,7 @@ is_new met z edit word placed (Ok x) u w about h row won = record {
   joins_are = h.same_joins ∙ ap (λ (r : Renewal). r.joins) (sym h.renewal);
   lost_are = h.same_lost ∙ ap (λ (r : Renewal). r.lost) (sym h.renewal);
   loads_are = h.same_loads ∙ ap (λ (r : Renewal). r.loads) (sym h.renewal);
+  passed_are = ap (λ (t : Turns). t.passed) h.same_turns ∙ ap (λ (r : Renewal). r.passed) (sym h.renewal);
   met_are = ap (λ (r : Renewal). r.met) (sym h.renewal);
   noted = subst (λ (r : Renewal). IsIn r.new w.notes) (sym h.renewal)
       (subst (λ (ns : List Note). IsIn (first_note w.notes) ns) (sym h.notes) (0, refl));

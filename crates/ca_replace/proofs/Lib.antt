@@ -1,4 +1,5 @@
 pub mod Again
+pub mod Alone
 pub mod Asking
 pub mod Behind
 pub mod Between

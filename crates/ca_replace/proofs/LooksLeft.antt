@@ -1,24 +1,31 @@
 -- What a pass knows behind looks from base to base to the left, and what they cost.
-use Rattle.std.proofs.Common.{◌≡◌, ℕ, ◌+◌, ◌≤◌, min, List, [], ◌∷◌, Option, Some, sym, refl, ap, ◌∙◌, subst, inl, inr, arith}
+use Rattle.std.proofs.Common.{◌≡◌, ℕ, ◌+◌, ◌≤◌, min, List, [], ◌∷◌, Bor, Option, Some, sym, refl, ap, ◌∙◌, subst, inl, inr, ⊎_elim, arith}
+use Rattle.std.specs.declared.cmp.Ordering.TheVariants.{Less}
 use Rattle.ca_base.specs.Counting.{HasMet, losses}
 use Rattle.ca_base.specs.Finding.{IsReadable}
 use Rattle.ca_base.specs.Putting.{first_note}
 use Rattle.ca_base.specs.Readiness.{IsReady, StaysReady}
 use Rattle.ca_model.specs.declared.outcome.Spent.{Spent}
-use Rattle.ca_model.specs.Edges.{Bound, Included}
+use Rattle.ca_model.specs.Edges.{Bound, Unbounded, Included, Excluded}
+use Rattle.ca_model.specs.StoreMap.{bytes_cmp}
+use Rattle.ca_model.proofs.Places.{bytes_chain}
 use Rattle.ca_node.specs.declared.cursor.Cursor.{Cursor}
 use Rattle.ca_node.specs.declared.cursor.Spot.{Spot}
 use Rattle.ca_node.specs.declared.cursor.Spot.TheVariants as spot
 use Rattle.ca_node.specs.Row.{route_key}
-use Rattle.ca_node.specs.Told.{MyTree, IsKnown, passed_on, with_upper}
-use Rattle.ca_node.specs.TreeView.{Note, TreeView}
-use Rattle.ca_node.specs.Walking.{IsLowRoute, IsWalked}
+use Rattle.ca_node.specs.Aside.{IsAside, IsLeftOf, IsRightBelow, LetsLess, passed_on}
+use Rattle.ca_node.specs.Laws.{in_nothing}
+use Rattle.ca_node.specs.Links.{IsIn}
+use Rattle.ca_node.specs.Told.{MyTree, IsKnown, with_upper}
+use Rattle.ca_node.specs.TreeView.{Note, TreeView, Way}
+use Rattle.ca_node.specs.Walking.{IsLowRoute, IsWalked, walked}
+use Rattle.ca_node.proofs.Looking.{in_more}
 use Rattle.ca_node.proofs.Tallies.{tallied_still}
 use Rattle.ca_range.specs.Reaching.{IsKeyShown}
 use Rattle.ca_range.specs.Staying.{OnlySteps}
 use Rattle.ca_range.proofs.FirstBases.{gone_to, readable_of}
 use Rattle.ca_range.proofs.Stepping.{known_same, none_more, steps_both, steps_by_walk, steps_none}
-use Rattle.ca_replace.specs.Aside.{HasGoneLeft, HasLookedAside, HasLookedLeft, IsBoundBelow, IsRightBelow, MayGoLeft}
+use Rattle.ca_replace.specs.Aside.{HasGoneLeft, HasLookedAside, HasLookedLeft, IsLeftEnd, MayGoLeft}
 use Rattle.ca_replace.specs.Attempting.{helps, passes}
 use Rattle.ca_replace.specs.Ranging.{IsAtWork}
 use Rattle.ca_replace.specs.Within.{HasLearnt}
@@ -40,8 +47,44 @@ low_shown z u route bound h = (
 )
 
 -- It is one of the space's rows.
-pub low_inside : (z : Sizes) (u : TreeView) (route : ℕ) → IsBoundBelow z u route → route ≤ z.rows
-low_inside z u route h = subst (λ (n : ℕ). n ≤ z.rows) h.1.2 h.1.4.in_range
+pub low_inside : (z : Sizes) (u : TreeView) (route : ℕ) → IsLeftEnd z u route → route ≤ z.rows
+low_inside z u route h = subst (λ (n : ℕ). n ≤ z.rows) h.low.2 h.low.4.in_range
+
+-- What is right below a bound is on its left, and so is what is on the left of that.
+below_left : (bound : Bound) (note : Note) → IsRightBelow bound note → IsLeftOf bound note
+below_left Unbounded note b = b
+below_left (Included key) note b = b.0
+below_left (Excluded key) note b = b
+
+less_too : (low : Bound) (key other : List ℕ) → LetsLess low key → bytes_cmp key other ≡ Less → LetsLess low other
+less_too Unbounded key other l less = tt
+less_too (Included low) key other l less = bytes_chain low key other l less
+less_too (Excluded low) key other l less = bytes_chain low key other l less
+
+left_too : (bound : Bound) (note new : Note) → IsLeftOf bound note → IsRightBelow note.place.span.low new → IsLeftOf bound new
+left_too bound note new l b = by bound note.place.span.low l b
+  where
+    by : (bound low : Bound) → IsLeftOf bound (record note { place = record note.place { span = record note.place.span { low = low } } })
+        → IsRightBelow low new → IsLeftOf bound new
+    by Unbounded low l b = l
+    by (Included key) Unbounded l b = absurd b
+    by (Included key) (Included low) l b = less_too new.place.span.low low key b.0 l
+    by (Included key) (Excluded low) l b = absurd b
+    by (Excluded key) low l b = l
+
+-- At first one base was shown, which begins at the route's key.
+pub left_end : (z : Sizes) (u : TreeView) (route : ℕ) (note : Note) → u.notes ≡ note ∷ [] → IsLowRoute z u.ways (Some route) note.place.span.low
+    → IsLeftEnd z u route
+left_end z u route note notes low = record {
+  bound = note.place.span.low;
+  low = low;
+  left = λ new b other i. subst (λ (n : Note). IsLeftOf n.place.span.low new) (only (subst (λ (ns : List Note). IsIn other ns) notes i))
+      (below_left note.place.span.low new b);
+  beside = (note, subst (λ (ns : List Note). IsIn note ns) (sym notes) (0, refl), refl);
+}
+  where
+    only : {other : Note} → IsIn other (note ∷ []) → note ≡ other
+    only {other} i = ⊎_elim (λ (e : note ≡ other). e) (λ (o : IsIn other []). absurd (in_nothing other [] refl o)) (in_more note other [] i)
 
 -- A turn by which the pass passes on counts alone.
 steps_passed : {z : Sizes} (u : TreeView) → OnlySteps z 0 u (passed_on u)
@@ -56,6 +99,21 @@ steps_passed {z} u = record {
   joins = omega arith;
   joined = omega arith;
 }
+
+-- Such a walk may be counted.
+pub aside_of : (z : Sizes) (route : ℕ) (key : Bor (List ℕ)) (m mid : MyTree) (cursor : Cursor)
+    → ((its : List ℕ) → IsKeyShown m.0.upper route its → key.now ≡ route_key its) → IsWalked z (spot.Below key) m cursor mid → IsLeftEnd z m.0.upper route
+    → IsAside mid.0.upper
+aside_of z route key m mid cursor key_is w end = let shown = low_shown z m.0.upper route end.bound end.low in
+    let below : IsRightBelow end.bound w.note = subst (λ (b : Bound). IsRightBelow b w.note) (sym shown.2)
+    (subst (λ (k : List ℕ). IsRightBelow (Included k) w.note) (key_is shown.0 shown.1) w.sought) in
+    subst (λ (x : MyTree). IsAside x.0.upper) (sym w.now) record {
+      some_row = w.is_base.some_row;
+      before = m.0.upper.notes;
+      notes = refl;
+      left = λ note i. end.left w.note below note i;
+      beside = (end.beside.0, end.beside.1, subst (λ (b : Bound). IsRightBelow b w.note) (sym end.beside.2) below);
+    }
 
 -- Nothing was looked at.
 pub left_none : (z : Sizes) (a : Spent) (m : MyTree) → HasLookedLeft z a a m m
@@ -84,25 +142,29 @@ left_both z a b c k m n x y = record {
 -- One base more was looked at.
 module _ (z : Sizes) (route : ℕ) (cursor : Cursor) (m m' : MyTree) (h : HasLookedAside z route cursor m m') where
   abbrev mid : MyTree
-  mid = with_upper m (passed_on m.0.upper)
+  mid = h.mid
+
+  now : m' ≡ with_upper m (passed_on (walked m.0.upper h.walked.more h.walked.note h.walked.ways h.walked.loads))
+  now = h.counted ∙ ap (λ (x : MyTree). with_upper x (passed_on x.0.upper)) h.walked.now
 
   same_lost : losses m' ≡ losses m
-  same_lost = ap (λ (x : MyTree). losses x) h.walked.now
+  same_lost = ap (λ (x : MyTree). losses x) now
 
   pub one_passed_on : passes m' ≡ passes m + 1
-  one_passed_on = ap (λ (x : MyTree). passes x) h.walked.now
+  one_passed_on = ap (λ (x : MyTree). passes x) now
 
   same_helped : helps m' ≡ helps m
-  same_helped = ap (λ (x : MyTree). helps x) h.walked.now
+  same_helped = ap (λ (x : MyTree). helps x) now
 
   aside_left : (a b : Spent) → b.passed ≡ min (a.passed + 1) 4294967295 → (b.lost ≡ a.lost) × (b.helped ≡ a.helped)
       → HasLookedLeft z a b m m'
   aside_left a b more others = let lost = same_lost in let helped = same_helped in let passed = one_passed_on in
       let l = others.0 in let p = others.1 in record {
-        raised = h.walked.now ∙ sym (ap (λ (x : MyTree). with_upper m x.0.upper) h.walked.now);
-        steps = steps_both m.0.upper mid.0.upper m'.0.upper (steps_passed m.0.upper) (steps_by_walk (spot.Below h.key) mid m' cursor h.walked);
-        no_join = ap (λ (x : MyTree). x.0.upper.joins) h.walked.now;
-        unfinished = ap (λ (x : MyTree). x.0.upper.ranges.unfinished) h.walked.now;
+        raised = now ∙ sym (ap (λ (x : MyTree). with_upper m x.0.upper) now);
+        steps = steps_both m.0.upper mid.0.upper m'.0.upper (steps_by_walk (spot.Below h.key) m mid cursor h.walked)
+            (subst (λ (x : MyTree). OnlySteps z 0 mid.0.upper x.0.upper) (sym h.counted) (steps_passed mid.0.upper));
+        no_join = ap (λ (x : MyTree). x.0.upper.joins) now;
+        unfinished = ap (λ (x : MyTree). x.0.upper.ranges.unfinished) now;
         paid = record {
           more = omega arith;
           lost = λ fits. omega arith;
@@ -119,17 +181,25 @@ module _ (z : Sizes) (route : ℕ) (cursor : Cursor) (m m' : MyTree) (h : HasLoo
   one_more_left o a b k before more others = left_both z o a b k m m' before (aside_left a b more others)
 
   pub aside_readable : z.leaf ≤ 120 → IsReadable z m'.0.upper cursor.base (first_note m'.0.upper.notes)
-  aside_readable most = readable_of z m'.0.upper cursor (gone_to z (spot.Below h.key) mid m' cursor h.walked most)
+  aside_readable most = let r = readable_of z mid.0.upper cursor (gone_to z (spot.Below h.key) m mid cursor h.walked most) in
+      subst (λ (x : MyTree). IsReadable z x.0.upper cursor.base (first_note x.0.upper.notes)) (sym h.counted)
+      (record { noted = r.noted; here = r.here; is_base = r.is_base; few = r.few; ordered = r.ordered })
+
+  here : first_note m'.0.upper.notes ≡ h.walked.note
+  here = ap (λ (x : MyTree). first_note x.0.upper.notes) now
+
+  same_ways : m'.0.upper.ways ≡ mid.0.upper.ways
+  same_ways = ap (λ (x : MyTree). x.0.upper.ways) h.counted
 
   -- It is right below where the one before begins.
   right_below : (bound : Bound) → IsLowRoute z m.0.upper.ways (Some route) bound → IsRightBelow bound (first_note m'.0.upper.notes)
-  right_below bound low = let shown = low_shown z m.0.upper route bound low in let here = ap (λ (x : MyTree). first_note x.0.upper.notes) h.walked.now in
+  right_below bound low = let shown = low_shown z m.0.upper route bound low in
       subst (λ (n : Note). IsRightBelow bound n) (sym here) (subst (λ (b : Bound). IsRightBelow b h.walked.note) (sym shown.2)
       (subst (λ (k : List ℕ). IsRightBelow (Included k) h.walked.note) (h.key_is shown.0 shown.1) h.walked.sought))
 
   one_note : m'.0.upper.notes ≡ first_note m'.0.upper.notes ∷ m.0.upper.notes
-  one_note = ap (λ (x : MyTree). x.0.upper.notes) h.walked.now
-      ∙ sym (ap (λ (x : MyTree). first_note x.0.upper.notes ∷ m.0.upper.notes) h.walked.now)
+  one_note = ap (λ (x : MyTree). x.0.upper.notes) now
+      ∙ sym (ap (λ (x : MyTree). first_note x.0.upper.notes ∷ m.0.upper.notes) now)
 
   pub gone_left : (from : ℕ) (k : MyTree) → MayGoLeft z from route k m → HasGoneLeft z from k m'
   gone_left from k may = let turns = may.turns in let passed = one_passed_on in record {
@@ -137,40 +207,43 @@ module _ (z : Sizes) (route : ℕ) (cursor : Cursor) (m m' : MyTree) (h : HasLoo
     some = omega arith;
     notes = one_note ∙ ap (λ (ns : List Note). first_note m'.0.upper.notes ∷ ns) may.notes;
     turns = omega arith;
-    are = may.next (first_note m'.0.upper.notes) (right_below may.bound may.low);
+    are = may.next (first_note m'.0.upper.notes) (right_below may.end.bound may.end.low);
   }
 
   -- Where it begins.
   pub aside_low : IsLowRoute z m'.0.upper.ways cursor.low (first_note m'.0.upper.notes).place.span.low
-  aside_low = let here = ap (λ (x : MyTree). first_note x.0.upper.notes) h.walked.now in
-      subst (λ (n : Note). IsLowRoute z m'.0.upper.ways cursor.low n.place.span.low) (sym here) h.walked.cursor_is.low
+  aside_low = subst (λ (x : List Way × Note). IsLowRoute z x.0 cursor.low x.1.place.span.low) (λ i. (sym same_ways i, sym here i)) h.walked.cursor_is.low
 
-  pub aside_bound : (next : ℕ) → cursor.low ≡ Some next → IsBoundBelow z m'.0.upper next
-  aside_bound next is = let bound = (first_note m'.0.upper.notes).place.span.low in
-      (bound, subst (λ (r : Option ℕ). IsLowRoute z m'.0.upper.ways r bound) is aside_low)
+  pub aside_bound : (next : ℕ) → cursor.low ≡ Some next → IsLeftEnd z m.0.upper route → IsLeftEnd z m'.0.upper next
+  aside_bound next is end = let note : Note = first_note m'.0.upper.notes in let below = right_below end.bound end.low in record {
+    bound = note.place.span.low;
+    low = subst (λ (r : Option ℕ). IsLowRoute z m'.0.upper.ways r note.place.span.low) is aside_low;
+    left = λ new b other i. ⊎_elim (λ (e : note ≡ other). subst (λ (n : Note). IsLeftOf n.place.span.low new) e (below_left note.place.span.low new b))
+        (λ (o : IsIn other m.0.upper.notes). left_too other.place.span.low note new (end.left note below other o) b)
+        (in_more note other m.0.upper.notes (subst (λ (ns : List Note). IsIn other ns) one_note i));
+    beside = (note, subst (λ (ns : List Note). IsIn note ns) (sym one_note) (0, refl), refl);
+  }
 
   -- Where it has no object, and begins with a route's key, the next one is right below that.
   pub may_go_on : (from next : ℕ) (k : MyTree) → MayGoLeft z from route k m → cursor.low ≡ Some next → (first_note m'.0.upper.notes).objects ≡ []
       → MayGoLeft z from next k m'
-  unfolding gone_left
+  unfolding gone_left aside_bound
   may_go_on from next k may is none = let gone = gone_left from k may in let note : Note = first_note m'.0.upper.notes in record {
     looks = gone.looks;
     notes = gone.notes;
     turns = gone.turns;
-    bound = note.place.span.low;
-    low = subst (λ (r : Option ℕ). IsLowRoute z m'.0.upper.ways r note.place.span.low) is aside_low;
+    end = aside_bound next is may.end;
     next = λ n below. (below, none, gone.are);
   }
 
 -- At first the next look is one to the left of that route's key.
-pub may_go_first : (z : Sizes) (from : ℕ) (m : MyTree) → IsBoundBelow z m.0.upper from → MayGoLeft z from from m m
+pub may_go_first : (z : Sizes) (from : ℕ) (m : MyTree) → IsLeftEnd z m.0.upper from → MayGoLeft z from from m m
 may_go_first z from m b = record {
   looks = [];
   notes = refl;
   turns = omega arith;
-  bound = b.0;
-  low = b.1;
-  next = λ n below. (b.0, b.1, below);
+  end = b;
+  next = λ n below. (b.bound, b.low, below);
 }
 
 -- Looks learn of others' edits alone, and met nothing of the pool.

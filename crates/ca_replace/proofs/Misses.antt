@@ -122,7 +122,7 @@ refill_range_caused z number budget begun why now m n m' kept kept' paid first b
     by : (why : Cause) → IsCaused z number budget Nothing why m kept m' kept' → IsRangeCaused z number budget why m kept m' kept'
     by (cause.Busy spent) x = x
     by (cause.Full full) x = x
-    by (cause.Deep level) x = absurd x.1.2
+    by (cause.Deep level) x = absurd x.1.0.2
     by (cause.Worn counter.PoolTag) x = x
     by (cause.Worn counter.Epoch) x = x
     by (cause.Worn counter.Sequence) x = absurd x

@@ -22,6 +22,7 @@ use Rattle.ca_node.specs.Row.{object, pair}
 use Rattle.ca_node.specs.Told.{MyTree, with_upper, IsEntered, IsKnown, IsSettled, led_to_base, led_to_route, IsLed, IsLedToBase, IsLedToRoute}
 use Rattle.ca_node.specs.TreeView.{Note, TreeView}
 use Rattle.ca_node.specs.Walking.{walked, IsBegin, IsWalked}
+use Rattle.ca_node.proofs.Logs.{last_state}
 use Rattle.ca_node.proofs.Parts.{part_map, part_get}
 use Rattle.ca_replace.specs.Attempting.{IsLooking, HasFetched, HasDoneSuch, HasSeenAlike, HasTriedTo, IsQuiet, come_to}
 use Rattle.ca_replace.specs.Causes.{IsFull, IsFullSince}
@@ -281,29 +282,36 @@ fetched z u cursor at key old l p e = let note = first_note u.notes in
 -- A full base at the last level has no room for a key that is new there.
 pub full_there : (z : Sizes) (u v : TreeView) (cursor : Cursor) (key : List ℕ) (place : Result ℕ ℕ)
     (many : ℕ) → IsLooking z u key cursor
-    → HasSeenAlike u v → z.levels ≤ (first_note u.notes).place.level
+    → v ≡ u → z.levels ≤ (first_note u.notes).place.level
     → IsPlace (map pair (first_note u.notes).objects) key place
     → ¬ IsRoom place many z.leaf → many ≡ length (first_note u.notes).objects
     → IsFullSince z (Some key) v
 full_there z u v cursor key (Ok at) many l same level p no_room is = absurd (no_room tt)
-full_there z u v cursor key (Err at) many l same level p no_room is = let place = l.has.at in (
-  place,
-  (
-    (let from = l.has.since.0 in let as_much = ap (λ (h : History). length h) same.1 in
-        omega arith),
-    (let to = l.has.since.1 in let as_much = ap (λ (h : History). length h) same.0 in
-        omega arith),
-  ),
-  subst (λ (x : History × Note). IsFull z (Some key) x.1 (state x.0 place))
-      (λ i. (sym same.0 i, sym (same.2 ∙ l.last) i)) (
-        none_there z u cursor key at l p,
-        l.about,
-        level,
-        let long = length-map (first_note u.notes).objects pair in
-            let e = ap (λ (x : StoreMap). length x) l.has.has in
-            let full : z.leaf ≤ many = not_less z.leaf many no_room in omega arith,
+full_there z u v cursor key (Err at) many l same level p no_room is =
+    subst (λ (x : TreeView). IsFullSince z (Some key) x) (sym same) (
+      (
+        l.has.at,
+        l.has.since,
+        subst (λ (n : Note). IsFull z (Some key) n (state u.seen l.has.at)) (sym l.last) full,
       ),
-)
+      λ alone. (
+        subst (λ (n : Note). IsListed u.inventory n) (sym l.last) (l.listed alone),
+        subst (λ (x : Note × StoreMap). IsFull z (Some key) x.0 x.1) (λ i. (
+          sym l.last i,
+          (ap (λ (n : ℕ). state u.seen n) (l.has.last alone) ∙ last_state u.seen) i,
+        )) full,
+      ),
+    )
+  where
+    full : IsFull z (Some key) (first_note u.notes) (state u.seen l.has.at)
+    full = (
+      none_there z u cursor key at l p,
+      l.about,
+      level,
+      let long = length-map (first_note u.notes).objects pair in
+          let e = ap (λ (x : StoreMap). length x) l.has.has in
+          let few : z.leaf ≤ many = not_less z.leaf many no_room in omega arith,
+    )
 
 tried_from : (z : Sizes) (event : Event) (r : Result (Unit {0}) Stop) (u v : TreeView) → IsKnown z u
     → HasTried event z r u v

@@ -37,8 +37,8 @@ IsMoved t word lost statistic = (old : ℤ) × IsStatisticOf word old × IsAfter
 abbrev pub HasLostSince : Bool → Bool → ℕ → ℕ → Type 0
 HasLostSince before now few many = ((now ≡ before) × (many ≡ few)) ⊎ ((now ≡ true) × (few < many))
 
--- The base with this row was just put in place, by an update that is about this key; it was shown last. So many splits, joins and losses were counted as it
--- was, and are now; and so many links were loaded. No range marked it, and no join.
+-- The base with this row was just put in place, by an update that is about this key; it was shown last. So many splits, joins, losses and turns were counted as
+-- it was, and are now; and so many links were loaded. No range marked it, and no join.
 pub record IsNew (placed : ℕ) (key : List ℕ) (met : Met) (u : TreeView) : Type 0 where
   pub row : placed ≡ u.renewal.new.row
   pub last : u.last ≡ u.renewal.new
@@ -47,6 +47,7 @@ pub record IsNew (placed : ℕ) (key : List ℕ) (met : Met) (u : TreeView) : Ty
   pub joins_are : u.joins ≡ u.renewal.joins
   pub lost_are : u.lost ≡ u.renewal.lost
   pub loads_are : u.loads ≡ u.renewal.loads
+  pub passed_are : u.turns.passed ≡ u.renewal.passed
   pub met_are : met ≡ u.renewal.met
   pub noted : IsIn u.renewal.new u.notes
   pub unmarked : IsUnmarked u.renewal.new.its
@@ -81,7 +82,7 @@ HasTriedOnce z note before now (adapted.NotJoined why) = ⊥
 -- behind the one that showed it.
 abbrev pub IsKnownThere : Sizes → MyTree → TreeView → Type 0
 IsKnownThere z m v = (m.0.sizes ≡ z) × (m.0.upper.last ≡ v.last) × (m.0.upper.loads ≡ v.shown) × (m.0.upper.renewal ≡ v.renewal) × (m.0.upper.since ≡ v.since)
-    × (m.0.upper.joins ≡ v.renewal.joins) × (m.0.upper.lost ≡ v.renewal.lost) × (met_of m ≡ v.renewal.met)
+    × (m.0.upper.joins ≡ v.renewal.joins) × (m.0.upper.lost ≡ v.renewal.lost) × (met_of m ≡ v.renewal.met) × (m.0.upper.turns.passed ≡ v.renewal.passed)
 
 -- This is known now: nothing was seen, loaded, joined or lost since.
 abbrev pub IsKnownNow : MyTree → TreeView → Type 0
@@ -147,40 +148,44 @@ HasMetPool empty worn r now = (now.empty ≡ r.met.empty + empty) × (now.worn �
 abbrev pub HasLostNothing : Renewal → Met → ℕ → Type 0
 HasLostNothing r now lost = now.lost + lost ≡ r.met.lost + r.lost
 
--- By why the base was not joined this was met since then. An exchange that is lost may be the one by which an attempt
--- is secured, which isn't counted.
-abbrev pub IsMetUnjoined : Why → Renewal → Met → ℕ → Type 0
-IsMetUnjoined why.Root r now lost = HasMetNothing r now lost
-IsMetUnjoined why.OneObject r now lost = Unit {0}
-IsMetUnjoined why.AtLevel r now lost = Unit {0}
-IsMetUnjoined why.SiblingRoute r now lost = HasMetNothing r now lost
-IsMetUnjoined why.TooMany r now lost = HasMetNothing r now lost
-IsMetUnjoined why.Taken r now lost = HasMetNothing r now lost
-IsMetUnjoined why.Lost r now lost = HasMetPool 0 0 r now
-IsMetUnjoined why.NoRow r now lost = HasMetPool 1 0 r now
-IsMetUnjoined why.Worn r now lost = HasMetPool 0 1 r now ⊎ HasMetNothing r now lost
+-- An exchange was lost since then, of a link or of the head; or else the base and its sibling were marked since, and another pass gave the attempt up before it
+-- was secured, whose exchange isn't counted.
+abbrev pub HasLostSome : Renewal → Met → ℕ → ℕ → Type 0
+HasLostSome r now lost passed = (r.met.lost + r.lost < now.lost + lost) ⊎ (passed ≡ r.passed + 2)
+
+-- By why the base was not joined this was met since then.
+abbrev pub IsMetUnjoined : Why → Renewal → Met → ℕ → ℕ → Type 0
+IsMetUnjoined why.Root r now lost passed = HasMetNothing r now lost
+IsMetUnjoined why.OneObject r now lost passed = Unit {0}
+IsMetUnjoined why.AtLevel r now lost passed = Unit {0}
+IsMetUnjoined why.SiblingRoute r now lost passed = HasMetNothing r now lost
+IsMetUnjoined why.TooMany r now lost passed = HasMetNothing r now lost
+IsMetUnjoined why.Taken r now lost passed = HasMetNothing r now lost
+IsMetUnjoined why.Lost r now lost passed = HasMetPool 0 0 r now × HasLostSome r now lost passed
+IsMetUnjoined why.NoRow r now lost passed = HasMetPool 1 0 r now
+IsMetUnjoined why.Worn r now lost passed = HasMetPool 0 1 r now ⊎ HasMetNothing r now lost
 
 -- By what the answer says of the new base this was met since then: where nothing was tried, or the base was split by the one try, nothing. Where the try
 -- came to nothing the pass met what the answer says, an empty head or a worn tag once, and nothing else but exchanges of the head that were lost as rows
 -- were put back.
-abbrev pub IsMetSince : Adapted → Renewal → Met → ℕ → Type 0
-IsMetSince adapted.Stay r now lost = HasMetNothing r now lost
-IsMetSince adapted.Split r now lost = HasMetNothing r now lost
-IsMetSince adapted.Joined r now lost = HasMetPool 0 0 r now × HasLostNothing r now lost
-IsMetSince (adapted.NotSplit why.Root) r now lost = Unit {0}
-IsMetSince (adapted.NotSplit why.OneObject) r now lost = HasMetNothing r now lost
-IsMetSince (adapted.NotSplit why.AtLevel) r now lost = HasMetNothing r now lost
-IsMetSince (adapted.NotSplit why.SiblingRoute) r now lost = Unit {0}
-IsMetSince (adapted.NotSplit why.TooMany) r now lost = Unit {0}
-IsMetSince (adapted.NotSplit why.Taken) r now lost = Unit {0}
-IsMetSince (adapted.NotSplit why.Lost) r now lost = (HasMetMore 0 0 0 r now lost × (r.met.lost < now.lost)) ⊎ HasMetMore 0 0 1 r now lost
-IsMetSince (adapted.NotSplit why.NoRow) r now lost = HasMetMore 1 0 0 r now lost
-IsMetSince (adapted.NotSplit why.Worn) r now lost = HasMetMore 0 1 0 r now lost
-IsMetSince (adapted.NotJoined why) r now lost = IsMetUnjoined why r now lost
+abbrev pub IsMetSince : Adapted → Renewal → Met → ℕ → ℕ → Type 0
+IsMetSince adapted.Stay r now lost passed = HasMetNothing r now lost
+IsMetSince adapted.Split r now lost passed = HasMetNothing r now lost
+IsMetSince adapted.Joined r now lost passed = HasMetPool 0 0 r now × HasLostNothing r now lost
+IsMetSince (adapted.NotSplit why.Root) r now lost passed = Unit {0}
+IsMetSince (adapted.NotSplit why.OneObject) r now lost passed = HasMetNothing r now lost
+IsMetSince (adapted.NotSplit why.AtLevel) r now lost passed = HasMetNothing r now lost
+IsMetSince (adapted.NotSplit why.SiblingRoute) r now lost passed = Unit {0}
+IsMetSince (adapted.NotSplit why.TooMany) r now lost passed = Unit {0}
+IsMetSince (adapted.NotSplit why.Taken) r now lost passed = Unit {0}
+IsMetSince (adapted.NotSplit why.Lost) r now lost passed = (HasMetMore 0 0 0 r now lost × (r.met.lost < now.lost)) ⊎ HasMetMore 0 0 1 r now lost
+IsMetSince (adapted.NotSplit why.NoRow) r now lost passed = HasMetMore 1 0 0 r now lost
+IsMetSince (adapted.NotSplit why.Worn) r now lost passed = HasMetMore 0 1 0 r now lost
+IsMetSince (adapted.NotJoined why) r now lost passed = IsMetUnjoined why r now lost passed
 
 -- So it did since its last update.
 abbrev pub IsCauseMet : Adapted → Met → TreeView → Type 0
-IsCauseMet a now v = IsMetSince a v.renewal now v.lost
+IsCauseMet a now v = IsMetSince a v.renewal now v.lost v.turns.passed
 
 -- This holds where a call edited the map: by what its attempts came to, and by its outcome.
 abbrev pub IfTrue : Bool → Type 0 → Type 0

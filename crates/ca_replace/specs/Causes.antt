@@ -1,5 +1,5 @@
 -- Why calls are refused, and which rows a pass keeps behind a call.
-use Rattle.std.specs.Prelude.{◌≡◌, ◌≢◌, ◌⊎◌, ◌↔◌, IsTrue, false, ℕ, ◌+◌, ◌-◌, ◌<◌, ◌≤◌, min, List, Vec, vec_len, length}
+use Rattle.std.specs.Prelude.{◌≡◌, ◌≢◌, ◌⊎◌, ◌↔◌, IsTrue, false, ℕ, ◌+◌, ◌-◌, ◌<◌, ◌≤◌, min, List, [], Vec, vec_len, length}
 use Rattle.std.specs.declared.option.Option.{Option}
 use Rattle.std.specs.declared.option.Option.TheVariants.{None, Some}
 use Rattle.std.specs.Global.{Global}
@@ -8,9 +8,11 @@ use Rattle.ca_model.specs.declared.outcome.Outcome.{Outcome}
 use Rattle.ca_model.specs.declared.outcome.Outcome.TheVariants as outcome
 use Rattle.ca_model.specs.declared.outcome.Spent.{Spent}
 use Rattle.ca_base.specs.Counting.{losses, HasMet}
+use Rattle.ca_model.specs.History.{after}
 use Rattle.ca_model.specs.StoreMap.{StoreMap, IsFound}
+use Rattle.ca_node.specs.Inventory.{IsListed}
 use Rattle.ca_node.specs.Place.{HasKey, part}
-use Rattle.ca_node.specs.States.{OfSomeState}
+use Rattle.ca_node.specs.States.{IsAlone, OfSomeState}
 use Rattle.ca_node.specs.Told.{MyTree}
 use Rattle.ca_node.specs.TreeView.{Note, TreeView}
 use Rattle.ca_replace.specs.Attempting.{helps, passes, total}
@@ -69,9 +71,11 @@ IsFull z None base map = ⊥
 IsFull z (Some key) base map = IsFound map key None × HasKey base.place.span key × (z.levels ≤ base.place.level)
     × (z.leaf ≤ length (part base.place.span map))
 
--- So it is by a state since the last pin, and the base that was shown last.
+-- So it is by a state since the last pin, and the base that was shown last. Where the pass is alone that is a base of the tree, and so it is by the last
+-- state.
 abbrev pub IsFullSince : Sizes → Option (List ℕ) → TreeView → Type 0
 IsFullSince z adds u = OfSomeState u (λ map. IsFull z adds u.last map)
+    × (IsAlone z u → IsListed u.inventory u.last × IsFull z adds u.last (after u.seen []))
 
 -- A call with this budget that may add this key, if any, may be refused so, given what its pass knew and kept before it and what it knows and keeps behind it.
 abbrev pub IsCaused : Sizes → ℕ → ℕ → Option (List ℕ) → Cause → MyTree → Vec Kept Global → MyTree → Vec Kept Global → Type 0

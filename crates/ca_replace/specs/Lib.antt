@@ -1,4 +1,5 @@
 pub mod Adapting
+pub mod Alone
 pub mod Aside
 pub mod Attempting
 pub mod Between

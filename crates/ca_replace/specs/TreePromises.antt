@@ -6,6 +6,7 @@ use Rattle.ca_model.specs.Answer.{IfDone, IfRefused}
 use Rattle.ca_model.specs.Promises.{Promises}
 use Rattle.ca_model.specs.Runs.{IsOpen}
 use Rattle.ca_replace.specs.Adapting.{is_put}
+use Rattle.ca_replace.specs.Alone.{HasLoneCause}
 use Rattle.ca_replace.specs.Called.{HasTold, StaysStore}
 use Rattle.ca_replace.specs.Causes.{IsSparing, IsUnspent, WasUnspent}
 use Rattle.ca_replace.specs.Growing.{IsUntouched}
@@ -27,6 +28,7 @@ pub record HasRead {T : Type 0} (budget : ℕ) (s t : StoreView) (o : Outcome T)
   pub unchanged : MakesNoUpdate s t
   -- why it was refused
   pub caused : HasRangeCause budget s t o
+  pub alone : s.z.passes ≡ 1 → HasLoneCause s.z None s.seat.me.0.upper o
 
 -- Where a call with this budget was done the budget wasn't spent, as its pass unpinned, and of one that opened a run as it came to it.
 abbrev pub WasInBudget : {T : Type 0} → ℕ → StoreView → StoreView → Outcome T → Type 0

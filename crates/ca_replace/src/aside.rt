@@ -1,7 +1,7 @@
 //! Looks from base to base to the left.
 ghost use Rattle.std.specs.Prelude.{◌≡◌, ◌+◌, ◌<◌, ◌≤◌, ℕ, min};
 ghost use Rattle.ca_node.specs.TreePasses.{tree_of};
-ghost use Rattle.ca_replace.specs.Aside.{HasGoneLeft, HasLookedAside, HasLookedLeft, IsBoundBelow, IsEndOfLooks};
+ghost use Rattle.ca_replace.specs.Aside.{HasGoneLeft, HasLookedAside, HasLookedLeft, IsEndOfLooks, IsLeftEnd};
 ghost use Rattle.ca_replace.specs.Attempting.{total};
 ghost use Rattle.ca_rows.specs.Passes.{IsReading, KeepsList, known, sizes};
 
@@ -23,7 +23,7 @@ pub(crate) fn look_left(
 ) -> Option<bool>
     requires reading { IsReading space.now pass.old }
     requires leaf { (sizes space.now).leaf ≤ 120 }
-    requires from { IsBoundBelow (sizes space.now) (tree_of pass.old) from }
+    requires from { IsLeftEnd (sizes space.now) (tree_of pass.old) from }
     requires unspent { total spent.old < budget }
     ensures frame { KeepsList pass.old pass.new }
     ensures looked { HasLookedLeft (sizes space.now) spent.old spent.new (known pass.old) (known pass.new) }
@@ -50,7 +50,7 @@ pub(crate) fn look_left(
 // Looks at the base that has the keys right below a route's key. That is one turn.
 fn look_aside(space: &TreeSpace, pass: &mut TreePass, route: u32, spent: &mut Spent) -> Cursor
     requires reading { IsReading space.now pass.old }
-    requires from { IsBoundBelow (sizes space.now) (tree_of pass.old) route }
+    requires from { IsLeftEnd (sizes space.now) (tree_of pass.old) route }
     ensures frame { KeepsList pass.old pass.new }
     ensures looked { HasLookedAside (sizes space.now) route result (known pass.old) (known pass.new) }
     ensures passed { spent.new.passed ≡ min (spent.old.passed + 1) 4294967295 }
@@ -58,7 +58,8 @@ fn look_aside(space: &TreeSpace, pass: &mut TreePass, route: u32, spent: &mut Sp
 {
     let mut key = Code::new();
     copy_key(space, pass, route, &mut key);
+    let cursor = walk(space, pass, Spot::Below(&key));
     pass_on(space, pass);
     spent.passed = add(spent.passed, 1);
-    walk(space, pass, Spot::Below(&key))
+    cursor
 }

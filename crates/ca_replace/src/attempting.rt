@@ -289,6 +289,7 @@ fn make_room(
     ensures stays { (key : List ℕ) → IsLooking (sizes tree.now.space) (tree_of pass.old) key cursor → StaysAt {T = Unit {0}} (sizes tree.now.space) key (Err result)
         (tree_of pass.old) (tree_of pass.new) course.new.again false }
     ensures deep { result ≡ IsDeep → (sizes tree.now.space).levels ≤ (shown_last pass.old).place.level }
+    ensures still { result ≡ IsDeep → tree_of pass.new ≡ tree_of pass.old }
     ensures turn { (key : List ℕ) → IsLooking (sizes tree.now.space) (tree_of pass.old) key cursor
         → IsFullFor (sizes tree.now.space) (Some key) (shown_last pass.old) → IsTurn {T = Unit {0}} (λ _. true) (Some key) (sizes tree.now.space)
         tree.now.tuning course.old course.new (met_of (known pass.new)) (Err result) (known pass.old) (known pass.new) }

@@ -51,6 +51,7 @@ pub(crate) trait Look {
         requires may { may self.now (sizes tree.now.space) }
         requires at_pin { IsAtPin (tree_of pass.old) }
         requires none_met { (tree_of pass.old).ranges.unfinished ≡ [] }
+        requires none_shown { (tree_of pass.old).notes ≡ [] }
         requires unspent { total spent.old < budget }
         ensures frame { StaysReady tree.now.space pass.old pass.new }
         ensures tried { HasRangedTo (λ answer. tells self.now (sizes tree.now.space) answer left.new) (sizes tree.now.space) result (tree_of pass.old)

@@ -4,6 +4,7 @@ use Rattle.ca_range.specs.Meeting.{AreMet}
 use Rattle.ca_range.proofs.GoingOn.{in_budget}
 use Rattle.ca_range.proofs.OwnSteps.{ended_on, goes_both, goes_none, goes_over, number_on, ready_on}
 use Rattle.ca_range.proofs.Ranking.{far_inside}
+use Rattle.ca_range.proofs.SnapshotSteps.{more_turns}
 use Rattle.ca_range.proofs.gathering.gather.Goals as goal
 
 pub loop-pass-init : goal.loop-pass-init
@@ -38,7 +39,9 @@ returns-in-Ended-clause-goes g c = goes_both c.args.space.now c.args.account.now
 pub returns-in-Ended-clause-ended : goal.returns-in-Ended-clause-ended
 returns-in-Ended-clause-ended g c = ended_on g.F.Fn c.args.search.now.sought.now c.args.space.now.table.shared.key c.args.search.now.budget
     c.go_further.new.account.spent c.in-Ended.snapped c.args.pass.now.seat.me c.loop-pass.pass.seat.me c.go_further.new.pass.seat.me
-    c.loop-pass.invariant.pool c.in-Ended.ensures.further
+    c.loop-pass.invariant.pool
+    (more_turns c.args.account.now.spent c.loop-pass.account.spent c.args.pass.now.seat.me c.loop-pass.pass.seat.me c.loop-pass.invariant.goes.counted)
+    c.in-Ended.ensures.further
 
 pub returns-clause-goes : goal.returns-clause-goes
 returns-clause-goes g c = let e = c.give_up.ensures in let p = c.loop-pass.pass in let q = c.give_up.new.pass in let a = c.loop-pass.account.spent in

@@ -9,38 +9,38 @@ use Rattle.ca_range.specs.Gathering.{IsEnough, IsGathering}
 use Rattle.ca_range.specs.Looking.{HasAdded}
 use Rattle.ca_range.specs.Meeting.{AreMet}
 use Rattle.ca_range.proofs.Filled.{raised_met}
-use Rattle.ca_range.proofs.GoingOn.{ends_unspent, further_on, goes_steps, no_run_unspent, walked_raised}
+use Rattle.ca_range.proofs.GoingOn.{further_on, goes_steps, no_run_unspent, walked_raised}
 use Rattle.ca_range.proofs.NextGathered.{gathered_next}
-use Rattle.ca_range.proofs.OwnSteps.{goes_both, goes_reads, goes_then, met_reads, settled_ends, settled_on}
+use Rattle.ca_range.proofs.OwnSteps.{goes_both, goes_reads, goes_then, met_reads, settled_on}
 use Rattle.ca_range.proofs.Readied.{ready_reads, ready_still}
+use Rattle.ca_range.proofs.SnapshotSteps.{no_less, no_less_both, read_less}
 use Rattle.ca_range.proofs.Spends.{on_still}
 use Rattle.ca_range.proofs.Stepping.{steps_by_walk}
 use Rattle.ca_range.proofs.gathering.go_further.Goals as goal
 
-pub decide_run-requires-clause-ready : goal.decide_run-requires-clause-ready
-decide_run-requires-clause-ready g c = ready_reads c.args.space.now c.args.pass.now c.look.new.pass c.requires.ready c.look.ensures.frame
+pub decide_run-run-requires-clause-ready : goal.decide_run-run-requires-clause-ready
+decide_run-run-requires-clause-ready g c = ready_reads c.args.space.now c.args.pass.now c.look.new.pass c.requires.ready c.look.ensures.frame
 
-pub decide_run-requires-clause-number : goal.decide_run-requires-clause-number
-decide_run-requires-clause-number g c = c.look.ensures.frame.number ∙ (c.requires.number
+pub decide_run-run-requires-clause-number : goal.decide_run-run-requires-clause-number
+decide_run-run-requires-clause-number g c = c.look.ensures.frame.number ∙ (c.requires.number
     ∙ sym (ap (λ (x : MyTree). x.0.upper.number) c.look.ensures.frame.still))
 
-pub decide_run-requires-clause-leaf : goal.decide_run-requires-clause-leaf
-decide_run-requires-clause-leaf g c = let few = c.requires.tuned.allowed.most_leaf in let leaf = c.requires.tuned.leaf in omega arith
+pub decide_run-run-requires-clause-leaf : goal.decide_run-run-requires-clause-leaf
+decide_run-run-requires-clause-leaf g c = let few = c.requires.tuned.allowed.most_leaf in let leaf = c.requires.tuned.leaf in omega arith
 
-pub decide_run-requires-clause-enough : goal.decide_run-requires-clause-enough
-decide_run-requires-clause-enough g c = subst (λ (x : MyTree). IsEnough g.F.Fn c.args.search.now.sought.now c.args.space.now.table.shared.key x.0.upper
+pub decide_run-run-requires-clause-enough : goal.decide_run-run-requires-clause-enough
+decide_run-run-requires-clause-enough g c = subst (λ (x : MyTree). IsEnough g.F.Fn c.args.search.now.sought.now c.args.space.now.table.shared.key x.0.upper
     c.args.from c.in-Done.whole) (sym c.look.ensures.frame.still) (c.requires.gathering, (_, c.in-Done.ensures.looked))
 
 pub returns-in-Done : goal.returns-in-Done
-returns-in-Done g c = let p = c.args.pass.now in let q = c.look.new.pass in let r = c.decide_run.new.pass in let e = c.decide_run.ensures in
+returns-in-Done g c = let p = c.args.pass.now in let q = c.look.new.pass in let r = c.decide_run-run.new.pass in let e = c.decide_run-run.ensures in
     let z = c.args.space.now.table.shared.key in let sought = c.args.search.now.sought.now in record {
       goes = goes_then c.args.space.now c.args.account.now.spent p q r c.requires.ready c.look.ensures.frame e.frame e.steps e.still;
       met = subst (AreMet c.args.account.now.met.numbers)
           (sym (e.unfinished ∙ ap (λ (x : MyTree). x.0.upper.ranges.unfinished) c.look.ensures.frame.still)) c.requires.met;
-      further = settled_ends g.F.Fn sought z c.args.search.now.budget c.args.account.now.spent c.decide_run.result p.seat.me r.seat.me
-          (settled_on g.F.Fn sought z c.decide_run.result p.seat.me q.seat.me r.seat.me (met_reads c.args.space.now p q c.look.ensures.frame) e.ended);
+      further = settled_on g.F.Fn sought z c.decide_run-run.result p.seat.me q.seat.me r.seat.me (met_reads c.args.space.now p q c.look.ensures.frame) e.ended;
       quiet = e.quiet;
-      unspent = ends_unspent c.decide_run.result c.args.account.now.spent c.args.account.now.spent refl;
+      unspent = refl;
     }
 
 pub go_to-requires-clause-ready : goal.go_to-requires-clause-ready
@@ -86,6 +86,8 @@ returns-in-On g c = let few = c.requires.tuned.allowed.most_leaf in let leaf = c
       further = further_on g.F.Fn sought z (reach p.seat.me.0.upper) c.args.search.now.budget d c.go_to.result p.seat.me r.seat.me t.seat.me
           (met_both 0 0 0 0 p.seat.me q.seat.me r.seat.me (met_reads c.args.space.now p q c.look.ensures.frame)
           (raised_met q.seat.me r.seat.me r.seat.me.0.upper raised))
+          (no_less_both p.seat.me q.seat.me r.seat.me (read_less p.seat.me q.seat.me still)
+          (no_less q.seat.me r.seat.me (ap losses w.now) (ap (λ (x : MyTree). x.0.upper.turns) w.now)))
           (c.go_to.ensures.further (reach p.seat.me.0.upper) (let more : reach p.seat.me.0.upper < reach r.seat.me.0.upper = omega arith in more));
       quiet = c.go_to.ensures.quiet;
       unspent = no_run_unspent c.go_to.result a d c.go_to.ensures.no_run;

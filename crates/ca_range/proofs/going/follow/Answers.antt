@@ -1,9 +1,13 @@
-use Rattle.std.proofs.Common.{◌<◌, sym, ap, ◌∙◌, subst, arith}
+use Rattle.std.proofs.Common.{◌≡◌, ◌<◌, ◌≤◌, ℕ, List, true, false, inr, sym, ap, ◌∙◌, subst, arith}
 use Rattle.ca_base.specs.Putting.{first_note}
 use Rattle.ca_base.proofs.Counts.{met_both}
+use Rattle.ca_node.specs.Links.{IsIn}
+use Rattle.ca_node.specs.Row.{mark_number, IsMarkedBy}
 use Rattle.ca_node.specs.Told.{MyTree}
+use Rattle.ca_node.specs.TreeView.{Note, TreeView}
 use Rattle.ca_range.specs.Farther.{reach}
 use Rattle.ca_range.specs.Gathering.{IsGathering, IsMarking}
+use Rattle.ca_range.specs.Marked.{second_note}
 use Rattle.ca_range.proofs.Filled.{last_shown}
 use Rattle.ca_range.proofs.NextGathered.{gathered_so}
 use Rattle.ca_range.proofs.OwnSteps.{goes_reads, goes_then, met_reads}
@@ -19,7 +23,7 @@ returns-then-is_behind-clause-goes g c = λ spent. goes_reads c.args.space.now s
 
 pub returns-then-is_behind-clause-further : goal.returns-then-is_behind-clause-further
 returns-then-is_behind-clause-further g c = λ far budget spent less. let z = c.args.space.now.table.shared.key in let u = c.args.pass.now.seat.me.0.upper in
-    let b = c.is_behind.ensures.behind c.if-is_behind.true (first_note u.notes) (last_shown z u c.args.next c.requires.next.gone.at) in
+    let b = (c.is_behind.ensures.behind (first_note u.notes) (last_shown z u c.args.next c.requires.next.gone.at)).0 c.if-is_behind.true in
     let near = ap (λ (x : MyTree). reach x.0.upper) c.is_behind.ensures.frame.still in (
       subst (λ (x : MyTree). IsGathering g.F.Fn c.args.sought.now z x.0.upper (record c.args.from { left = c.args.next })) (sym c.is_behind.ensures.frame.still)
           (gathered_so g.F.Fn c.args.sought.now z u c.args.from c.args.next c.requires.next
@@ -48,4 +52,32 @@ returns-clause-unfinished g c = c.give_up.ensures.unfinished ∙ ap (λ (x : MyT
 
 pub returns-clause-further : goal.returns-clause-further
 returns-clause-further g c = λ far budget spent less. let p = c.args.pass.now in let q = c.is_behind.new.pass in
-    met_both 0 0 0 0 p.seat.me q.seat.me c.give_up.new.pass.seat.me (met_reads c.args.space.now p q c.is_behind.ensures.frame) c.give_up.ensures.met
+    let u = p.seat.me.0.upper in let v = c.give_up.new.pass.seat.me.0.upper in let k = c.requires.next in
+    let next = last_shown c.args.space.now.table.shared.key u c.args.next k.gone.at in
+    let notes = c.give_up.ensures.notes.0 ∙ ap (λ (x : MyTree). x.0.upper.notes) c.is_behind.ensures.frame.still in
+    let number = ap (λ (w : TreeView). w.number) c.give_up.ensures.steps.only ∙ ap (λ (x : MyTree). x.0.upper.number) c.is_behind.ensures.frame.still in
+    let mine = c.number.ensures ∙ c.requires.number in (
+      met_both 0 0 0 0 p.seat.me q.seat.me c.give_up.new.pass.seat.me (met_reads c.args.space.now p q c.is_behind.ensures.frame) c.give_up.ensures.met,
+      inr record {
+        left = second_note u.notes;
+        next = first_note u.notes;
+        number = c.args.from.own.number;
+        left_shown = subst (λ (ns : List Note). IsIn (second_note u.notes) ns) (sym notes) k.left_shown.noted;
+        next_shown = subst (λ (ns : List Note). IsIn (first_note u.notes) ns) (sym notes) next.noted;
+        left_marked = subst (λ (n : ℕ). IsMarkedBy (second_note u.notes).its n c.args.from.own.number) (sym number) k.left_marked;
+        key = k.key;
+        ends = k.ends;
+        has = k.has;
+        own = (
+          c.requires.own.0,
+          c.requires.own.1 ∙ sym number,
+          subst (λ (n : ℕ). n ≤ mark_number (first_note u.notes).its) k.left_marked.2
+              (c.requires.own.2 (second_note u.notes) k.left_shown.noted k.left_marked.0 k.left_marked.1),
+        );
+        apart = λ is. let no : false ≡ true = sym c.if-is_behind.false ∙ (c.is_behind.ensures.behind (first_note u.notes) next).1 (
+          (is.0.0, is.0.1 ∙ (number ∙ sym mine), is.0.2),
+          is.1 ∙ k.left_shown.here,
+          is.2 ∙ k.left_bound,
+        ) in cc;
+      },
+    )

@@ -8,6 +8,7 @@ use Rattle.ca_node.specs.TreeView.{Note, TreeView, Unfinished}
 use Rattle.ca_range.specs.Farther.{reach}
 use Rattle.ca_range.specs.Filling.{IsInUse}
 use Rattle.ca_range.specs.Gathering.{HasEnded, HasNoRun}
+use Rattle.ca_range.specs.Marked.{IsOwnLast}
 use Rattle.ca_range.specs.Meeting.{AreMet}
 use Rattle.ca_range.specs.declared.gathering.Further.TheVariants as further
 use Rattle.ca_range.specs.declared.sought.Snapped.{Snapped}
@@ -16,7 +17,7 @@ use Rattle.ca_range.proofs.GoingOn.{further_on, goes_steps, no_run_refused, no_r
 use Rattle.ca_range.proofs.NextGathered.{marking_on, next_on}
 use Rattle.ca_range.proofs.OwnSteps.{ended_on, goes_both, goes_over, number_on, ready_on}
 use Rattle.ca_range.proofs.Readied.{ready_after, ready_still}
-use Rattle.ca_range.proofs.SnapshotSteps.{gone_ends, ranges_by_steps}
+use Rattle.ca_range.proofs.SnapshotSteps.{gone_ends, more_turns, no_less, no_less_both, ranges_by_steps}
 use Rattle.ca_range.proofs.going.go_to.Goals as goal
 
 pub use_of-requires-clause-other : goal.use_of-requires-clause-other
@@ -53,23 +54,29 @@ returns-in-Free-clause-further g c = λ far less. let e = c.in-Free.ensures.used
     let same = far_same m.0.upper k.0.upper e.all in
     further_on g.F.Fn c.args.search.now.sought.now c.args.space.now.table.shared.key far c.args.search.now.budget c.mark_on.new.account.spent
     c.mark_on.result m k c.mark_on.new.pass.seat.me (raised_met m k k.0.upper e.raised)
+    (more_turns c.args.account.now.spent c.use_of.new.account.spent m k c.use_of.ensures.counted)
     (c.mark_on.ensures.further far (let more : far < reach k.0.upper = omega arith in more))
 
 pub follow-requires-clause-ready : goal.follow-requires-clause-ready
-follow-requires-clause-ready g c = ready_still c.args.space.now c.args.pass.now c.use_of.new.pass c.requires.ready c.in-Own.ensures.used.frame
-    c.in-Own.ensures.used.raised c.in-Own.ensures.used.steps
+follow-requires-clause-ready g c = ready_still c.args.space.now c.args.pass.now c.use_of.new.pass c.requires.ready c.in-Own.ensures.used.0.frame
+    c.in-Own.ensures.used.0.raised c.in-Own.ensures.used.0.steps
 
 pub follow-requires-clause-number : goal.follow-requires-clause-number
-follow-requires-clause-number g c = c.in-Own.ensures.used.frame.number
-    ∙ (c.requires.number ∙ sym (ap (λ (u : TreeView). u.number) c.in-Own.ensures.used.steps.only))
+follow-requires-clause-number g c = c.in-Own.ensures.used.0.frame.number
+    ∙ (c.requires.number ∙ sym (ap (λ (u : TreeView). u.number) c.in-Own.ensures.used.0.steps.only))
 
 pub follow-requires-clause-next : goal.follow-requires-clause-next
-follow-requires-clause-next g c = let e = c.in-Own.ensures.used in
+follow-requires-clause-next g c = let e = c.in-Own.ensures.used.0 in
     next_on g.F.Fn c.args.search.now.sought.now c.args.space.now.table.shared.key c.args.pass.now.seat.me.0.upper c.use_of.new.pass.seat.me.0.upper c.args.from
     c.args.next e.all (ap (λ (u : TreeView). u.ranges.own) e.steps.only) (ap (λ (u : TreeView). u.number) e.steps.only) e.borders e.steps.known c.requires.next
 
+pub follow-requires-clause-own : goal.follow-requires-clause-own
+follow-requires-clause-own g c = let u = c.args.pass.now.seat.me.0.upper in let v = c.use_of.new.pass.seat.me.0.upper in
+    subst (λ (ns : List Note). IsOwnLast v (first_note ns)) (sym c.in-Own.ensures.used.0.all.notes)
+    (c.in-Own.ensures.used.1 (first_note u.notes) (last_shown c.args.space.now.table.shared.key u c.args.next c.requires.next.gone.at))
+
 pub returns-in-Own-clause-goes : goal.returns-in-Own-clause-goes
-returns-in-Own-clause-goes g c = let e = c.in-Own.ensures.used in let p = c.args.pass.now in let q = c.use_of.new.pass in let r = c.follow.new.pass in
+returns-in-Own-clause-goes g c = let e = c.in-Own.ensures.used.0 in let p = c.args.pass.now in let q = c.use_of.new.pass in let r = c.follow.new.pass in
     let a = c.args.account.now.spent in let b = c.use_of.new.account.spent in
     goes_both c.args.space.now a b b p q r (goes_steps c.args.space.now a b p q c.requires.ready e.frame e.raised e.no_join e.steps c.use_of.ensures.counted)
     (c.follow.ensures.goes b)
@@ -78,10 +85,11 @@ pub returns-in-Own-clause-met : goal.returns-in-Own-clause-met
 returns-in-Own-clause-met g c = subst (AreMet c.use_of.new.account.met.numbers) (sym c.follow.ensures.unfinished) c.use_of.ensures.met
 
 pub returns-in-Own-clause-further : goal.returns-in-Own-clause-further
-returns-in-Own-clause-further g c = λ far less. let e = c.in-Own.ensures.used in let m = c.args.pass.now.seat.me in let k = c.use_of.new.pass.seat.me in
+returns-in-Own-clause-further g c = λ far less. let e = c.in-Own.ensures.used.0 in let m = c.args.pass.now.seat.me in let k = c.use_of.new.pass.seat.me in
     let same = far_same m.0.upper k.0.upper e.all in let spent = c.use_of.new.account.spent in
     further_on g.F.Fn c.args.search.now.sought.now c.args.space.now.table.shared.key far c.args.search.now.budget spent
     c.follow.result m k c.follow.new.pass.seat.me (raised_met m k k.0.upper e.raised)
+    (more_turns c.args.account.now.spent spent m k c.use_of.ensures.counted)
     (c.follow.ensures.further far c.args.search.now.budget spent (let more : far < reach k.0.upper = omega arith in more))
 
 pub give_up-requires-clause-ready : goal.give_up-requires-clause-ready
@@ -146,6 +154,8 @@ returns-in-Other-clause-further g c = λ far less. let m = c.args.pass.now.seat.
     let sought = c.args.search.now.sought.now in let spent = c.help_first.new.account.spent in
     ended_on g.F.Fn sought z c.args.search.now.budget spent c.help_first.result m l n
     (met_both 0 0 0 0 m k l (raised_met m k k.0.upper c.in-Other.ensures.used.0.raised) c.give_up.ensures.met)
+    (no_less_both m k l (more_turns c.args.account.now.spent c.use_of.new.account.spent m k c.use_of.ensures.counted)
+    (no_less k l c.give_up.ensures.still.0 c.give_up.ensures.still.1))
     (refused_ends g.F.Fn sought z c.args.search.now.budget spent c.help_first.result l n c.help_first.ensures.refused)
 
 pub returns-in-Other-clause-quiet : goal.returns-in-Other-clause-quiet
@@ -181,7 +191,8 @@ returns-in-Gone-clause-further g c = λ far less. let f = c.in-Gone.ensures.used
     let n = c.give_up-in-Gone.new.pass.seat.me in let z = c.args.space.now.table.shared.key in let sought = c.args.search.now.sought.now in
     let spent = c.use_of.new.account.spent in
     subst (λ (s : Snapped). HasEnded g.F.Fn sought z c.args.search.now.budget spent s m n) (sym c.after_help.ensures)
-    (gone_ends g.F.Fn sought z c.args.search.now.budget spent c.in-Gone.helped m k n f.gone f.counts c.give_up-in-Gone.ensures.met)
+    (gone_ends g.F.Fn sought z c.args.search.now.budget spent c.in-Gone.helped m k n f.gone f.counts c.give_up-in-Gone.ensures.met
+    (no_less k n c.give_up-in-Gone.ensures.still.0 c.give_up-in-Gone.ensures.still.1))
 
 pub returns-in-Other-clause-no_run : goal.returns-in-Other-clause-no_run
 returns-in-Other-clause-no_run g c = no_run_refused c.args.search.now.budget c.help_first.new.account.spent c.help_first.result

@@ -18,7 +18,7 @@ use Rattle.ca_range.proofs.GoingOn.{no_run_stopped, stays_pinned, stopped_ends, 
 use Rattle.ca_range.proofs.NextGathered.{gathered_on, is_next}
 use Rattle.ca_range.proofs.OwnSteps.{goes_both, goes_over, goes_reads, met_reads, number_on, ready_on}
 use Rattle.ca_range.proofs.Readied.{ready_reads}
-use Rattle.ca_range.proofs.SnapshotSteps.{ranges_by_steps}
+use Rattle.ca_range.proofs.SnapshotSteps.{no_less, ranges_by_steps, read_less}
 use Rattle.ca_range.proofs.Stepping.{steps_copied}
 use Rattle.ca_range.proofs.going.mark_on.Goals as goal
 
@@ -134,7 +134,8 @@ returns-in-Err-clause-further g c = λ far less. let p = c.args.pass.now in let 
     let s = c.give_up.new.pass in let z = c.args.space.now.table.shared.key in let sought = c.args.search.now.sought.now in
     subst (λ (x : Snapped). HasEnded g.F.Fn sought z c.args.search.now.budget c.mark_base.new.spent x p.seat.me s.seat.me) (sym c.refusal.ensures)
     (stopped_ends g.F.Fn sought z c.args.search.now.budget c.mark_base.new.spent c.in-Err.why p.seat.me q.seat.me r.seat.me s.seat.me
-    (met_reads c.args.space.now p q c.mark_for-mark.ensures.frame) c.in-Err.ensures.found c.give_up.ensures.met)
+    (met_reads c.args.space.now p q c.mark_for-mark.ensures.frame) c.in-Err.ensures.found c.give_up.ensures.met
+    (read_less p.seat.me q.seat.me c.mark_for-mark.ensures.frame.still) (no_less r.seat.me s.seat.me c.give_up.ensures.still.0 c.give_up.ensures.still.1))
 
 pub returns-in-Err-clause-no_run : goal.returns-in-Err-clause-no_run
 returns-in-Err-clause-no_run g c = subst (λ (s : Snapped). HasNoRun (further.Ended s)) (sym c.refusal.ensures) (no_run_stopped c.in-Err.why)

@@ -1,13 +1,22 @@
-use Rattle.std.proofs.Common.{sym, subst}
+use Rattle.std.proofs.Common.{◌≡◌, ◌<◌, inl, refl, sym, ap, subst, arith}
+use mathlib.Core.Option.{some}
+use Rattle.ca_base.specs.Counting.{HasMet, HasStoppedBy, losses}
 use Rattle.ca_base.specs.Putting.{first_note}
+use Rattle.ca_base.specs.declared.stop.Stop.{Stop}
 use Rattle.ca_model.specs.Edges.{bound_of}
-use Rattle.ca_node.specs.Told.{IsSettled}
+use Rattle.ca_node.specs.Told.{MyTree, IsSettled}
 use Rattle.ca_node.specs.TreeView.{TreeView}
-use Rattle.ca_range.specs.Looking.{IsFirst}
+use Rattle.ca_range.specs.Looking.{IsFirst, IsNotEnough}
 use Rattle.ca_range.proofs.NextNumbers.{numbered_first, taken_goes, taken_met, taken_spent, upper_taken}
 use Rattle.ca_range.proofs.OwnSteps.{ready_stays}
-use Rattle.ca_range.proofs.SnapshotSteps.{more_turns, snapped_after}
+use Rattle.ca_range.proofs.SnapshotSteps.{crossed_turns, more_turns, snapped_after}
+use Rattle.ca_rows.specs.Layout.{last_sequence}
 use Rattle.ca_range.proofs.opening.begin_range.Goals as goal
+
+pub returns-in_default-clause-snapped : goal.returns-in_default-clause-snapped
+returns-in_default-clause-snapped g c = let m = c.args.pass.now.seat.me in let sought = c.args.search.now.sought.now in
+    subst (λ (x : MyTree). HasMet 0 0 m x × (x.0.upper.ranges.sequence ≡ some last_sequence) × IsNotEnough g.F.Fn sought x.0.upper.last)
+    (sym c.in_default.ensures.numbered) ((omega arith, omega arith), refl, c.requires.needed)
 
 pub begin_with-requires-clause-first : goal.begin_with-requires-clause-first
 begin_with-requires-clause-first g c = let n = c.in-Some.ensures.numbered in let lo = bound_of c.args.search.now.sought.now.lo in
@@ -48,6 +57,17 @@ returns-in-Ok-clause-snapped g c = let n = c.in-Some.ensures.numbered in let m =
     (more_turns c.args.account.now.spent c.take_two.new.spent m k
     (taken_spent c.args.space.now c.args.pass.now c.next_number.new.pass c.take_two.new.pass n.0 c.next_number.ensures.frame n.1 c.take_two.ensures.frame
     c.args.account.now.spent c.take_two.new.spent c.take_two.ensures.counted)) c.begin_with.ensures.snapped
+
+pub returns-in-Err-Lost-clause-snapped : goal.returns-in-Err-Lost-clause-snapped
+returns-in-Err-Lost-clause-snapped g c = let n = c.in-Some.ensures.numbered in let m = c.args.pass.now.seat.me in let k = c.take_two.new.pass.seat.me in
+    let f = subst (λ (s : Stop). HasStoppedBy s c.next_number.new.pass.seat.me k) c.in-Err-Lost.field-0-is c.in-Err-Lost.ensures.found in
+    let before = ap losses n.1 in let more = f.0 in let lost : losses m < losses k = omega arith in (
+      taken_met c.args.space.now c.args.pass.now c.next_number.new.pass c.take_two.new.pass n.0 c.next_number.ensures.frame n.1 c.take_two.ensures.frame f.1,
+      crossed_turns m k (more_turns c.args.account.now.spent c.take_two.new.spent m k
+          (taken_spent c.args.space.now c.args.pass.now c.next_number.new.pass c.take_two.new.pass n.0 c.next_number.ensures.frame n.1
+          c.take_two.ensures.frame c.args.account.now.spent c.take_two.new.spent c.take_two.ensures.counted)) (inl lost),
+      inl (inl lost),
+    )
 
 pub returns-in-Err-Lost-clause-counted : goal.returns-in-Err-Lost-clause-counted
 returns-in-Err-Lost-clause-counted g c = let n = c.in-Some.ensures.numbered in

@@ -1,4 +1,5 @@
-use Rattle.std.proofs.Common.{◌≤◌, ◌<◌, ℕ, true, false, sym, refl, ap, ◌∙◌, subst, arith}
+use Rattle.std.proofs.Common.{◌≤◌, ◌<◌, ℕ, true, false, inl, sym, refl, ap, ◌∙◌, subst, arith}
+use Rattle.ca_base.specs.Counting.{losses}
 use Rattle.ca_base.specs.Putting.{first_note}
 use Rattle.ca_base.proofs.Counts.{met_both}
 use Rattle.ca_model.specs.Edges.{bound_of}
@@ -8,7 +9,7 @@ use Rattle.ca_range.specs.Looking.{IsFirst}
 use Rattle.ca_range.specs.Opening.{begun_at}
 use Rattle.ca_range.proofs.OwnFirst.{first_gathered, first_goes, first_ready, first_ready_now, lost_now, met_now, turns_now}
 use Rattle.ca_range.proofs.OwnSteps.{goes_both, snapped_by}
-use Rattle.ca_range.proofs.SnapshotSteps.{more_turns}
+use Rattle.ca_range.proofs.SnapshotSteps.{crossed_turns, more_turns, no_less, no_less_both}
 use Rattle.ca_range.proofs.opening.begin_with.Goals as goal
 
 pub put_first-requires-clause-ready : goal.put_first-requires-clause-ready
@@ -28,6 +29,22 @@ returns-then-not-put_first-clause-goes g c = first_goes c.args.space.now c.args.
     c.put_first.new.pass false c.args.rows (begun_at c.args.rows.own (bound_of c.args.search.now.sought.now.lo)) c.first_mark-mark.ensures.frame
     c.write_first.ensures.frame c.write_first.ensures.written.only c.open_own.ensures.frame c.open_own.ensures.opened c.put_first.ensures.frame
     c.if-not-put_first.ensures.done c.args.account.now.spent c.put_first.new.spent c.put_first.ensures.counted
+
+pub returns-then-not-put_first-clause-snapped : goal.returns-then-not-put_first-clause-snapped
+returns-then-not-put_first-clause-snapped g c = let m = c.args.pass.now.seat.me in let k = c.open_own.new.pass.seat.me in let l = c.put_first.new.pass.seat.me in
+    let d = c.if-not-put_first.ensures.done in let begun = begun_at c.args.rows.own (bound_of c.args.search.now.sought.now.lo) in
+    let met = met_now c.args.space.now c.args.pass.now c.first_mark-mark.new.pass c.write_first.new.pass c.open_own.new.pass
+    c.put_first.new.pass false c.args.rows begun c.first_mark-mark.ensures.frame
+    c.write_first.ensures.frame c.write_first.ensures.written.only c.open_own.ensures.frame c.open_own.ensures.opened c.put_first.ensures.frame d in
+    let before = lost_now c.args.space.now c.args.pass.now c.first_mark-mark.new.pass c.write_first.new.pass c.open_own.new.pass
+    c.put_first.new.pass false c.args.rows begun c.first_mark-mark.ensures.frame
+    c.write_first.ensures.frame c.write_first.ensures.written.only c.open_own.ensures.frame c.open_own.ensures.opened c.put_first.ensures.frame d in
+    let turns = turns_now c.args.space.now c.args.pass.now c.first_mark-mark.new.pass c.write_first.new.pass c.open_own.new.pass
+    c.put_first.new.pass false c.args.rows begun c.first_mark-mark.ensures.frame
+    c.write_first.ensures.frame c.write_first.ensures.written.only c.open_own.ensures.frame c.open_own.ensures.opened c.put_first.ensures.frame d in
+    let less = no_less_both m k l (no_less m k before turns) (more_turns c.args.account.now.spent c.put_first.new.spent k l c.put_first.ensures.counted) in
+    let more = c.put_first.ensures.lost c.if-not-put_first.true in let lost : losses m < losses l = omega (arith, before, more) in
+    (met_both 0 0 0 0 m k l met c.put_first.ensures.met, crossed_turns m l less (inl lost), inl (inl lost))
 
 pub gather-requires-clause-ready : goal.gather-requires-clause-ready
 gather-requires-clause-ready g c = let o = c.requires.owner in
@@ -74,5 +91,5 @@ returns-clause-snapped g c = let m = c.args.pass.now.seat.me in let k = c.open_o
     let helped' = ap (λ (u : TreeView). u.turns.helped) d.2 in let passed' = ap (λ (u : TreeView). u.turns.passed) d.2 in
     let more = c.put_first.ensures.counted.lost.more in
     snapped_by g.F.Fn c.args.search.now.sought.now c.args.space.now.table.shared.key c.args.search.now.budget c.gather.new.account.spent c.gather.result m l n
-    (met_both 0 0 0 0 m k l met c.put_first.ensures.met) (omega arith)
+    (met_both 0 0 0 0 m k l met c.put_first.ensures.met) (record { lost = omega arith; helped = omega arith; passed = omega arith }) (omega arith)
     (more_turns c.put_first.new.spent c.gather.new.account.spent l n c.gather.ensures.goes.counted) c.gather.ensures.ended

@@ -1,7 +1,9 @@
-use Rattle.std.proofs.Common.{◌<◌, ℕ, true, sym, ap, ◌∙◌, subst, arith}
+use Rattle.std.proofs.Common.{◌<◌, ℕ, true, refl, sym, ap, ◌∙◌, subst, arith}
 use Rattle.ca_base.specs.Counting.{losses}
 use Rattle.ca_base.specs.Putting.{first_note}
 use Rattle.ca_base.proofs.Counts.{met_both}
+use Rattle.ca_node.specs.Endings.{over_up_to}
+use Rattle.ca_node.specs.OwnRanges.{IsKnownEnded}
 use Rattle.ca_node.specs.Told.{MyTree}
 use Rattle.ca_node.specs.TreeView.{Ranging, TreeView}
 use Rattle.ca_node.proofs.Tallies.{tallied_still}
@@ -61,6 +63,12 @@ take_run-requires-clause-sizes g c =
 pub take_run-requires-clause-known : goal.take_run-requires-clause-known
 take_run-requires-clause-known g c = (over_goes c.args.space.now c.args.pass.now c.decide_own.new.pass _ c.requires.ready c.decide_own.ensures.frame
     c.if-not-decide_own.ensures.done none_spent).steps.known c.requires.enough.0.known
+
+pub take_run-requires-clause-over : goal.take_run-requires-clause-over
+take_run-requires-clause-over g c = let k = c.requires.enough.0.between.marking in let u = c.args.pass.now.seat.me.0.upper in
+    let number = ap (λ (r : Ranging). (begun_of r).number) k.is ∙ k.number_is in
+    subst (λ (x : MyTree). IsKnownEnded x.0.upper c.args.from.now.own.number) (sym c.if-not-decide_own.ensures.done)
+    (over_up_to u.number (begun_of u.ranges.own).number, (0, refl), refl, omega arith)
 
 pub returns-then-not-decide_own : goal.returns-then-not-decide_own
 returns-then-not-decide_own g c = let p = c.args.pass.now in let q = c.decide_own.new.pass in let r = c.take_run.new.pass in let e = c.take_run.ensures in

@@ -1,4 +1,4 @@
-use Rattle.std.proofs.Common.{Option, List, false, sym, subst}
+use Rattle.std.proofs.Common.{Option, List, false, sym, ap, subst, ◌∙◌}
 use Rattle.ca_base.specs.Counting.{HasMet}
 use Rattle.ca_base.specs.Putting.{first_note}
 use Rattle.ca_model.specs.Edges.{bound_of}
@@ -7,16 +7,17 @@ use Rattle.ca_node.specs.TreeView.{Note}
 use Rattle.ca_range.specs.Attempts.{CountsJoin}
 use Rattle.ca_range.specs.Clearing.{HasGone}
 use Rattle.ca_range.specs.Filling.{IsUseOf}
-use Rattle.ca_range.specs.Looking.{IsFirst}
+use Rattle.ca_range.specs.Looking.{HasLooked, IsFirst, IsNotEnough}
 use Rattle.ca_range.specs.Snapping.{snapped_so}
 use Rattle.ca_range.specs.Snapshots.{HasRun, HasSnapped, IsInBudget}
 use Rattle.ca_range.specs.Using.{HasFoundOf}
 use Rattle.ca_range.specs.declared.account.Range.{Range}
+use Rattle.ca_range.specs.declared.looking.Looked.TheVariants as looked
 use Rattle.ca_range.specs.declared.sought.Snapped.{Snapped}
 use Rattle.ca_range.proofs.Filled.{last_shown, raised_met}
 use Rattle.ca_range.proofs.FirstBases.{first_still}
 use Rattle.ca_range.proofs.FirstRuns.{first_run}
-use Rattle.ca_range.proofs.SnapshotSteps.{budget_refused, budget_so, gone_snaps, met_on, more_turns, ranges_both, ranges_by_steps, refused_after, refused_so, snapped_after, spent_on, steps_on, walked_still}
+use Rattle.ca_range.proofs.SnapshotSteps.{budget_refused, budget_so, gone_snaps, met_on, more_turns, no_less_both, ranges_both, ranges_by_steps, refused_after, refused_so, snapped_after, spent_on, steps_on, walked_still}
 use Rattle.ca_range.proofs.Spends.{on_both}
 use Rattle.ca_range.proofs.snapping.snapshot.Goals as goal
 
@@ -49,12 +50,13 @@ returns-in-Ok-Some-clause-snapped g c = let z = c.args.space.now.table.shared.ke
     let k = c.walk_to_first-first.new.pass.seat.me in let l = c.look.new.pass.seat.me in let n = c.range_in_use.new.pass.seat.me in
     let e = c.walk_to_first-first.ensures in let still = c.look.ensures.frame.still in
     let last = c.help_first.new.pass.seat.me in let spent = c.help_first.new.account.spent in
-    refused_so g.F.Fn c.args.sought.now z c.args.budget spent c.help_first.result m last
-    (refused_after c.args.budget spent c.help_first.result m n last
-    (met_on z m k l n e.raised e.steps e.turns still c.in-Ok-Some.ensures.in_use.0.raised)
-    (more_turns c.args.account.now.spent c.range_in_use.new.account.spent m n
+    let less = more_turns c.args.account.now.spent c.range_in_use.new.account.spent m n
     (spent_on z m k l n e.raised e.steps e.turns still c.args.account.now.spent c.range_in_use.new.account.spent
-    c.range_in_use.ensures.counted)) c.help_first.ensures.refused)
+    c.range_in_use.ensures.counted) in
+    refused_so g.F.Fn c.args.sought.now z c.args.budget spent c.help_first.result m last
+    (no_less_both m n last less (more_turns c.range_in_use.new.account.spent spent n last c.help_first.ensures.counted))
+    (refused_after c.args.budget spent c.help_first.result m n last
+    (met_on z m k l n e.raised e.steps e.turns still c.in-Ok-Some.ensures.in_use.0.raised) less c.help_first.ensures.refused)
 
 pub begin_range-requires-clause-first : goal.begin_range-requires-clause-first
 begin_range-requires-clause-first g c = let z = c.args.space.now.table.shared.key in let e = c.walk_to_first-first.ensures in
@@ -72,6 +74,16 @@ begin_range-requires-clause-settled g c = let z = c.args.space.now.table.shared.
     c.in-Ok-None.field-0-is c.in-Ok-None.ensures.in_use in
     subst (λ (ns : List Note). IsSettled c.range_in_use.new.pass.seat.me.0.upper (first_note ns).its) (sym h.0.all.notes)
     (h.1 (first_note l.0.upper.notes) (last_shown z l.0.upper cursor first.gone.at))
+
+pub begin_range-requires-clause-needed : goal.begin_range-requires-clause-needed
+begin_range-requires-clause-needed g c = let e = c.walk_to_first-first.ensures in
+    let last = c.in-Ok-None.ensures.in_use.0.last ∙ ap (λ (x : MyTree). x.0.upper.last) c.look.ensures.frame.still in
+    subst (λ (n : Note). IsNotEnough g.F.Fn c.args.sought.now n) (sym last) record {
+      holds = e.holds;
+      counted = c.in-On.field-0;
+      key = c.look.new.key.items;
+      looked = subst (λ (n : Note). HasLooked g.F.Fn c.args.sought.now 0 (looked.On c.in-On.field-0) c.look.new.key.items n) (sym e.last) c.in-On.ensures.looked;
+    }
 
 pub returns-clause-steps : goal.returns-clause-steps
 returns-clause-steps g c = let z = c.args.space.now.table.shared.key in let m = c.args.pass.now.seat.me in

@@ -2,7 +2,7 @@ use Rattle.std.proofs.Common.{◌≡◌, true, false, sym, ap, ◌∙◌, subst}
 use Rattle.ca_node.specs.Told.{MyTree}
 use Rattle.ca_range.proofs.JoinsEnded.{none_still}
 use Rattle.ca_range.proofs.JoinsFinished.{finished_read}
-use Rattle.ca_range.proofs.Used.{found_free, found_over, found_used, only_watched}
+use Rattle.ca_range.proofs.Used.{found_free, found_over, found_own, found_used}
 use Rattle.ca_range.proofs.using.use_of.Goals as goal
 
 pub returns-in-Unmarked-clause-used : goal.returns-in-Unmarked-clause-used
@@ -29,8 +29,11 @@ returns-then-not-is_active-clause-used c = let w = c.watch-state.ensures.watched
 
 pub returns-then-range-number-clause-used : goal.returns-then-range-number-clause-used
 returns-then-range-number-clause-used c = let w = c.watch-state.ensures.watched in
-    only_watched c.args.space.now c.args.pass.now c.range_of.new.pass c.watch-state.new.pass c.range_of.ensures.frame c.in-Some.range w.0
-    c.watch-state.ensures.frame w.2
+    let on = (c.is_active.ensures w.0 w.1).0 c.if-not-is_active.false in
+    let is = sym c.requires.number ∙ sym (c.number.ensures ∙ (c.watch-state.ensures.frame.number ∙ c.range_of.ensures.frame.number)) in
+    found_own c.args.space.now c.args.pass.now c.range_of.new.pass c.watch-state.new.pass c.range_of.ensures.frame c.in-Some.range w.0
+    c.watch-state.ensures.frame w.2 c.args.cursor.base (λ note s. (c.in-Some.ensures.range note s).0) on
+    (c.if-range-number.true ∙ sym (ap (λ (x : MyTree). x.0.upper.number) c.range_of.ensures.frame.still ∙ is))
 
 pub returns-else-range-number-clause-used : goal.returns-else-range-number-clause-used
 returns-else-range-number-clause-used c = let w = c.watch-state.ensures.watched in let on = (c.is_active.ensures w.0 w.1).0 c.if-not-is_active.false in

@@ -45,8 +45,9 @@ count-requires-clause-readable c = let z = c.args.space.now.table.shared.key in 
 pub copy_key-requires-clause-shown : goal.copy_key-requires-clause-shown
 copy_key-requires-clause-shown c = let z = c.args.space.now.table.shared.key in let n = c.look_aside-cursor.new.pass.seat.me in
     let next = c.in-Some.next in
-    let bound = aside_bound z c.loop-cursor.route c.look_aside-cursor.result c.loop-cursor.pass.seat.me n c.look_aside-cursor.ensures.looked next c.in-Some.is in
-    let low = low_shown z n.0.upper next bound.0 bound.1 in
+    let bound = aside_bound z c.loop-cursor.route c.look_aside-cursor.result c.loop-cursor.pass.seat.me n c.look_aside-cursor.ensures.looked next c.in-Some.is
+    c.loop-cursor.invariant.may.end in
+    let low = low_shown z n.0.upper next bound.bound bound.low in
     (low.0, subst (λ (x : MyTree). IsKeyShown x.0.upper next low.0) (sym c.count.ensures.frame.still) low.1)
 
 pub returns-then-count-gt0-clause-looked : goal.returns-then-count-gt0-clause-looked
@@ -93,7 +94,7 @@ loop-cursor-preserved c = let z = c.args.space.now.table.shared.key in let m = c
     }
 
 pub look_aside-cursor-requires-clause-from : goal.look_aside-cursor-requires-clause-from
-look_aside-cursor-requires-clause-from c = (c.loop-cursor.invariant.may.bound, c.loop-cursor.invariant.may.low)
+look_aside-cursor-requires-clause-from c = c.loop-cursor.invariant.may.end
 
 pub returns-then-spent_in_all-budget-clause-gone : goal.returns-then-spent_in_all-budget-clause-gone
 returns-then-spent_in_all-budget-clause-gone c = gone_left c.args.space.now.table.shared.key c.loop-cursor.route c.look_aside-cursor.result

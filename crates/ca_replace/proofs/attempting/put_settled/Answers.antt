@@ -116,14 +116,9 @@ returns-then-not-has_room-clause-full c =
     λ deep. full_there c.args.tree.now.space.table.shared.key c.args.pass.now.seat.me.0.upper
     c.make_room.new.pass.seat.me.0.upper c.args.cursor (key_in c.args.insertion.now.keyed)
     c.args.insertion.now.place c.count-many.result
-    c.requires.looking (
-      c.make_room.ensures.same_seen.0
-          ∙ ap (λ (m : MyTree). m.0.upper.seen) c.count-many.ensures.frame.still,
-      c.make_room.ensures.same_seen.1
-          ∙ ap (λ (m : MyTree). m.0.upper.since) c.count-many.ensures.frame.still,
-      c.make_room.ensures.same_seen.2
-          ∙ ap (λ (m : MyTree). m.0.upper.last) c.count-many.ensures.frame.still,
-    )
+    c.requires.looking
+    (c.make_room.ensures.still (ap why_of deep)
+    ∙ ap (λ (m : MyTree). m.0.upper) c.count-many.ensures.frame.still)
     (subst (λ (m : MyTree).
     c.args.tree.now.space.table.shared.key.levels ≤ (first_note m.0.upper.notes).place.level)
     c.count-many.ensures.frame.still

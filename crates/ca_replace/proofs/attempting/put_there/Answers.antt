@@ -95,3 +95,6 @@ returns-in-Helped-clause-deep c = on_ok_too c.args.insertion.now.place
 pub returns-in-Helped-clause-no_split : goal.returns-in-Helped-clause-no_split
 returns-in-Helped-clause-no_split c = on_ok_too c.args.insertion.now.place
     (λ e. help_not_split c.in-Helped.helped (sym c.after_help.ensures.halt ∙ ap halt_of e))
+
+pub returns-in-Helped-clause-full : goal.returns-in-Helped-clause-full
+returns-in-Helped-clause-full c = λ e. absurd (help_not_deep c.in-Helped.helped (sym c.after_help.ensures.halt ∙ ap halt_of e))

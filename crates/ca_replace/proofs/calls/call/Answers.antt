@@ -11,7 +11,9 @@ use Rattle.ca_rows.specs.declared.sizes.Sizes.{Sizes}
 use Rattle.ca_rows.specs.declared.tally.Tally.{Tally}
 use Rattle.ca_replace.specs.Resting.{IsResting}
 use Rattle.ca_replace.proofs.Turns.{MySeat}
+use Rattle.ca_replace.proofs.Alone.{first_number, lone_cause}
 use Rattle.ca_replace.proofs.Growing.{done_grows, refused_grows}
+use Rattle.ca_replace.proofs.OneHand.{seen_still}
 use Rattle.ca_replace.proofs.Cutting.{refused_cuts}
 use Rattle.ca_replace.proofs.Winning.{refused_wins}
 use Rattle.ca_replace.proofs.calls.call.Goals as goal
@@ -29,6 +31,7 @@ returns-in-Ok-clause-told g c = let space = c.args.tree.now.space.table.shared i
     let turns = c.in-Ok.ensures.turns in record {
       same = record { table = refl; sizes = refl; tuning = refl; number = c.attempts.ensures.frame.number };
       caused = tt;
+      alone = λ one. tt;
       sparing = (
         c.attempts.ensures.few,
         c.attempts.ensures.frame.resting.few.ever,
@@ -71,6 +74,12 @@ returns-in-Err-clause-told g c = let space = c.args.tree.now.space.table.shared 
           last.kept.rows behind.kept.rows c.give_up.ensures.counted kept space.key pass.number
           c.args.order.now.budget adds c.in-Err.why c.outcome_by.result c.outcome_by.ensures
           c.in-Err.ensures.caused;
+      alone = λ one. let z = space.key in let behind = c.attempts.ensures.frame.resting in lone_cause z pass.number c.args.order.now.budget adds c.in-Err.why
+          c.outcome_by.result pass.seat.me last.seat.me pass.kept.rows last.kept.rows c.outcome_by.ensures
+          (first_number space.table_id z pass.number pass.tally pass.kept.rows pass.seat c.requires.resting one)
+          (alone space.table_id z last.number last.tally last.kept last.seat behind one)
+          (seen_still z pass.seat.me.0.upper last.seat.me.0.upper (here one) c.requires.resting.known behind.known c.in-Err.ensures.come)
+          (turns.grown (here one)) c.in-Err.ensures.caused;
       sparing = (
         few_still pass.seat.me last.seat.me behind.seat.me counts pass.kept.rows last.kept.rows
             behind.kept.rows c.give_up.ensures.counted kept c.attempts.ensures.few,

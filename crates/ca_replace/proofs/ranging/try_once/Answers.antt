@@ -15,6 +15,9 @@ look-requires-clause-at_pin g c = let is = c.pin.ensures.pinned.3 in
 pub look-requires-clause-none_met : goal.look-requires-clause-none_met
 look-requires-clause-none_met g c = ap (λ (m : MyTree). m.0.upper.ranges.unfinished) c.pin.ensures.pinned.3
 
+pub look-requires-clause-none_shown : goal.look-requires-clause-none_shown
+look-requires-clause-none_shown g c = ap (λ (m : MyTree). m.0.upper.notes) c.pin.ensures.pinned.3
+
 pub returns-in-Ok-clause-works : goal.returns-in-Ok-clause-works
 returns-in-Ok-clause-works g c = let told = c.in-Ok.ensures.tried in record {
   number = c.look.ensures.frame.number ∙ c.pin.ensures.frame.number;

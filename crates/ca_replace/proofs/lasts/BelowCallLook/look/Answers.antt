@@ -1,10 +1,11 @@
-use Rattle.std.proofs.Common.{◌≡◌, ◌∙◌, Bool, None, Option, Some, ap, false, refl, subst, sym, true, ℕ}
+use Rattle.std.proofs.Common.{◌≡◌, ◌∙◌, ◌∷◌, Bool, List, None, Option, Some, ap, false, refl, subst, sym, true, ℕ}
 use Rattle.std.specs.Prelude.{cond, map}
 use Rattle.ca_base.specs.Putting.{first_note}
 use Rattle.ca_model.specs.Edges.{Included, Unbounded, bound_of, last_object, up_to}
 use Rattle.ca_node.specs.Row.{pair}
 use Rattle.ca_node.specs.States.{IsReadSince}
 use Rattle.ca_node.specs.Told.{IsKnown, MyTree}
+use Rattle.ca_node.specs.TreeView.{Note}
 use Rattle.ca_node.specs.Walking.{IsLowRoute}
 use Rattle.ca_base.specs.Progress.{IsFurther}
 use Rattle.ca_replace.specs.Attempting.{IsPaid}
@@ -12,7 +13,7 @@ use Rattle.ca_replace.specs.Within.{HasLearnt, below_event, spot_at}
 use Rattle.ca_replace.proofs.Counted.{paid_both, paid_entered}
 use Rattle.ca_replace.proofs.Ends.{learnt_both, walked_last, walked_learnt}
 use Rattle.ca_replace.proofs.LastRuns.{last_read}
-use Rattle.ca_replace.proofs.LooksLeft.{keeps_both, left_behind, left_learnt, left_stays}
+use Rattle.ca_replace.proofs.LooksLeft.{keeps_both, left_behind, left_end, left_learnt, left_stays}
 use Rattle.ca_replace.proofs.Ready.{stays_both, stays_then_read}
 use Rattle.ca_replace.proofs.Runs.{finds_below, last_inside, learnt_done, learnt_unanswered, ready_entered}
 use Rattle.ca_replace.proofs.lasts.BelowCallLook.look.Goals.{else-bounded-via-then-bounded+else-not-found, else-bounded-via-else-bounded}
@@ -55,8 +56,9 @@ returns-in_default-clause-tried c = let z = c.args.tree.now.space.table.shared.k
 
 pub look_left-requires-clause-from : goal.look_left-requires-clause-from
 look_left-requires-clause-from c = let z = c.args.tree.now.space.table.shared.key in let u = c.look_near-near.new.pass.seat.me.0.upper in
-    let walk = c.look_near-near.ensures.walked in let low = walk.note.place.span.low in
-    (low, subst (λ (r : Option ℕ). IsLowRoute z u.ways r low) c.in-Some.is walk.cursor_is.low)
+    let walk = c.look_near-near.ensures.walked in
+    left_end z u c.in-Some.route walk.note (ap (λ (x : MyTree). x.0.upper.notes) walk.now ∙ ap (λ (ns : List Note). walk.note ∷ ns) c.requires.none_shown)
+    (subst (λ (r : Option ℕ). IsLowRoute z u.ways r walk.note.place.span.low) c.in-Some.is walk.cursor_is.low)
 
 pub returns-in_default-look_left-clause-tried : goal.returns-in_default-look_left-clause-tried
 returns-in_default-look_left-clause-tried c = let z = c.args.tree.now.space.table.shared.key in let m = c.args.pass.now.seat.me in

@@ -13,6 +13,7 @@ use Rattle.ca_replace.specs.Running.{left_of}
 use Rattle.ca_replace.specs.Seen.{store_of}
 use Rattle.ca_replace.specs.Causes.{IsSparing, IsUnspent}
 use Rattle.ca_replace.specs.TreePromises.{HasRead, OpensInBudget}
+use Rattle.ca_replace.proofs.Alone.{first_number, lone_read}
 use Rattle.ca_replace.proofs.Misses.{if_caused_by, if_not_done, if_refused_by}
 use Rattle.ca_replace.proofs.OpenStores.{knows_closed, of_both, rests_of}
 use Rattle.ca_replace.proofs.Opening.{opens}
@@ -59,6 +60,13 @@ returns-in-Err-clause-promised g c = let tree = c.self.inside.tree.now in let la
         unchanged = record { same = record { table = refl; sizes = refl; tuning = refl; number = done.rests.number }; last = refl };
         caused = if_caused_by (λ why. IsRangeCaused tree.space.table.shared.key pass.number c.args.budget why pass.seat.me
             pass.kept.rows new.seat.me new.kept.rows) c.in-Err.why c.outcome_by.result c.outcome_by.ensures done.caused;
+        alone = λ one. let z = tree.space.table.shared.key in let u = pass.seat.me.0.upper in
+            let closed : run_left u c.self.inside.run ≡ None = subst (λ (s : StoreAndRun). (knows s).run ≡ None) (sym c.self.view_is) c.requires.closed in
+            lone_read z pass.number c.args.budget c.outcome_by.result pass.seat.me new.seat.me pass.kept.rows new.kept.rows one
+            (first_number tree.space.table.shared.table_id z pass.number pass.tally pass.kept.rows pass.seat
+            (rests_of before c.self.inside.run c.self.invariant closed) one)
+            (if_caused_by (λ why. IsRangeCaused z pass.number c.args.budget why pass.seat.me pass.kept.rows new.seat.me new.kept.rows) c.in-Err.why
+            c.outcome_by.result c.outcome_by.ensures done.caused);
       },
       if_refused_by (λ _. IsSparing before behind) c.in-Err.why c.outcome_by.result c.outcome_by.ensures
           (done.few, done.rests.resting.few.ever, c.range.ensures.lags),
@@ -73,6 +81,7 @@ returns-in-Ok-clause-promised g c = let tree = c.self.inside.tree.now in let las
       record {
         unchanged = record { same = record { table = refl; sizes = refl; tuning = refl; number = done.works.number }; last = refl };
         caused = tt;
+        alone = λ one. tt;
       },
       tt,
       done.unspent,

@@ -1,0 +1,83 @@
+-- Why a call of a pass that is alone is refused.
+use Rattle.std.proofs.Common.{◌≡◌, ◌⊎◌, ℕ, ◌<◌, ◌≤◌, List, Vec, ap, sym, subst, refl, inl, inr, ⊎_elim, arith}
+use Rattle.std.specs.Global.{Global}
+use Rattle.std.specs.declared.option.Option.{Option}
+use Rattle.std.specs.declared.option.Option.TheVariants.{None as Nothing, Some as Just}
+use Rattle.atomic_table.specs.Seated.{TableId}
+use Rattle.ca_model.specs.declared.outcome.Cause.{Cause}
+use Rattle.ca_model.specs.declared.outcome.Cause.TheVariants as cause
+use Rattle.ca_model.specs.declared.outcome.Outcome.{Outcome}
+use Rattle.ca_model.specs.declared.outcome.Outcome.TheVariants as outcome
+use Rattle.ca_model.specs.History.{History}
+use Rattle.ca_node.specs.States.{IsAlone}
+use Rattle.ca_node.specs.Told.{MyTree}
+use Rattle.ca_node.specs.TreeView.{Inventory, TreeView}
+use Rattle.ca_replace.specs.Alone.{HadNoRoom, HasLoneCause, HasNoRoom}
+use Rattle.ca_replace.specs.Causes.{IfCaused, IsCaused, IsFullSince}
+use Rattle.ca_replace.specs.Growing.{HasWaited, HasRoomFor, IsSameTree, Grows}
+use Rattle.ca_replace.specs.Ranging.{IsRangeCaused}
+use Rattle.ca_replace.specs.Refusals.{outcome_by}
+use Rattle.ca_replace.specs.Resting.{IsResting}
+use Rattle.ca_replace.proofs.Turns.{MySeat}
+use Rattle.ca_rows.specs.declared.kept.Kept.{Kept}
+use Rattle.ca_rows.specs.declared.sizes.Sizes.{Sizes}
+use Rattle.ca_rows.specs.declared.tally.Tally.{Tally}
+use Rattle.ca_rows.specs.declared.view.Pin.{Pin}
+use Rattle.ca_rows.specs.Reclaiming.{IsLag}
+
+-- No other pass lags where there is none.
+never_lags : (passes number : ℕ) (lag : Option ℕ) (pin : Pin) → passes ≡ 1 → number ≡ 1 → IsLag passes number lag pin → lag ≡ Nothing
+never_lags passes number Nothing pin one first h = refl
+never_lags passes number (Just j) pin one first h = absurd (h.2 (omega (arith, h.0, h.1)))
+
+-- A pass that is alone has the first number.
+pub first_number : (table : TableId) (z : Sizes) (number : ℕ) (tally : Tally) (kept : Vec Kept Global) (seat : MySeat)
+    → IsResting table z number tally kept seat → z.passes ≡ 1 → number ≡ 1
+first_number table z number tally kept seat r one = let some = r.numbered.1 in let most = r.known.enrolled in omega (arith, one, r.same_number)
+
+-- A base that has no room at the last level was there before attempts that did not do the call, by which the pass learnt of nothing: where one of them split a
+-- base there would be room.
+was_deep : (z : Sizes) (adds : Option (List ℕ)) (u v : TreeView) → IsAlone z v → v.seen ≡ u.seen → IsFullSince z adds v → HasWaited z adds u v
+    → HadNoRoom z adds u
+was_deep z Nothing u v alone seen full waited = absurd full.0.2
+was_deep z (Just key) u v alone seen full waited = ⊎_elim
+    (λ (same : IsSameTree u v). subst (λ (x : History × Inventory). HasNoRoom z key x.0 x.1) (λ i. (seen i, same.1 i)) now)
+    (λ (t : Grows 1 2 1 u v × HasRoomFor z (Just key) v × ¬ HasRoomFor z (Just key) u).
+    let room = t.1 now.row now.place now.listed now.led in let full = now.full in absurd (omega arith))
+    waited
+  where
+    now : HasNoRoom z key v.seen v.inventory
+    now = let here = full.1 alone in record {
+      new = here.1.0;
+      row = v.last.row;
+      place = v.last.place;
+      listed = here.0.base;
+      led = here.1.1;
+      at_last = here.1.2;
+      full = here.1.3;
+    }
+
+-- So is a call that is refused behind its attempts.
+pub lone_cause : {T : Type 0} (z : Sizes) (number budget : ℕ) (adds : Option (List ℕ)) (why : Cause) (o : Outcome T) (m m' : MyTree)
+    (kept kept' : Vec Kept Global) → o ≡ outcome_by why → number ≡ 1 → IsAlone z m'.0.upper
+    → m'.0.upper.seen ≡ m.0.upper.seen → HasWaited z adds m.0.upper m'.0.upper → IsCaused z number budget adds why m kept m' kept'
+    → HasLoneCause z adds m.0.upper o
+lone_cause {T} z number budget adds why o m m' kept kept' is first alone seen waited h =
+    subst (λ (x : Outcome T). HasLoneCause z adds m.0.upper x) (sym is) (by why h)
+  where
+    by : (why : Cause) → IsCaused z number budget adds why m kept m' kept' → HasLoneCause {T = T} z adds m.0.upper (outcome_by why)
+    by (cause.Busy spent) h = tt
+    by (cause.Full full) h = let none = never_lags z.passes number full.lag m'.0.pin alone.0 first h.3 in
+        (⊎_elim (λ e. e) (λ some. absurd (some none)) h.1, none)
+    by (cause.Deep level) h = was_deep z adds m.0.upper m'.0.upper alone seen h.1 waited
+    by (cause.Worn counter) h = tt
+
+-- So is a read of what is within edges.
+pub lone_read : {T : Type 0} (z : Sizes) (number budget : ℕ) (o : Outcome T) (m m' : MyTree) (kept kept' : Vec Kept Global) → z.passes ≡ 1 → number ≡ 1
+    → IfCaused o (λ why. IsRangeCaused z number budget why m kept m' kept') → HasLoneCause z Nothing m.0.upper o
+lone_read z number budget (outcome.Done x) m m' kept kept' one first h = tt
+lone_read z number budget (outcome.Busy spent) m m' kept kept' one first h = tt
+lone_read z number budget (outcome.Full full) m m' kept kept' one first h =
+    let none = never_lags z.passes number full.lag m'.0.pin one first h.3 in (⊎_elim (λ e. e) (λ some. absurd (some none)) h.1, none)
+lone_read z number budget (outcome.Deep level) m m' kept kept' one first h = absurd h
+lone_read z number budget (outcome.Worn counter) m m' kept kept' one first h = tt
