@@ -1,2 +1,6 @@
+mod Found
+mod Looked
 mod Prepared
 mod SampleObjects
+mod Secured
+mod Stale

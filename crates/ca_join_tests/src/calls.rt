@@ -1,9 +1,10 @@
 //! Calls of a store on objects, by the numbers of their keys and values.
 ghost use Rattle.std.specs.Prelude.{◌≡◌, ◌≤◌, None};
+ghost use Rattle.ca_model.specs.Edges.{IsProperBound, bound_of};
 ghost use Rattle.ca_replace.specs.Resting.{knows};
 
 use crate::objects::{key_code, object};
-use ca_model::{Code, OrderedStore, Outcome};
+use ca_model::{Code, Edge, OrderedStore, Outcome};
 use ca_replace::TreeStore;
 
 /// Puts the object.
@@ -35,6 +36,23 @@ pub(crate) fn has(store: &mut TreeStore<'_>, key: u32, value: u32) -> bool
     let mut code = Code::new();
     store.get(&key_code(key), &mut code, 1) == Outcome::Done(true)
         && code.as_slice() == object(key, value).as_slice()
+}
+
+/// What a range comes to, whose run is closed again.
+pub(crate) fn range(
+    store: &mut TreeStore<'_>,
+    lo: Edge<'_>,
+    hi: Edge<'_>,
+    budget: u32,
+) -> Outcome<bool>
+    requires budget { 1 ≤ budget }
+    requires closed { (knows store.old).run ≡ None }
+    requires edges { IsProperBound (bound_of lo) × IsProperBound (bound_of hi) }
+    ensures closed { (knows store.new).run ≡ None }
+{
+    let outcome = store.range(lo, hi, 0, &|_object: &[u8]| true, budget);
+    store.close_run();
+    outcome
 }
 
 /// Whether objects of these keys were put, each by a call that may lose this many turns.

@@ -14,8 +14,8 @@ use std::fmt::Write;
 const DRAWING: &str =
     "        base 1\n    route 2\n        base 2 3                    base 1 2\nroute 4                         route 4\n        base 4 5                    base 4 6\n    route 6\n        base 6 7\n";
 
-// The bases to which the keys from 1 to 7 are led, and their levels.
-fn places(space: &TreeSpace, pass: &mut TreePass) -> [(u32, u16); 7]
+/// The bases to which the keys from 1 to 7 are led, and their levels.
+pub(crate) fn places(space: &TreeSpace, pass: &mut TreePass) -> [(u32, u16); 7]
     requires own { IsOf space.now.table.shared.table_id space.now.table.shared.key pass.old.seat }
     requires number { IsNumbered pass.old.number pass.old.seat.me.0.pin }
     requires unpinned { pass.old.seat.me.0.pin.pinned ≡ false }

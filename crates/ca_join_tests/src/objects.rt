@@ -7,6 +7,7 @@ ghost use Rattle.ca_join_tests.specs.Objects.{number_code};
 /// byte 10.
 pub(crate) fn object(key: u32, value: u32) -> [u8; 15]
     ensures pair { IsPair 1 (slice_range result 5 10, result) }
+    ensures key { slice_range result 5 10 ≡ number_code key }
 {
     let [_, high, middle, low] = key.to_be_bytes();
     let [_, x, y, z] = value.to_be_bytes();

@@ -18,7 +18,10 @@ pub(crate) const ZERO: Starts = Starts {
 pub(crate) type Few = (u8, u16, i32, i32);
 
 /// A tuning with these numbers.
-pub(crate) fn tuning_of((leaf, levels, lost, calm): Few) -> Tuning {
+pub(crate) fn tuning_of(few: Few) -> Tuning
+    ensures leaf { result.leaf ≡ few.0 }
+{
+    let (leaf, levels, lost, calm) = few;
     Tuning {
         leaf,
         levels,
@@ -39,6 +42,7 @@ pub(crate) fn tree_of(
     starts: Starts,
 ) -> Result<Tree, TreeFault>
     ensures keypos { IfOk result (λ tree. tree.space.sizes.keypos ≡ 1) }
+    ensures tuning { IfOk result (λ tree. tree.tuning ≡ tuning) }
 {
     Tree::new(alloc, rows, passes, 1, tuning, starts)
 }
