@@ -1,4 +1,4 @@
-"""Random command files of a few clients that meet at few keys, and runs of them by the one-thread model of table.py."""
+"""Random command files of a few clients that meet at few keys, what lines from a seed are made of, and runs by the one-thread model of table.py."""
 from runs import Line
 from table import Command
 
@@ -43,6 +43,17 @@ def files_of(chance, most_lines=60):
             lines.append(f"{name} {arguments(chance, name, keys, mark)}".strip())
         clients.append(lines)
     return clients
+
+
+def draws(seed, client, count):
+    """The draws of a client's lines from a seed: of each line its number, and which command, key and value it has."""
+    x = (seed + 1000 * (client - 1)) % 2**31
+    for line in range(1, count + 1):
+        drawn = []
+        for most in (8, 500, 1000):
+            x = (x * 1103515245 + 12345) % 2**31
+            drawn.append((x >> 16) % most)
+        yield line, *drawn
 
 
 def commands_of(texts):

@@ -2,7 +2,7 @@
 use crate::status::Status;
 use crate::top::run;
 use ca_client::{OpenGate, Rendezvous};
-use ca_outside::{SureDrawer, SureTape, Tape};
+use ca_outside::{Drawer, SureDrawer, SureTape, Tape};
 use std::alloc::{AllocError, Global};
 use std::test::Fail;
 
@@ -108,5 +108,74 @@ fn the_run_is_kept_where_the_output_fails(rt: HostRuntime) -> Result<(), Fail> {
         None => (0, 0),
     };
     assert_eq!(rt; kept, (1, 1));
+    Ok(())
+}
+
+const FIRST: &str = "insert {1,a}\nlookup 1\n";
+
+const FIRST_OUTPUT: &[u8] = b"client 1\n1 true\n2 [{1,a}]\ntable\n{1,a}.\nend 1\n";
+
+// The output takes one byte with each write, and so many writes are done.
+#[test]
+fn what_was_taken_is_the_beginning_whichever_write_fails(rt: HostRuntime) -> Result<(), Fail> {
+    let alloc = rt.alloc();
+    let words = words_of(alloc, ["run", "a"].as_slice())?;
+    assert_eq!(rt; FIRST_OUTPUT.len(), 45);
+    for taken in 0..=45_usize {
+        let mut shelf = SureDrawer::new(files_of(alloc, ["a"].as_slice(), FIRST)?);
+        let mut fails = Vec::new(alloc);
+        fails.push(taken as u64 + 1)?;
+        let mut sink = Tape::new(alloc, 100, 1, fails)?;
+        let mut ran = None;
+        let status = run(
+            &rt,
+            alloc,
+            words.as_slice(),
+            &mut shelf,
+            &mut sink,
+            &OpenGate,
+            &mut ran,
+        );
+        let wanted = match taken {
+            45 => Status::Done,
+            _ => Status::SinkFault,
+        };
+        assert_eq!(rt; status, wanted, "behind {taken}");
+        assert_eq!(rt;
+            Some(sink.taken()),
+            FIRST_OUTPUT.get(..taken),
+            "behind {taken}"
+        );
+        assert!(rt; ran.is_some());
+    }
+    Ok(())
+}
+
+#[test]
+fn the_first_file_that_cannot_be_read_is_named(rt: HostRuntime) -> Result<(), Fail> {
+    let alloc = rt.alloc();
+    let words = words_of(alloc, ["run", "a", "b", "c"].as_slice())?;
+    for file in 1..=3_u32 {
+        let files = files_of(alloc, ["a", "b", "c"].as_slice(), FIRST)?;
+        let mut fails = Vec::new(alloc);
+        fails.push(u64::from(file))?;
+        let mut shelf = Drawer::new(files, fails);
+        let mut sink = SureTape::new(alloc, 100)?;
+        let mut ran = None;
+        let status = run(
+            &rt,
+            alloc,
+            words.as_slice(),
+            &mut shelf,
+            &mut sink,
+            &OpenGate,
+            &mut ran,
+        );
+        assert_eq!(rt; status, Status::ShelfFault { file });
+        let mut wanted = String::new(alloc);
+        write!(wanted, "cannot read file {file}\n")?;
+        assert_eq!(rt; sink.taken(), wanted.as_bytes());
+        assert!(rt; ran.is_none());
+    }
     Ok(())
 }
