@@ -1,8 +1,8 @@
 //! Times calls by the clock. With no words it prints nothing; `point-calls` prints a line for each kind of call on a table of 10,000 objects over
 //! a plain store, `selections` a line for a match specification on 1,000 objects, and `walks` a line for each kind of walk, selection and batch on
 //! tables of three sizes, `choices` one for each share of objects that a selection chooses; `threads` prints a line for each mix of calls of clients
-//! on 1, 2 and 4 threads, on trees that are one leaf, `tree` the same on
-//! a tree that grows to many leaves, `tree,mixed,10000,4` the one of these lines that begins so, and `rows` how many objects fit into a tree. `bench/table.sh`, `bench/select.sh`, `bench/walks.sh`, `bench/choices.sh`,
+//! on 1, 2 and 4 threads, on trees that are one leaf, `tree` the same on a tree that grows to many leaves, `tree,mixed,10000,4` the one of these lines
+//! that begins so, and `rows` how many objects fit into a tree. `bench/table.sh`, `bench/select.sh`, `bench/walks.sh`, `bench/choices.sh`,
 //! `bench/threads.sh` and `bench/tree.sh` run it beside others that do the same.
 #![tactic(auto)]
 
