@@ -1,13 +1,13 @@
 -- An attempt that was begun behind a look at the sibling: what is known then, and that both bases may be marked for it.
 use Rattle.std.proofs.Common.{◌≡◌, ◌≢◌, ◌⊎◌, ℕ, suc, ◌+◌, ◌*◌, ◌/◌, ◌<◌, List, ◌∷◌, ◌++◌, Ok, Some, sym, refl, ap, ◌∙◌, subst, inl, inr, ⊎_elim, arith}
 use Rattle.ca_base.specs.Finding.{IsAtCursor, IsBaseShown}
-use Rattle.ca_node.specs.JoinSteps.{attempt_of, before, joins_begun, joins_loaded, with_own, HasLoadedJoin}
+use Rattle.ca_node.specs.JoinSteps.{attempt_of, before, beginning, joins_begun, joins_loaded, with_own, HasLoadedJoin}
 use Rattle.ca_node.specs.Links.{IsIn}
 use Rattle.ca_node.specs.Marks.{IsMark, IsOfJoin, IsOfRange}
 use Rattle.ca_node.specs.Place.{IsLinkOf}
 use Rattle.ca_node.specs.Row.{mark, mark_number, mark_owner, IsUnmarked}
 use Rattle.ca_node.specs.Told.{MyTree, IsSettled, IsUnjoined, IsUnranged, link_word}
-use Rattle.ca_node.specs.TreeView.{Joining, KnownJoins, Note, TreeView}
+use Rattle.ca_node.specs.TreeView.{Joining, KnownJoins, Note, TreeView, one_tried}
 use Rattle.ca_node.specs.declared.cursor.Cursor.{Cursor}
 use Rattle.ca_node.specs.declared.link.Link.{Link}
 use Rattle.ca_node.specs.declared.link.Link.TheVariants as on
@@ -64,9 +64,8 @@ module _ (z : Sizes) (cursor : Cursor) (fork : Fork) (note : Note) (row level : 
   joins = joins_begun (attempt_of x.route x.number) (joins_loaded fork.route b.2.0 m.0.upper.ranges.joins)
 
   -- What is known then.
-  pub begun_view : m'.0.upper ≡ with_own m.0.upper (Joining (attempt_of x.route x.number)) joins
-  begun_view = ap (λ (y : MyTree). y.0.upper) b.2.5 ∙ ap (λ (y : MyTree). with_own y.0.upper (Joining (attempt_of x.route x.number))
-      (joins_begun (attempt_of x.route x.number) y.0.upper.ranges.joins)) b.2.2.now
+  pub begun_view : m'.0.upper ≡ (record (with_own m.0.upper (Joining (attempt_of x.route x.number)) joins) { tries = one_tried m.0.upper.tries })
+  begun_view = ap (λ (y : MyTree). y.0.upper) b.2.5 ∙ ap (λ (y : MyTree). beginning (attempt_of x.route x.number) y.0.upper) b.2.2.now
 
   begun_in : IsIn (attempt_of x.route x.number) m'.0.upper.ranges.joins.begun
   begun_in = subst (λ (u : TreeView). IsIn (attempt_of x.route x.number) u.ranges.joins.begun) (sym begun_view) (0, refl)

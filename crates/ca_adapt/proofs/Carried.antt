@@ -1,5 +1,5 @@
 -- What an own attempt comes to by its marks, and by its end; and one that is left.
-use Rattle.std.proofs.Common.{◌≡◌, ℕ, ◌<◌, ◌≤◌, Bool, true, false, [], ◌∷◌, Result, Ok, Err, sym, ap, ◌∙◌, subst, inl, inr, ⊎_elim, arith}
+use Rattle.std.proofs.Common.{◌≡◌, ℕ, ◌+◌, ◌<◌, ◌≤◌, Bool, true, false, [], ◌∷◌, Result, Ok, Err, sym, ap, ◌∙◌, subst, inl, inr, ⊎_elim, arith}
 use Rattle.ca_base.proofs.Counts.{met_both}
 use Rattle.ca_base.specs.Counting.{losses, HasMet, HasStoppedBy}
 use Rattle.ca_base.specs.Taking.{AreHeld, lent_of}
@@ -9,7 +9,7 @@ use Rattle.ca_model.specs.declared.outcome.Spent.{Spent}
 use Rattle.ca_node.specs.JoinSteps.{attempt_of, joins_aborted, joins_too_late, leaving, own_too_late, HasLeftJoin}
 use Rattle.ca_node.specs.Links.{IsIn}
 use Rattle.ca_node.specs.Told.{MyTree}
-use Rattle.ca_node.specs.TreeView.{Attempt as Joins, Joining, KnownRanges, Quiet, TreeView}
+use Rattle.ca_node.specs.TreeView.{Attempt as Joins, Joining, KnownRanges, Quiet, TreeView, one_overtaken}
 use Rattle.ca_rows.specs.Passes.{KeepsList}
 use Rattle.ca_rows.specs.declared.kept.KeptRows.{KeptRows}
 use Rattle.ca_rows.specs.declared.sizes.Sizes.{Sizes}
@@ -37,6 +37,7 @@ module _ (x : Attempt) (m n l : MyTree) (marks : Marks 2 m.0.upper n.0.upper) wh
         helped = c.helped ∙ marks.helped;
         loads = c.loads ∙ ap (λ (u : TreeView). u.loads) marks.only;
         joins_are = omega arith;
+        tried = c.tried ∙ ap (λ (u : TreeView). u.tries.tried) marks.only;
       }
 
   pub concluded_by : HasMet 0 0 m n → losses n ≡ losses m → (r : Result (Unit {0}) Why) → HasConcluded x r n l → HasCarriedOut x r m l
@@ -48,6 +49,7 @@ module _ (x : Attempt) (m n l : MyTree) (marks : Marks 2 m.0.upper n.0.upper) wh
           counts 0 c.2,
           late.0 ∙ ap (λ (u : TreeView). attempt_of x.route x.number ∷ u.ranges.joins.decided) marks.only,
           late.1 ∙ ap (λ (u : TreeView). u.ranges.joins.begun) marks.only,
+          late.2 ∙ ap (λ (u : TreeView). u.tries.overtaken + 1) marks.only,
         ))) c.3,
   )
 
@@ -64,6 +66,7 @@ record LeavesCounts (m m' : MyTree) : Type 0 where
   loads : m'.0.upper.loads ≡ m.0.upper.loads
   joins : m'.0.upper.joins ≡ m.0.upper.joins
   begun : m'.0.upper.ranges.joins.begun ≡ m.0.upper.ranges.joins.begun
+  tried : m'.0.upper.tries.tried ≡ m.0.upper.tries.tried
 
 leaves_counts : (b : Bool) (x : Joins) (m m' : MyTree) → HasLeftJoin b x m m' → LeavesCounts m m'
 leaves_counts true x m m' e = let empty = ap (λ (y : MyTree). y.0.empty) e in let worn = ap (λ (y : MyTree). y.0.worn) e in record {
@@ -74,6 +77,7 @@ leaves_counts true x m m' e = let empty = ap (λ (y : MyTree). y.0.empty) e in l
   loads = ap (λ (y : MyTree). y.0.upper.loads) e;
   joins = ap (λ (y : MyTree). y.0.upper.joins) e;
   begun = ap (λ (y : MyTree). y.0.upper.ranges.joins.begun) e;
+  tried = ap (λ (y : MyTree). y.0.upper.tries.tried) e;
 }
 leaves_counts false x m m' e = let empty = ap (λ (y : MyTree). y.0.empty) e in let worn = ap (λ (y : MyTree). y.0.worn) e in record {
   lost = ap losses e;
@@ -83,6 +87,7 @@ leaves_counts false x m m' e = let empty = ap (λ (y : MyTree). y.0.empty) e in 
   loads = ap (λ (y : MyTree). y.0.upper.loads) e;
   joins = ap (λ (y : MyTree). y.0.upper.joins) e;
   begun = ap (λ (y : MyTree). y.0.upper.ranges.joins.begun) e;
+  tried = ap (λ (y : MyTree). y.0.upper.tries.tried) e;
 }
 
 pub left_pinned : {R : Type 0} (b : Bool) (x : Joins) (pass new : Pass R TreeView) → KeepsList pass new → HasLeftJoin b x pass.seat.me new.seat.me
@@ -105,9 +110,9 @@ left_own false x m m' e = ap (λ (y : MyTree). y.0.upper.ranges.own) e
 
 pub left_steps : (z : Sizes) (b : Bool) (x : Joins) (m m' : MyTree) → HasLeftJoin b x m m' → IsJoinSteps z m.0.upper m'.0.upper
 left_steps z true x m m' e = subst (λ (y : MyTree). IsJoinSteps z m.0.upper y.0.upper) (sym e)
-    (own_steps z m.0.upper Quiet (joins_aborted x m.0.upper.ranges.joins))
+    (own_steps z m.0.upper Quiet (joins_aborted x m.0.upper.ranges.joins) m.0.upper.tries)
 left_steps z false x m m' e = subst (λ (y : MyTree). IsJoinSteps z m.0.upper y.0.upper) (sym e)
-    (own_steps z m.0.upper Quiet (joins_too_late x m.0.upper.ranges.joins))
+    (own_steps z m.0.upper Quiet (joins_too_late x m.0.upper.ranges.joins) (one_overtaken m.0.upper.tries))
 
 pub left_lost : (b : Bool) (x : Joins) (m m' : MyTree) → HasLeftJoin b x m m' → losses m' ≡ losses m
 left_lost b x m m' e = (leaves_counts b x m m' e).lost
@@ -126,6 +131,7 @@ module _ (x : Attempt) (marks : ℕ) (k m m' : MyTree) (few : marks ≤ 2) (made
       helped = l.helped ∙ made.helped;
       loads = l.loads ∙ ap (λ (u : TreeView). u.loads) made.only;
       joins_are = omega arith;
+      tried = l.tried ∙ ap (λ (u : TreeView). u.tries.tried) made.only;
     };
     begun = l.begun ∙ ap (λ (u : TreeView). u.ranges.joins.begun) made.only;
   }

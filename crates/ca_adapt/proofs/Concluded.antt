@@ -4,7 +4,7 @@ use Rattle.ca_base.proofs.Counts.{met_both}
 use Rattle.ca_base.specs.Counting.{losses, HasMet}
 use Rattle.ca_node.specs.JoinSteps.{attempt_of, own_too_late, securing, with_own}
 use Rattle.ca_node.specs.Told.{MyTree, with_upper}
-use Rattle.ca_node.specs.TreeView.{KnownJoins, Ranging, Turns, TreeView}
+use Rattle.ca_node.specs.TreeView.{KnownJoins, Ranging, Tries, Turns, TreeView}
 use Rattle.ca_rows.specs.Told.{relinked}
 use Rattle.ca_rows.specs.declared.sizes.Sizes.{Sizes}
 use Rattle.ca_adapt.specs.Carrying.{HasConcluded, HasUnited}
@@ -13,9 +13,10 @@ use Rattle.ca_adapt.specs.declared.adapted.Why.TheVariants as why
 use Rattle.ca_adapt.specs.declared.joining.Attempt.{Attempt}
 use Rattle.ca_adapt.proofs.TrySteps.{no_steps}
 
--- Learning of joins, and of its own, is a step of a try.
-pub own_steps : (z : Sizes) (u : TreeView) (own : Ranging) (joins : KnownJoins) → IsJoinSteps z u (with_own u own joins)
-own_steps z u own joins = record {
+-- Learning of joins, and of its own, and to count tries, is a step of a try.
+pub own_steps : (z : Sizes) (u : TreeView) (own : Ranging) (joins : KnownJoins) (tries : Tries)
+    → IsJoinSteps z u (record (with_own u own joins) { tries = tries })
+own_steps z u own joins tries = record {
   only = refl;
   seen = (no_steps z u).seen;
   known = λ k. record { lawful = k.lawful; past = k.past; edits = k.edits; enrolled = k.enrolled; by_passes = k.by_passes };
@@ -35,8 +36,13 @@ module _ (x : Attempt) (m n l : MyTree) where
           helped = ap (λ (u : TreeView). u.turns.helped) view;
           loads = ap (λ (u : TreeView). u.loads) view;
           joins_are = omega arith;
+          tried = ap (λ (u : TreeView). u.tries.tried) view;
         },
-        inr (ap (λ (u : TreeView). u.ranges.joins.decided) view, ap (λ (u : TreeView). u.ranges.joins.begun) view),
+        inr (
+          ap (λ (u : TreeView). u.ranges.joins.decided) view,
+          ap (λ (u : TreeView). u.ranges.joins.begun) view,
+          ap (λ (u : TreeView). u.tries.overtaken) view,
+        ),
       )
 
   module _ (e : n ≡ relinked m m.0.claims (securing (attempt_of x.route x.number) m.0.upper)) where
@@ -55,6 +61,7 @@ module _ (x : Attempt) (m n l : MyTree) where
             helped = ap (λ (t : Turns). t.helped) h.0.turns ∙ ap (λ (y : MyTree). y.0.upper.turns.helped) e;
             loads = h.3 ∙ ap (λ (y : MyTree). y.0.upper.loads) e;
             joins_are = omega arith;
+            tried = ap (λ (t : Tries). t.tried) h.4 ∙ ap (λ (y : MyTree). y.0.upper.tries.tried) e;
           },
           h.0.forgotten,
           met_both 0 0 0 0 m n l met_so h.2,
@@ -72,6 +79,7 @@ module _ (x : Attempt) (m n l : MyTree) where
             helped = ap (λ (t : Turns). t.helped) h.0.turns ∙ ap (λ (y : MyTree). y.0.upper.turns.helped) e;
             loads = h.3 ∙ ap (λ (y : MyTree). y.0.upper.loads) e;
             joins_are = omega arith;
+            tried = ap (λ (t : Tries). t.tried) h.4 ∙ ap (λ (y : MyTree). y.0.upper.tries.tried) e;
           },
           inl (h.0.forgotten, subst (λ (k : ℕ). k < losses l) lost_so h.1),
         )

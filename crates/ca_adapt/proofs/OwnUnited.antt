@@ -50,6 +50,7 @@ module _ (z : Sizes) (new : ℕ) (x : Unlinking) where
       h.1 ∙ same,
       met,
       ap (λ (w : TreeView). w.loads) v,
+      ap (λ (w : TreeView). w.tries) v,
     )
     put_united counts same met false h = let v = h.0 ∙ ap (one_unlinking_lost x) upper in (
       record {
@@ -62,4 +63,5 @@ module _ (z : Sizes) (new : ℕ) (x : Unlinking) where
       subst (λ (k : ℕ). k < losses e) same h.1,
       met,
       ap (λ (w : TreeView). w.loads) v,
+      ap (λ (w : TreeView). w.tries) v,
     )

@@ -6,7 +6,7 @@ use Rattle.ca_base.specs.Taking.{AreHeld, lent_of}
 use Rattle.ca_node.specs.JoinSteps.{attempt_of, beginning, joins_begun, joins_loaded, with_joins, with_own}
 use Rattle.ca_node.specs.Links.{IsIn}
 use Rattle.ca_node.specs.Told.{MyTree}
-use Rattle.ca_node.specs.TreeView.{Joining, Note, Quiet, TreeView}
+use Rattle.ca_node.specs.TreeView.{Joining, Note, Quiet, TreeView, one_tried}
 use Rattle.ca_node.specs.declared.link.Link.{Link}
 use Rattle.ca_rows.specs.Calls.{IsNumbered}
 use Rattle.ca_rows.specs.Passes.{KeepsList, OnlyReads}
@@ -41,8 +41,8 @@ finds_shown z link note row m m' f = record {
 
 -- An attempt was begun.
 module _ (z : Sizes) (route : ℕ) (x : Attempt) (m m' : MyTree) (b : HasBegunAt route (Ok x) m m') where
-  view_is : m'.0.upper ≡ with_own m.0.upper (Joining (attempt_of x.route x.number))
-      (joins_begun (attempt_of x.route x.number) (joins_loaded route b.2.0 m.0.upper.ranges.joins))
+  view_is : m'.0.upper ≡ (record (with_own m.0.upper (Joining (attempt_of x.route x.number))
+      (joins_begun (attempt_of x.route x.number) (joins_loaded route b.2.0 m.0.upper.ranges.joins))) { tries = one_tried m.0.upper.tries })
   view_is = ap (λ (y : MyTree). y.0.upper) b.2.5
       ∙ ap (λ (y : MyTree). beginning (attempt_of x.route x.number) y.0.upper) b.2.2.now
 
@@ -66,7 +66,7 @@ module _ (z : Sizes) (route : ℕ) (x : Attempt) (m m' : MyTree) (b : HasBegunAt
 
   pub begun_steps : IsJoinSteps z m.0.upper m'.0.upper
   begun_steps = subst (λ (u : TreeView). IsJoinSteps z m.0.upper u) (sym view_is) (own_steps z m.0.upper (Joining (attempt_of x.route x.number))
-      (joins_begun (attempt_of x.route x.number) (joins_loaded route b.2.0 m.0.upper.ranges.joins)))
+      (joins_begun (attempt_of x.route x.number) (joins_loaded route b.2.0 m.0.upper.ranges.joins)) (one_tried m.0.upper.tries))
 
 module _ {R : Type 0} (space : Space R TreeView) (pass new : Pass R TreeView) (route : ℕ) (x : Attempt) (k : KeepsList pass new)
     (b : HasBegunAt route (Ok x) pass.seat.me new.seat.me) where

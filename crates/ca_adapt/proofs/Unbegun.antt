@@ -4,7 +4,7 @@ use Rattle.ca_base.specs.Counting.{HasMet}
 use Rattle.ca_base.specs.Taking.{AreHeld}
 use Rattle.ca_node.specs.JoinSteps.{joins_loaded, one_begin_lost, with_joins}
 use Rattle.ca_node.specs.Told.{MyTree, with_upper}
-use Rattle.ca_node.specs.TreeView.{KnownJoins, TreeView}
+use Rattle.ca_node.specs.TreeView.{KnownJoins, Tries, TreeView, one_tried}
 use Rattle.ca_rows.specs.Passes.{KeepsList}
 use Rattle.ca_rows.specs.declared.sizes.Sizes.{Sizes}
 use Rattle.ca_rows.specs.declared.space.Pass.{Pass}
@@ -17,11 +17,12 @@ use Rattle.ca_adapt.proofs.JoinHeld.{raised_held}
 use Rattle.ca_adapt.proofs.Readied.{pinned_keeps}
 use Rattle.ca_adapt.proofs.TrySteps.{no_steps}
 
--- What the seat knows of joins changed alone, and how many exchanges it lost.
+-- What the seat knows of joins changed alone, and how many exchanges it lost, and tries it made.
 pub record IsUnbegun (m m' : MyTree) : Type 0 where
   pub joins : KnownJoins
   pub lost : ℕ
-  pub now : m' ≡ with_upper m (record (with_joins m.0.upper joins) { lost = lost })
+  pub tries : Tries
+  pub now : m' ≡ with_upper m (record (with_joins m.0.upper joins) { lost = lost; tries = tries })
 
 pub unbegun : (route : ℕ) (w : Why) (m m' : MyTree) → HasBegunAt route (Err w) m m' → IsUnbegun m m'
 unbegun route why.Root m m' b = absurd b.3
@@ -29,14 +30,15 @@ unbegun route why.OneObject m m' b = absurd b.3
 unbegun route why.AtLevel m m' b = absurd b.3
 unbegun route why.SiblingRoute m m' b = absurd b.3
 unbegun route why.TooMany m m' b = absurd b.3
-unbegun route why.Taken m m' b = record { joins = joins_loaded route b.0 m.0.upper.ranges.joins; lost = m.0.upper.lost; now = b.3.1 ∙ b.2.now }
+unbegun route why.Taken m m' b = record { joins = joins_loaded route b.0 m.0.upper.ranges.joins; lost = m.0.upper.lost; tries = m.0.upper.tries; now = b.3.1 ∙ b.2.now }
 unbegun route why.Lost m m' b = record {
   joins = record (joins_loaded route b.0 m.0.upper.ranges.joins) { next = [] };
   lost = m.0.upper.lost + 1;
+  tries = one_tried m.0.upper.tries;
   now = b.3.2 ∙ ap (λ (x : MyTree). with_upper x (one_begin_lost x.0.upper)) b.2.now;
 }
 unbegun route why.NoRow m m' b = absurd b.3
-unbegun route why.Worn m m' b = record { joins = joins_loaded route b.0 m.0.upper.ranges.joins; lost = m.0.upper.lost; now = b.3.2 ∙ b.2.now }
+unbegun route why.Worn m m' b = record { joins = joins_loaded route b.0 m.0.upper.ranges.joins; lost = m.0.upper.lost; tries = m.0.upper.tries; now = b.3.2 ∙ b.2.now }
 
 module _ (m m' : MyTree) (b : IsUnbegun m m') where
   pub unbegun_met : HasMet 0 0 m m'
@@ -65,4 +67,4 @@ module _ {R : Type 0} (pass new : Pass R TreeView) (k : KeepsList pass new) (b :
 
   pub unbegun_held : (rows : ℕ) → AreHeld rows pass.kept.rows pass.seat.me.0 [] → AreHeld rows new.kept.rows new.seat.me.0 []
   unbegun_held rows h = raised_held rows pass.kept new.kept pass.seat.me new.seat.me []
-      (record (with_joins pass.seat.me.0.upper b.joins) { lost = b.lost }) k.kept refl (omega arith) h b.now
+      (record (with_joins pass.seat.me.0.upper b.joins) { lost = b.lost; tries = b.tries }) k.kept refl (omega arith) h b.now

@@ -76,10 +76,12 @@ pub record IsUniting (z : Sizes) (u : TreeView) (x : Uniting) (left right : Note
   pub right_base : IsMarkedHere z u x (row_words * x.attempt.route + 2) x.right right
   pub few : count left.its + count right.its ≤ z.leaf
 
--- The route was unlinked by the seat's exchange, or that was lost.
+-- The route was unlinked by the seat's exchange, or that was lost. No attempt was begun.
 abbrev pub HasUnited : Bool → MyTree → MyTree → Type 0
 HasUnited true m m' = HasWonJoin true m.0.upper m'.0.upper × (losses m' ≡ losses m) × HasMet 0 0 m m' × (m'.0.upper.loads ≡ m.0.upper.loads)
+    × (m'.0.upper.tries ≡ m.0.upper.tries)
 HasUnited false m m' = HasLostJoin m.0.upper m'.0.upper × (losses m < losses m') × HasMet 0 0 m m' × (m'.0.upper.loads ≡ m.0.upper.loads)
+    × (m'.0.upper.tries ≡ m.0.upper.tries)
 
 -- The attempt is the seat's own, and prepared by it: both copies were shown, on different links of the route, and are few enough for one.
 pub record IsSecurable (z : Sizes) (m : MyTree) (pair : Pair) (marked : Marked) (one other : Note) : Type 0 where
@@ -108,7 +110,7 @@ abbrev pub HasConcluded : Attempt → Result (Unit {0}) Why → MyTree → MyTre
 HasConcluded x (Ok done) m m' = HasMade 0 1 m m' × HasForgotten m'.0.upper × HasMet 0 0 m m' × (losses m' ≡ losses m)
 HasConcluded x (Err w) m m' = (w ≡ why.Lost) × HasMet 0 0 m m' × HasMade 0 0 m m' × ((HasForgotten m'.0.upper × (losses m < losses m'))
     ⊎ ((m'.0.upper.ranges.joins.decided ≡ attempt_of x.route x.number ∷ m.0.upper.ranges.joins.decided)
-    × (m'.0.upper.ranges.joins.begun ≡ m.0.upper.ranges.joins.begun)))
+    × (m'.0.upper.ranges.joins.begun ≡ m.0.upper.ranges.joins.begun) × (m'.0.upper.tries.overtaken ≡ m.0.upper.tries.overtaken + 1)))
 
 -- The route was unlinked; or the attempt was left, or came to nothing.
 abbrev pub HasCarriedOut : Attempt → Result (Unit {0}) Why → MyTree → MyTree → Type 0

@@ -49,8 +49,8 @@ abbrev pub IsForkAt : Sizes → TreeView → Link → Option Fork → Type 0
 IsForkAt z u link None = link ≡ on.Root
 IsForkAt z u link (Some fork) = (link ≢ on.Root) × (fork.route ≡ route_of link) × (fork.other ≡ other_link link) × IsHungBy z u fork.route fork.above
 
--- what a seat knows, with what another one has seen of the history, remembers of bases and routes, knows of ranges and joins, loaded, carried out, lost and
--- spent, and what the tree has by it
+-- what a seat knows, with what another one has seen of the history, remembers of bases and routes, knows of ranges and joins, loaded, carried out, lost, tried
+-- and spent, and what the tree has by it
 abbrev pub with_try_of : TreeView → TreeView → TreeView
 with_try_of u v = record u {
   seen = v.seen;
@@ -61,6 +61,7 @@ with_try_of u v = record u {
   joins = v.joins;
   lost = v.lost;
   turns = v.turns;
+  tries = v.tries;
   inventory = v.inventory;
 }
 
@@ -144,12 +145,14 @@ pub record FindsSibling (z : Sizes) (link : Link) (note : Note) (row : ℕ) (m m
   pub now : m' ≡ with_upper m (looked m.0.upper more look.sibling over borders unfinished turns)
   pub passed : turns.passed ≡ m.0.upper.turns.passed
 
--- For the attempt that was begun there so many bases were marked: each mark is a turn. So many joins were carried out.
+-- For the attempt that was begun there so many bases were marked: each mark is a turn. So many joins were carried out. No other attempt was begun, nor tried to
+-- be.
 pub record HasMade (marks joins : ℕ) (m m' : MyTree) : Type 0 where
   pub passed : m'.0.upper.turns.passed ≡ m.0.upper.turns.passed + marks
   pub helped : m'.0.upper.turns.helped ≡ m.0.upper.turns.helped
   pub loads : m'.0.upper.loads ≡ m.0.upper.loads
   pub joins_are : m'.0.upper.joins ≡ m.0.upper.joins + joins
+  pub tried : m'.0.upper.tries.tried ≡ m.0.upper.tries.tried
 
 -- It was given up behind two marks, or fewer, and no other one was begun.
 pub record HasLeft (m m' : MyTree) : Type 0 where
@@ -158,10 +161,11 @@ pub record HasLeft (m m' : MyTree) : Type 0 where
   pub counts : HasMade marks 0 m m'
   pub begun : m'.0.upper.ranges.joins.begun ≡ m.0.upper.ranges.joins.begun
 
--- Both bases were marked, and another pass had given the attempt up before it was secured: that is what the seat learnt last. No other one was begun.
+-- Both bases were marked, and another pass had given the attempt up before it was secured: that is what the seat learnt last, and it is counted. No other one
+-- was begun.
 abbrev pub IsOvertaken : Attempt → MyTree → MyTree → Type 0
 IsOvertaken x m m' = HasMade 2 0 m m' × (m'.0.upper.ranges.joins.decided ≡ attempt_of x.route x.number ∷ m.0.upper.ranges.joins.decided)
-    × (m'.0.upper.ranges.joins.begun ≡ m.0.upper.ranges.joins.begun)
+    × (m'.0.upper.ranges.joins.begun ≡ m.0.upper.ranges.joins.begun) × (m'.0.upper.tries.overtaken ≡ m.0.upper.tries.overtaken + 1)
 
 -- The attempt was secured, and another pass had unlinked the route before: that exchange was lost.
 abbrev pub IsUnlinkedBefore : MyTree → MyTree → Type 0

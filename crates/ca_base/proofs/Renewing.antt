@@ -103,6 +103,7 @@ module _ (z : Sizes) (kept : Vec Kept Global) (m : MyTree) (new : ℕ) (x : Upda
         same_splits = refl;
         same_joins = refl;
         same_turns = refl;
+        same_tries = refl;
         same_cuts = refl;
         same_lost = refl;
         same_loads = refl;

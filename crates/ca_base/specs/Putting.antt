@@ -139,6 +139,7 @@ renewal_of met u key old new = record {
   joins = u.joins;
   loads = u.loads;
   passed = u.turns.passed;
+  tries = u.tries;
   met = met;
 }
 
@@ -152,10 +153,11 @@ pub record IsRenewed (z : Sizes) (met : Met) (statistic : ℕ) (edit : Edit) (u 
   pub place : (first_note v.notes).place ≡ (first_note u.notes).place
   pub has : map pair (first_note v.notes).objects ≡ after_edit edit (map pair (first_note u.notes).objects)
   pub statistic_is : slice_index (first_note v.notes).its 1 ≡ statistic
-  -- No base was split, none was joined, no exchange of a link was lost, and no link was loaded.
+  -- No base was split, none was joined or tried to be, no exchange of a link was lost, and no link was loaded.
   pub same_splits : v.splits ≡ u.splits
   pub same_joins : v.joins ≡ u.joins
   pub same_turns : v.turns ≡ u.turns
+  pub same_tries : v.tries ≡ u.tries
   pub same_cuts : v.cuts ≡ u.cuts
   pub same_lost : v.lost ≡ u.lost
   pub same_loads : v.loads ≡ u.loads

@@ -277,7 +277,7 @@ module _ (z : Sizes) (s : State (Unit {0}) (View TreeView)) (r : R z s) (id : �
     late = too_late pass number me.0.upper
 
     pub late_step : R z record { words = set s.words i (get_or s.words i 0); homes = s.homes; views = set s.views id (record me.0 { upper = late }) }
-    late_step = let known = f.ranged.each id me.0.upper first in knows_ranges z s r i id me.0 at late.ranges late.turns
+    late_step = let known = f.ranged.each id me.0.upper first in knows_ranges z s r i id me.0 at late.ranges late.turns late.tries
         (knows_upper z s r id me.0 at).joining
         (λ row n. inl (noted_alike s.words me.0.upper late (λ x m. m) (λ x m. m) (λ x m. m) (λ x m. m) (λ x m. m) row n)) (λ _ _ l. l) record {
           over = λ x m. ⊎_elim (λ (e : over_up_to pass number ≡ x). subst (IsOver s.words) e

@@ -27,7 +27,7 @@ use Rattle.ca_node.specs.States.{IsAlone}
 use Rattle.ca_node.specs.LoneStays.{none_by_quiet}
 use Rattle.ca_node.specs.Shape.{Route}
 use Rattle.ca_node.specs.Told.{MyTree}
-use Rattle.ca_node.specs.TreeView.{Note, Way, Attempt, Finished, KnownJoins, Joining, TreeView}
+use Rattle.ca_node.specs.TreeView.{Note, Way, Attempt, Finished, KnownJoins, Joining, TreeView, one_tried}
 use Rattle.ca_node.proofs.JoinEnds.{is_route, same_joining}
 use Rattle.ca_node.proofs.JoinTurns.{begun_goes_on}
 use Rattle.ca_node.proofs.JoinWord.{join_else, join_here, child_stays, joining_then, join_step}
@@ -129,7 +129,7 @@ module _ (z : Sizes) (s : State (Unit {0}) (View TreeView)) (r : R z s) (id : â„
       views = set s.views id (relinked me me.0.claims (beginning x me.0.upper)).0;
     }
     begin_step = join_step z s r x.route place key spot (4 * x.number + 1) on id me.0 at
-        (joins_begun x me.0.upper.ranges.joins) me.0.upper.turns (max me.0.most (held_count me.0.claims)) begun_joined begun_joining
+        (joins_begun x me.0.upper.ranges.joins) me.0.upper.turns (one_tried me.0.upper.tries) (max me.0.most (held_count me.0.claims)) begun_joined begun_joining
         (Joining x) turn lone_then
         (Î» j v ne here few pass. absurd (no_other z r.made s.words r.above.role (map upper_of s.views) r.above.history r.above.each_seat id me.0.upper first
         k.is_pass j v ne here few pass))

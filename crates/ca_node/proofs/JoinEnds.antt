@@ -27,7 +27,7 @@ use Rattle.ca_node.specs.Shape.{Role, Route}
 use Rattle.ca_node.specs.States.{IsAlone}
 use Rattle.ca_node.specs.May.{MaySwap}
 use Rattle.ca_node.specs.Told.{MyTree}
-use Rattle.ca_node.specs.TreeView.{Note, Way, Attempt, Finished, Ranging, Quiet, Unmarked, Marking, Left, Joining, Secured, KnownJoins, Turns, TreeView, one_helped}
+use Rattle.ca_node.specs.TreeView.{Note, Way, Attempt, Finished, Ranging, Quiet, Unmarked, Marking, Left, Joining, Secured, KnownJoins, Turns, Tries, TreeView, one_helped, one_overtaken}
 use Rattle.ca_node.proofs.JoinTurns.{aborted_goes_on, secured_goes_on}
 use Rattle.ca_node.proofs.JoinWord.{join_else, join_here, child_stays, joining_then, join_step}
 use Rattle.ca_node.proofs.Lone.{no_other}
@@ -195,7 +195,7 @@ module _ (z : Sizes) (s : State (Unit {0}) (View TreeView)) (r : R z s) (id : �
       homes = s.homes;
       views = set s.views id (relinked me me.0.claims (aborted x me.0.upper)).0;
     }
-    abort_step is_pass other = join_step z s r x.route place key spot (4 * x.number) on id me.0 at (joins_aborted x u.ranges.joins) (one_helped u.turns)
+    abort_step is_pass other = join_step z s r x.route place key spot (4 * x.number) on id me.0 at (joins_aborted x u.ranges.joins) (one_helped u.turns) u.tries
         (max me.0.most (held_count me.0.claims)) joined_now joining_now u.ranges.own (inl refl)
         (λ few pass. lone_now other (r.above.lone id u first few pass)) (else_now is_pass)
 
@@ -218,7 +218,7 @@ module _ (z : Sizes) (s : State (Unit {0}) (View TreeView)) (r : R z s) (id : �
         homes = s.homes;
         views = set s.views id (relinked me me.0.claims (leaving x me.0.upper)).0;
       }
-      leave_step = join_step z s r x.route place key spot (4 * x.number) on id me.0 at (joins_aborted x u.ranges.joins) u.turns
+      leave_step = join_step z s r x.route place key spot (4 * x.number) on id me.0 at (joins_aborted x u.ranges.joins) u.turns u.tries
           (max me.0.most (held_count me.0.claims)) joined_now joining_now Quiet (own_turns u.ranges.own Quiet x own tt) lone_left
           (else_now is_pass)
 
@@ -297,7 +297,7 @@ module _ (z : Sizes) (s : State (Unit {0}) (View TreeView)) (r : R z s) (id : �
       homes = s.homes;
       views = set s.views id (relinked me me.0.claims (securing x me.0.upper)).0;
     }
-    secure_step = join_step z s r x.route place key spot_too (4 * x.number + 2) on_too id me.0 at (joins_secured x u.ranges.joins) u.turns
+    secure_step = join_step z s r x.route place key spot_too (4 * x.number + 2) on_too id me.0 at (joins_secured x u.ranges.joins) u.turns u.tries
         (max me.0.most (held_count me.0.claims)) joined_too
         (secured_more words'' u.notes u.ways u.ranges.joins x known there
         (joining_then z s r x.route place key spot_too (4 * x.number + 2) on_too id u first))
@@ -305,18 +305,18 @@ module _ (z : Sizes) (s : State (Unit {0}) (View TreeView)) (r : R z s) (id : �
         (λ j v ne here' few pass. absurd (no_other z r.made s.words r.above.role (map upper_of s.views) r.above.history r.above.each_seat id u first
         k.is_pass j v ne here' few pass))
 
-  -- It isn't prepared any more, and the seat learns that; these are its turns then, and its own operation is so far.
-  pub late_step : (turns : Turns) (own' : Ranging) → TurnsOwn me.0.upper.ranges.own own'
+  -- It isn't prepared any more, and the seat learns that; these are its turns and tries then, and its own operation is so far.
+  pub late_step : (turns : Turns) (tries : Tries) (own' : Ranging) → TurnsOwn me.0.upper.ranges.own own'
       → (r.made ≤ 1 → 0 < me.0.upper.number → IsLone s.words r.above.role me.0.upper.ranges.own me.0.upper.ways me.0.upper.ranges.joins.begun
       → IsLone s.words r.above.role own' me.0.upper.ways me.0.upper.ranges.joins.begun)
       → HasAttempt s.words x.route x.number → ¬ IsPrepared s.words x.route x.number → (i : ℕ) → R z record {
         words = set s.words i (get_or s.words i 0);
         homes = s.homes;
-        views = set s.views id (record me.0 { upper = record (with_own me.0.upper own' (joins_too_late x me.0.upper.ranges.joins)) { turns = turns } });
+        views = set s.views id (record me.0 { upper = record (with_own me.0.upper own' (joins_too_late x me.0.upper.ranges.joins)) { turns = turns; tries = tries } });
       }
-  late_step turns own' turn lone begun miss i = let u' : TreeView = record (with_own u own' (joins_too_late x u.ranges.joins)) { turns = turns } in
+  late_step turns tries own' turn lone begun miss i = let u' : TreeView = record (with_own u own' (joins_too_late x u.ranges.joins)) { turns = turns; tries = tries } in
       let ranging = r.above.ranged.each id u first in
-      knows_ranges z s r i id me.0 at u'.ranges u'.turns
+      knows_ranges z s r i id me.0 at u'.ranges u'.turns u'.tries
       (decided_more s.words u.notes u.ways u.ranges.joins x known begun miss known_joins)
       (λ row n. inl (noted_alike s.words u u' (λ y m. m) (λ y m. m) (λ y m. m)
       (λ c o. (o.0, o.1, (o.2.0, o.2.1, marking_back u.ranges.own own' turn o.2.0 o.2.1 o.2.2, o.2.3), o.3, o.4)) (λ y m. m) row n)) lone record {
@@ -334,7 +334,7 @@ module _ (z : Sizes) (s : State (Unit {0}) (View TreeView)) (r : R z s) (id : �
     homes = s.homes;
     views = set s.views id (record me.0 { upper = own_too_late x me.0.upper });
   }
-  own_late_step own begun miss i = late_step u.turns Quiet (own_turns u.ranges.own Quiet x own tt)
+  own_late_step own begun miss i = late_step u.turns (one_overtaken u.tries) Quiet (own_turns u.ranges.own Quiet x own tt)
       (λ few pass l. absurd (miss (l.still x own).1)) begun miss i
 
   -- Nobody else gives it up, where the pass is the only one.
@@ -368,7 +368,7 @@ module _ (z : Sizes) where
         tt,
         subst (λ (y : ℕ). R z (stepped s (row_words * x.route + 3) y id me.1 late keeps))
             (sym (ap (λ b. either b (4 * x.number) n) (ne_eqb n (4 * x.number + 1) miss)))
-            (late_step z s r id me at x k.remembered (one_helped me.0.upper.turns) me.0.upper.ranges.own (inl refl) (λ _ _ l. l)
+            (late_step z s r id me at x k.remembered (one_helped me.0.upper.turns) me.0.upper.tries me.0.upper.ranges.own (inl refl) (λ _ _ l. l)
             ((knows_upper z s r id me.0 at).joining.begun x k.begun).1 miss (row_words * x.route + 3)),
         ((λ hit. absurd (miss hit)), (λ _. refl), inr (inr (inr (inr (inr (inr (inl told)))))), told),
       ))

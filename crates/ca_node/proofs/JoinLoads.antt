@@ -109,7 +109,7 @@ module _ (z : Sizes) where
         record d { upper = u' },
         keeps,
         tt,
-        knows_ranges z s r word_at id d at u'.ranges d.upper.turns
+        knows_ranges z s r word_at id d at u'.ranges d.upper.turns d.upper.tries
             (joins_now s.words d.upper.notes d.upper.ways d.upper.ranges.joins route n same known k.joining)
             (λ row m. inl (noted_alike s.words d.upper u' (λ x i. i) (λ x i. i) (λ x i. i) (λ x i. i) (λ x i. i) row m))
             (λ few pass l. record {

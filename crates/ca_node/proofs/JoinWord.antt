@@ -41,7 +41,7 @@ use Rattle.ca_node.specs.Shape.{Role, Out, Base, Route, place_of, IsLink, LeadsT
 use Rattle.ca_node.specs.Standing.{IsSameButLinks, form_same, mark_stays, base_stands, route_stands}
 use Rattle.ca_node.specs.Stays.{row_same, map_same}
 use Rattle.ca_node.specs.Tree.{IsTrue, Knows, IsTree}
-use Rattle.ca_node.specs.TreeView.{Note, Way, Turns, KnownJoins, TreeView, Ranging}
+use Rattle.ca_node.specs.TreeView.{Note, Way, Turns, Tries, KnownJoins, TreeView, Ranging}
 use Rattle.ca_node.proofs.Looking.{R}
 
 module _ (z : Sizes) (s : State (Unit {0}) (View TreeView)) (r : R z s) (route : ℕ) (place : Place) (key : List ℕ)
@@ -340,8 +340,8 @@ module _ (z : Sizes) (s : State (Unit {0}) (View TreeView)) (r : R z s) (route :
       noted_before _ (by_shown note row i e) = by_shown note row i e
       noted_before _ (by_shown_item note row i b k) = by_shown_item note row i b k
 
-    -- A seat knows this of joins then, and counted these turns, and the rule holds again.
-    module _ (id : ℕ) (d : View TreeView) (at : get_elem? s.views id ≡ some d) (joining : KnownJoins) (turns : Turns) (most : ℕ)
+    -- A seat knows this of joins then, and counted these turns and tries, and the rule holds again.
+    module _ (id : ℕ) (d : View TreeView) (at : get_elem? s.views id ≡ some d) (joining : KnownJoins) (turns : Turns) (tries : Tries) (most : ℕ)
         (joined' : AreJoining z (set s.words (row_words * route + 3) word') r.above.role)
         (own : IsJoining (set s.words (row_words * route + 3) word') d.upper.notes d.upper.ways joining)
         (own' : Ranging) (turn : TurnsOwn d.upper.ranges.own own')
@@ -349,10 +349,10 @@ module _ (z : Sizes) (s : State (Unit {0}) (View TreeView)) (r : R z s) (route :
         (lone_else : (j : ℕ) (v : TreeView) → j ≢ id → get_elem? (map upper_of s.views) j ≡ some v → r.made ≤ 1 → 0 < v.number
         → IsLone (set s.words (row_words * route + 3) word') r.above.role v.ranges.own v.ways v.ranges.joins.begun) where
       abbrev u' : TreeView
-      u' = record d.upper { ranges = record d.upper.ranges { own = own'; joins = joining }; turns = turns }
+      u' = record d.upper { ranges = record d.upper.ranges { own = own'; joins = joining }; turns = turns; tries = tries }
 
       abbrev d' : View TreeView
-      d' = record d { upper = record d.upper { ranges = record d.upper.ranges { own = own'; joins = joining }; turns = turns }; most = most }
+      d' = record d { upper = record d.upper { ranges = record d.upper.ranges { own = own'; joins = joining }; turns = turns; tries = tries }; most = most }
 
       first : get_elem? (map upper_of s.views) id ≡ some d.upper
       first = at_map upper_of s.views id d at
@@ -428,7 +428,7 @@ module _ (z : Sizes) (s : State (Unit {0}) (View TreeView)) (r : R z s) (route :
       pub join_step : R z record {
         words = set s.words (row_words * route + 3) word';
         homes = s.homes;
-        views = set s.views id (record d { upper = record d.upper { ranges = record d.upper.ranges { own = own'; joins = joining }; turns = turns }; most = most });
+        views = set s.views id (record d { upper = record d.upper { ranges = record d.upper.ranges { own = own'; joins = joining }; turns = turns; tries = tries }; most = most });
       }
       join_step = relinks IsLinked IsLent IsNoted IsTree tree_lends z s r id d d' words' (λ _. Stays) record {
         at = at;

@@ -38,7 +38,7 @@ use Rattle.ca_node.specs.Notes.{IsBaseNote}
 use Rattle.ca_node.specs.Told.{MyTree, with_upper, IsRouteNote, IsKnown, IsMissed, IsKnownLink, IsPlaceOf, led_to_base, led_to_route, IsOfNote, IsShown, IsShownRoute, IsShownOfRange, IsRead, Reads, entered, ReadsLast, Refuses, IsRise, one_more_lost}
 use Rattle.ca_node.specs.States.{IsReadSince}
 use Rattle.ca_node.specs.Tree.{StartsWith, ArePast, IsLinkOfView, IsFixed, IsAlive, IsTrue, IsTrueWay, Knows, IsTree}
-use Rattle.ca_node.specs.TreeView.{Note, Way, Border, Inventory, KnownRanges, Turns, TreeView, no_note, one_passed}
+use Rattle.ca_node.specs.TreeView.{Note, Way, Border, Inventory, KnownRanges, Turns, Tries, TreeView, no_note, one_passed}
 use Rattle.ca_node.proofs.Logs.{state_stays, read_lawful, past_more}
 use Rattle.ca_rows.specs.Layout.{row_words}
 use Rattle.ca_node.specs.Layout.{root_word, sequence_unit}
@@ -96,14 +96,14 @@ module _ (z : Sizes) where
       → Knows z r.made s.words r.above.role (map upper_of s.views) r.above.history id d.upper
   knows_upper s r id d at = r.above.each_seat id d.upper (at_map upper_of s.views id d at)
 
--- A load, or an exchange that was lost, after which a seat knows more of ranges, and its turns are counted anew.
+-- A load, or an exchange that was lost, after which a seat knows more of ranges, and its turns and tries are counted anew.
 module _ (z : Sizes) (s : State (Unit {0}) (View TreeView)) (r : R z s) (i id : ℕ) (d : View TreeView)
-    (at : get_elem? s.views id ≡ some d) (ranges : KnownRanges) (turns : Turns) where
+    (at : get_elem? s.views id ≡ some d) (ranges : KnownRanges) (turns : Turns) (tries : Tries) where
   abbrev with_ranges : TreeView
-  with_ranges = record d.upper { ranges = ranges; turns = turns }
+  with_ranges = record d.upper { ranges = ranges; turns = turns; tries = tries }
 
   pub knows_ranges : IsJoining s.words d.upper.notes d.upper.ways ranges.joins
-      → ((row : ℕ) → IsNoted s.words (record d.upper { ranges = ranges; turns = turns }) row
+      → ((row : ℕ) → IsNoted s.words (record d.upper { ranges = ranges; turns = turns; tries = tries }) row
       → IsNoted s.words d.upper row ⊎ (IsLinked s.words row × (d.pin.pinned ≡ true)))
       → (r.made ≤ 1 → 0 < d.upper.number → IsLone s.words r.above.role d.upper.ranges.own d.upper.ways d.upper.ranges.joins.begun
       → IsLone s.words r.above.role ranges.own d.upper.ways ranges.joins.begun)
@@ -112,7 +112,7 @@ module _ (z : Sizes) (s : State (Unit {0}) (View TreeView)) (r : R z s) (i id : 
       → R z record {
         words = set s.words i (get_or s.words i 0);
         homes = s.homes;
-        views = set s.views id (record d { upper = record d.upper { ranges = ranges; turns = turns } });
+        views = set s.views id (record d { upper = record d.upper { ranges = ranges; turns = turns; tries = tries } });
       }
   knows_ranges joining notes lone ranging = let us : List TreeView = map upper_of s.views in
       let first = at_map upper_of s.views id d at in

@@ -201,7 +201,7 @@ module _ (z : Sizes) (s : State (Unit {0}) (View TreeView)) (r : R z s) (id : �
         views = set s.views id (record me.0 { upper = own_over begun.number me.0.upper });
       }
   lost_step k miss i = let known = f.ranged.each id me.0.upper first in let u' : TreeView = own_over begun.number me.0.upper in
-      knows_ranges z s r i id me.0 at u'.ranges me.0.upper.turns
+      knows_ranges z s r i id me.0 at u'.ranges me.0.upper.turns me.0.upper.tries
       (knows_upper z s r id me.0 at).joining
       (λ row n. inl (noted_alike s.words me.0.upper u' (λ x m. m) (λ x m. m) (λ x m. m) (λ x m. m) (λ x m. m) row n)) (λ _ _ l. l) record {
         over = λ x m. ⊎_elim (λ (e : over_up_to pass begun.number ≡ x). subst (IsOver s.words) e
@@ -256,7 +256,7 @@ module _ (z : Sizes) (s : State (Unit {0}) (View TreeView)) (r : R z s) (id : �
           views = set s.views id (record me.0 { upper = given_up begun.number me.0.upper });
         }
     given_step miss i = let known = f.ranged.each id me.0.upper first in let u' : TreeView = given_up begun.number me.0.upper in
-        knows_ranges z s r i id me.0 at u'.ranges me.0.upper.turns
+        knows_ranges z s r i id me.0 at u'.ranges me.0.upper.turns me.0.upper.tries
         (knows_upper z s r id me.0 at).joining
         (λ row n. inl (noted_alike s.words me.0.upper u' (λ x m. m) (λ x m. m) (λ x m. m)
         (λ c o. (let e : Quiet ≡ Marking o.2.0 o.2.1 = o.2.2 in absurd cc)) (λ x m. m) row n))

@@ -61,7 +61,7 @@ module _ (z : Sizes) (s : State (Unit {0}) (View TreeView)) (r : R z s) (id : 鈩
 
   -- The seat learns the number of its range.
   number_learnt : After (numbered_by n u)
-  number_learnt = let u' : TreeView = numbered_by n u in knows_ranges z s r word_at id me.0 at u'.ranges u.turns
+  number_learnt = let u' : TreeView = numbered_by n u in knows_ranges z s r word_at id me.0 at u'.ranges u.turns u.tries
       (knows_upper z s r id me.0 at).joining
       (位 row m. inl (noted_alike s.words u u' (位 x i. i) (位 x i. i) (位 x i. i) (位 x i. i) (位 x i. i) row m)) (位 _ _ l. l) record {
         over = known.over;

@@ -172,7 +172,7 @@ module _ (z : Sizes) where
         record d { upper = u' },
         keeps,
         tt,
-        knows_ranges z s r word_at id d at u'.ranges u'.turns mine.joining (λ row n. ⊎_elim (λ o. inl o) (λ l. inr (l, is_pinned))
+        knows_ranges z s r word_at id d at u'.ranges u'.turns u'.tries mine.joining (λ row n. ⊎_elim (λ o. inl o) (λ l. inr (l, is_pinned))
             (noted_more s.words d.upper u' (IsLinked s.words) (λ x m. m) (λ x m. m)
             (λ border i. ⊎_elim (λ o. inr (ends.1 border o).1) (λ o. inl o) (in_either ends.0 d.upper.ranges.borders border i))
             (λ x m. m) (λ x m. inl m) row n)) (λ _ _ l. l) record {

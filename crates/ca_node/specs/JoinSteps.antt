@@ -10,7 +10,7 @@ pub use Rattle.ca_node.specs.Lone.{attempt_of}
 use Rattle.ca_node.specs.Row.{IsBaseRow, count, IsMarkedFor}
 use Rattle.ca_node.specs.States.{IsAlone}
 use Rattle.ca_node.specs.Told.{MyTree, with_upper}
-use Rattle.ca_node.specs.TreeView.{Note, Attempt, Finished, Ranging, Quiet, Joining, Secured, KnownJoins, TreeView, one_helped}
+use Rattle.ca_node.specs.TreeView.{Note, Attempt, Finished, Ranging, Quiet, Joining, Secured, KnownJoins, TreeView, one_helped, one_overtaken, one_tried}
 use Rattle.ca_rows.specs.Layout.{row_words}
 
 -- the word that says how far the join of a route is, by its last attempt
@@ -101,13 +101,13 @@ pub record IsBeginning (m : MyTree) (x : Attempt) : Type 0 where
   pub remembered : IsRemembered m.0.upper.ways x.route
   pub next : IsNext x m.0.upper.ranges.joins
 
--- what a seat knows that began an attempt: it is its own
+-- what a seat knows that began an attempt: it is its own, and counted
 abbrev pub beginning : Attempt → TreeView → TreeView
-beginning x u = with_own u (Joining x) (joins_begun x u.ranges.joins)
+beginning x u = record (with_own u (Joining x) (joins_begun x u.ranges.joins)) { tries = one_tried u.tries }
 
--- what one knows that lost the exchange: it may begin none before it loads a join word again
+-- what one knows that lost the exchange, which counts as a try, too: it may begin none before it loads a join word again
 abbrev pub one_begin_lost : TreeView → TreeView
-one_begin_lost u = record (with_joins u (record u.ranges.joins { next = [] })) { lost = u.lost + 1 }
+one_begin_lost u = record (with_joins u (record u.ranges.joins { next = [] })) { lost = u.lost + 1; tries = one_tried u.tries }
 
 -- The join word was exchanged, from the attempt before finished to this one prepared; or the exchange was lost, which is counted, and the pass isn't the only one
 -- of the space.
@@ -172,12 +172,13 @@ abbrev pub HasAbortedJoin : Bool → Attempt → MyTree → MyTree → Type 0
 HasAbortedJoin true x m m' = m' ≡ relinked m m.0.claims (aborted x m.0.upper)
 HasAbortedJoin false x m m' = m' ≡ with_upper m (too_late x m.0.upper)
 
--- what a seat knows that secured its own attempt, and what one that came too late to do so, or to leave it: it is none of its own any more
+-- what a seat knows that secured its own attempt, and what one that came too late to do so, or to leave it: it is none of its own any more, and counts as one
+-- that another pass gave up
 abbrev pub securing : Attempt → TreeView → TreeView
 securing x u = with_own u (Secured x) (joins_secured x u.ranges.joins)
 
 abbrev pub own_too_late : Attempt → TreeView → TreeView
-own_too_late x u = with_own u Quiet (joins_too_late x u.ranges.joins)
+own_too_late x u = record (with_own u Quiet (joins_too_late x u.ranges.joins)) { tries = one_overtaken u.tries }
 
 -- The join word was exchanged, and the attempt is secured; or it wasn't prepared any more: another pass had given it up. Neither counts as help.
 abbrev pub SecuresJoin : Attempt → Step (Unit {0}) → MyTree → ℕ → MyTree → Type 0

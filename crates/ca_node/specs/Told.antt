@@ -349,6 +349,7 @@ renewed_by met u new x = record {
   joins = u.joins;
   loads = u.loads;
   passed = u.turns.passed;
+  tries = u.tries;
   met = met;
 }
 

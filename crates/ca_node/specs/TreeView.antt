@@ -24,9 +24,15 @@ pub record Way : Type 0 where
   pub its : List ℕ
   pub place : Place
 
+-- What a seat did to join bases: how often it exchanged a join word so that an attempt of its own begins, whether it won or lost that; and how many of its
+-- attempts it found to be given up by another pass.
+pub record Tries : Type 0 where
+  pub tried : ℕ
+  pub overtaken : ℕ
+
 -- An update that the seat carried out: how many it has carried out with this one, the key that it was about, the base that was there and the one
 -- that took its place; and how many exchanges of a link the seat had lost until then, how many splits and joins carried out, how many links loaded, how often it
--- had passed on to another place, and what it had met of the pool.
+-- had passed on to another place, what it had tried to join, and what it had met of the pool.
 pub record Renewal : Type 0 where
   pub count : ℕ
   pub key : List ℕ
@@ -37,6 +43,7 @@ pub record Renewal : Type 0 where
   pub joins : ℕ
   pub loads : ℕ
   pub passed : ℕ
+  pub tries : Tries
   pub met : Met
 
 -- A split: the base that it takes the place of, the route and the two new bases, with their words, and how many objects go left.
@@ -162,6 +169,8 @@ pub record TreeView : Type 0 where
   -- how many exchanges of a link it lost, and what else the budgets of its calls count
   pub lost : ℕ
   pub turns : Turns
+  -- which attempts to join it tried to begin, and what became of them by others
+  pub tries : Tries
   -- the base that a walk or an update came to last, whether it is pinned or not, how many links it had loaded as a walk came to a base last, and its
   -- last update
   pub last : Note
@@ -177,8 +186,11 @@ pub record TreeView : Type 0 where
 abbrev pub no_note : Note
 no_note = record { row = 0; its = []; objects = []; place = root_place }
 
+abbrev pub no_tries : Tries
+no_tries = record { tried = 0; overtaken = 0 }
+
 abbrev pub no_renewal : Renewal
-no_renewal = record { count = 0; key = []; old = no_note; new = no_note; lost = 0; splits = 0; joins = 0; loads = 0; passed = 0; met = nothing_met }
+no_renewal = record { count = 0; key = []; old = no_note; new = no_note; lost = 0; splits = 0; joins = 0; loads = 0; passed = 0; tries = no_tries; met = nothing_met }
 
 abbrev pub no_refusals : Counts
 no_refusals = record { busy = 0; full = 0; deep = 0; worn = 0; last = None }
@@ -200,6 +212,14 @@ one_passed turns = record turns { passed = turns.passed + 1 }
 abbrev pub one_helped : Turns → Turns
 one_helped turns = record turns { helped = turns.helped + 1 }
 
+-- one attempt more that a seat tried to begin
+abbrev pub one_tried : Tries → Tries
+one_tried tries = record tries { tried = tries.tried + 1 }
+
+-- one more that another pass gave up
+abbrev pub one_overtaken : Tries → Tries
+one_overtaken tries = record tries { overtaken = tries.overtaken + 1 }
+
 -- what the tree has at first: row 1, a base
 abbrev pub first_inventory : Inventory
 first_inventory = record { rows = 1 ∷ []; bases = (1, root_place) ∷ []; most = 1 }
@@ -220,6 +240,7 @@ blank number = record {
   joins = 0;
   lost = 0;
   turns = no_turns;
+  tries = no_tries;
   last = no_note;
   shown = 0;
   renewal = no_renewal;

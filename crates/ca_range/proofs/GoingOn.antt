@@ -1,5 +1,5 @@
 -- A pass's own range goes on: what is left of a pass behind each step.
-use Rattle.std.proofs.Common.{◌≡◌, ◌<◌, ℕ, Bool, List, inl, sym, refl, ap, ◌∙◌, subst}
+use Rattle.std.proofs.Common.{◌≡◌, ◌<◌, ℕ, Bool, List, inl, sym, refl, ap, ◌∙◌, subst, arith}
 use denote.Ref.{Bor}
 use denote.Param.Members.{Shared}
 use Rattle.ca_base.specs.Counting.{HasMet, HasStoppedBy}
@@ -22,7 +22,7 @@ use Rattle.ca_rows.specs.declared.sizes.Sizes.{Sizes}
 use Rattle.ca_rows.specs.declared.space.Pass.{Pass}
 use Rattle.ca_rows.specs.declared.space.Space.{Space}
 use Rattle.ca_range.specs.Filling.{turns_of}
-use Rattle.ca_range.specs.Gathering.{EndsUnspent, HasEnded, HasNoRun, IsFurther, IsMarking, refused_by}
+use Rattle.ca_range.specs.Gathering.{EndsUnspent, HasBegun, HasEnded, HasNoRun, IsFurther, IsMarking, refused_by}
 use Rattle.ca_range.specs.Snapping.{GoesOn, IsRefused, StaysPinned, snapped_so}
 use Rattle.ca_range.specs.Snapshots.{IsInBudget, OnlyRanges}
 use Rattle.ca_base.specs.Spending.{IsSpentOn}
@@ -38,7 +38,7 @@ use Rattle.ca_range.specs.declared.sought.Sought.{Sought}
 use Rattle.ca_range.proofs.NextGathered.{marking_on}
 use Rattle.ca_range.proofs.OwnSteps.{ended_on}
 use Rattle.ca_range.proofs.Readied.{ready_still}
-use Rattle.ca_range.proofs.SnapshotSteps.{IsNoLess, crossed_after, crossed_before, ranges_by_steps, ranges_none}
+use Rattle.ca_range.proofs.SnapshotSteps.{IsNoLess, crossed_after, crossed_before, ranges_by_steps, ranges_none, snapped_after}
 use Rattle.ca_range.proofs.Stepping.{steps_lost_by}
 
 module _ {R : Type 0} (space : Space R TreeView) where
@@ -122,6 +122,13 @@ in_budget snapped.NoRow budget a b room same = tt
 in_budget (snapped.Worn which) budget a b room same = tt
 
 module _ {F : Type 0} (g : Shared F (Bor (List ℕ) × Unit {0}) Bool) (sought : Sought F) where
+  -- A range began behind steps that met nothing of the pool.
+  pub begun_after : (z : Sizes) (budget : ℕ) (spent : Spent) (f : Further) (k m n : MyTree) → HasMet 0 0 k m → IsNoLess k m
+      → HasBegun g sought z budget spent f m n → HasBegun g sought z budget spent f k n
+  begun_after z budget spent (further.On first) k m n met less b = let passed = less.passed in let more = b.4 in
+      (b.0, b.1, b.2, met_both 0 0 0 0 k m n met b.3, omega arith)
+  begun_after z budget spent (further.Ended s) k m n met less b = snapped_after g sought z budget spent s k m n met less b
+
   pub stopped_ends : (z : Sizes) (budget : ℕ) (spent : Spent) (why : Stop) (k m n l : MyTree) → HasMet 0 0 k m → HasStoppedBy why m n → HasMet 0 0 n l
       → IsNoLess k m → IsNoLess n l → HasEnded g sought z budget spent (refused_by why) k l
   stopped_ends z budget spent (stop.Lost x) k m n l before s behind less less' = (

@@ -29,7 +29,7 @@ use Rattle.ca_rows.specs.declared.sizes.Sizes.{Sizes}
 use Rattle.ca_rows.specs.declared.view.Claim.{Claim}
 use Rattle.ca_rows.specs.declared.view.Claim.TheVariants.{Holds}
 use Rattle.ca_runs.specs.Runs.{BeginsBefore}
-use Rattle.ca_range.specs.Gathering.{IsGathering}
+use Rattle.ca_range.specs.Gathering.{HasBegun, IsGathering}
 use Rattle.ca_range.specs.Looking.{IsFirst}
 use Rattle.ca_range.specs.Marked.{copy_of}
 use Rattle.ca_range.specs.Opening.{HasPutFirst, HasWrittenFirst, IsFirstReady, begun_at}
@@ -37,6 +37,7 @@ use Rattle.ca_range.specs.Snapping.{GoesOn, StaysPinned}
 use Rattle.ca_range.specs.Snapshots.{OnlyRanges}
 use Rattle.ca_base.specs.Spending.{IsSpentOn}
 use Rattle.ca_range.specs.declared.copying.Mark.{Mark}
+use Rattle.ca_range.specs.declared.gathering.Further.TheVariants as further
 use Rattle.ca_range.specs.declared.opening.Rows.{Rows}
 use Rattle.ca_range.specs.declared.sought.Sought.{Sought}
 use Rattle.ca_range.proofs.Copied.{is_copy, is_note}
@@ -157,6 +158,20 @@ module _ (z : Sizes) (m1 m2 m3 : MyTree) (rows : Rows) (first : Cursor) (number 
         };
         known = known_same z m1.0.upper there refl refl refl f.known;
       }
+
+  -- So it begins.
+  pub first_begun : {F : Type 0} (g : Shared F (Bor (List ℕ) × Unit {0}) Bool) (sought : Sought F) (m4 : MyTree) (budget : ℕ) (spent : Spent)
+      (d : HasPutFirst true rows m3 m4)
+      → lo ≡ bound_of sought.lo → hi ≡ bound_of sought.hi → 0 < rows.copy → rows.copy ≤ z.rows → rows.own.border ≤ z.rows → 0 < number → number ≤ 64
+      → (m : MyTree) → HasMet 0 0 m m4 → m.0.upper.turns.passed < m4.0.upper.turns.passed
+      → HasBegun g sought z budget spent (further.On (record { own = rows.own; left = record first { base = rows.copy }; counted = 0 })) m m4
+  first_begun g sought m4 budget spent d low high some_row few_rows inside some_number few m met passed = (
+    first_gathered g sought m4 d low high some_row few_rows inside some_number few,
+    refl,
+    ap (λ (u : TreeView). mark_back (first_note u.notes).its) (put_there m4 d) ∙ (w.copy_spells.back_is ∙ back),
+    met,
+    passed,
+  )
 
 -- It was put in place, or the range was given up.
 put_steps : (z : Sizes) (won : Bool) (rows : Rows) (m m' : MyTree) → HasPutFirst won rows m m' → OnlyRanges z m.0.upper m'.0.upper

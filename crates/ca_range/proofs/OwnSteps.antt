@@ -1,5 +1,5 @@
 -- Steps on a pass's own range, one after another.
-use Rattle.std.proofs.Common.{◌≡◌, ℕ, ◌<◌, ◌≤◌, Bool, List, [], sym, refl, ap, ◌∙◌, subst, arith}
+use Rattle.std.proofs.Common.{◌≡◌, ℕ, ◌<◌, Bool, List, [], sym, refl, ap, ◌∙◌, subst, arith}
 use denote.Ref.{Bor}
 use denote.Param.Members.{Shared}
 use Rattle.ca_base.specs.Counting.{HasMet, losses}

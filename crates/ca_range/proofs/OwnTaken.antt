@@ -1,37 +1,25 @@
 -- A range of a pass's own was decided by another one: its run is taken.
-use Rattle.std.proofs.Common.{◌≡◌, ◌≢◌, ℕ, ◌+◌, ◌*◌, ◌/◌, ◌%◌, ◌<◌, ◌≤◌, ◌++◌, Bool, true, false, cond, eqb, List, [], ◌∷◌, Option, Some, None, sym, refl, ap, ◌∙◌, subst, ⊎_elim, arith, eq-eqb, ne_eqb}
+use Rattle.std.proofs.Common.{◌≡◌, ◌≢◌, ℕ, ◌+◌, ◌*◌, ◌/◌, ◌%◌, ◌<◌, ◌≤◌, ◌++◌, Bool, true, false, cond, eqb, List, ◌∷◌, sym, refl, ap, ◌∙◌, subst, ⊎_elim, arith, eq-eqb, ne_eqb}
 use denote.Ref.{Bor}
 use denote.Param.Members.{Shared}
 use mathlib.Core.Option.{some}
-use Rattle.ca_base.specs.Counting.{losses}
-use Rattle.ca_base.specs.Readiness.{IsReady}
-use Rattle.ca_base.specs.Taking.{AreHeld}
-use Rattle.ca_model.specs.declared.outcome.Spent.{Spent}
 use Rattle.ca_model.specs.Edges.{Bound, bound_of, is_up_to}
 use Rattle.ca_node.specs.Endings.{active_word, decided_word, over_up_to}
 use Rattle.ca_node.specs.Layout.{sequence_unit}
 use Rattle.ca_node.specs.OwnRanges.{HasFoundRun, IsFoundSo, IsKnownEnded, numbered_by}
 use Rattle.ca_node.specs.Told.{MyTree, IsKnown, status_of, with_upper}
-use Rattle.ca_node.specs.TreeView.{Begun, Border, Marking, TreeView}
+use Rattle.ca_node.specs.TreeView.{Begun, Border, Marking}
 use Rattle.ca_node.specs.declared.range_state.RangeState.{RangeState}
 use Rattle.ca_node.specs.declared.range_state.RangeState.TheVariants.{Idle, Active, Decided}
-use Rattle.ca_node.proofs.Tallies.{tallied_still}
 use Rattle.ca_rows.specs.Layout.{row_limit}
-use Rattle.ca_rows.specs.Passes.{KeepsList}
-use Rattle.ca_rows.specs.declared.kept.KeptRows.{KeptRows}
 use Rattle.ca_rows.specs.declared.sizes.Sizes.{Sizes}
-use Rattle.ca_rows.specs.declared.space.Pass.{Pass}
-use Rattle.ca_rows.specs.declared.space.Space.{Space}
-use Rattle.ca_range.specs.Gathering.{HasLoadedRun, IsBetween, IsMarking}
-use Rattle.ca_range.specs.Snapping.{GoesOn}
-use Rattle.ca_range.specs.Snapshots.{HasRun, OnlyRanges}
+use Rattle.ca_range.specs.Gathering.{HasLoadedRun, IsBetween}
+use Rattle.ca_range.specs.Snapshots.{HasRun}
 use Rattle.ca_range.specs.declared.own.Own.{Own}
 use Rattle.ca_range.specs.declared.sought.Sought.{Sought}
-use Rattle.ca_range.proofs.NextGathered.{marking_on}
 use Rattle.ca_range.proofs.OwnEnds.{HasEndedOwn, ended_own}
 use Rattle.ca_range.proofs.OwnRuns.{own_run}
-use Rattle.ca_range.proofs.OwnSteps.{goes_over}
-use Rattle.ca_range.proofs.Stepping.{known_same, none_more}
+use Rattle.ca_range.proofs.Stepping.{known_same}
 
 -- What a word tells that is that of a range that was decided.
 decided_is : (k last n : ℕ) → last < row_limit → n ≡ decided_word k last → status_of n ≡ Decided (n / sequence_unit) (n % row_limit)

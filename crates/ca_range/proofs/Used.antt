@@ -4,7 +4,7 @@ use Rattle.ca_base.specs.Finding.{IsBaseShown}
 use Rattle.ca_node.specs.Links.{IsIn}
 use Rattle.ca_node.specs.Row.{mark, IsMarkedBy}
 use Rattle.ca_node.specs.Told.{MyTree, IsSettled, HasWatched}
-use Rattle.ca_node.specs.TreeView.{Border, Note, Quiet, TreeView}
+use Rattle.ca_node.specs.TreeView.{Note, TreeView}
 use Rattle.ca_rows.specs.Passes.{KeepsList, OnlyReads}
 use Rattle.ca_rows.specs.declared.space.Pass.{Pass}
 use Rattle.ca_rows.specs.declared.space.Space.{Space}
@@ -12,7 +12,6 @@ use Rattle.ca_range.specs.Attempts.{HasFreed, LearnsOfJoins}
 use Rattle.ca_range.specs.Filling.{IsInUse}
 use Rattle.ca_range.specs.Marked.{IsOwnLast}
 use Rattle.ca_range.specs.Meeting.{active_of}
-use Rattle.ca_range.specs.Staying.{OnlySteps}
 use Rattle.ca_range.specs.Using.{HasFoundOf, OnlyLearns}
 use Rattle.ca_range.specs.declared.account.Range.{Range}
 use Rattle.ca_range.proofs.JoinsEnded.{joined_all, joined_borders, joined_none, joined_raised, joined_steps}

@@ -26,7 +26,7 @@ use Rattle.ca_range.specs.Farther.{reach}
 use Rattle.ca_range.specs.Filling.{turns_of}
 use Rattle.ca_range.specs.Looking.{HasLooked, IsGoneTo}
 use Rattle.ca_range.specs.Marked.{second_note}
-use Rattle.ca_range.specs.Snapshots.{HasRun, IsThwarted}
+use Rattle.ca_range.specs.Snapshots.{HasRun, HasSnapped, IsInBudget, IsThwarted}
 use Rattle.ca_range.specs.declared.gathering.Further.{Further}
 use Rattle.ca_range.specs.declared.gathering.Further.TheVariants as further
 use Rattle.ca_range.specs.declared.looking.Looked.TheVariants as looked
@@ -62,6 +62,11 @@ EndsUnspent (further.Ended snapped.Again) before now = Unit {0}
 EndsUnspent (further.Ended snapped.Busy) before now = Unit {0}
 EndsUnspent (further.Ended snapped.NoRow) before now = Unit {0}
 EndsUnspent (further.Ended (snapped.Worn which)) before now = Unit {0}
+
+-- Where it ended with a run, the budget wasn't spent.
+abbrev pub EndsInBudget : ℕ → Spent → Further → Type 0
+EndsInBudget budget spent (further.On next) = Unit {0}
+EndsInBudget budget spent (further.Ended snapped) = IsInBudget budget spent snapped
 
 -- It didn't end with a run.
 abbrev pub HasNoRun : Further → Type 0
@@ -136,6 +141,12 @@ module _ {F : Type 0} (g : Shared F (Bor (List ℕ) × Unit {0}) Bool) (sought :
   HasEnded z budget spent (snapped.Worn counter.PoolTag) m m' = HasMet 0 1 m m'
   HasEnded z budget spent (snapped.Worn counter.Epoch) m m' = ⊥
   HasEnded z budget spent (snapped.Worn counter.Sequence) m m' = ⊥
+
+  -- A range was begun, and marked the base that was shown last, which is its first one; or none was, and a snapshot comes to this.
+  abbrev pub HasBegun : Sizes → ℕ → Spent → Further → MyTree → MyTree → Type 0
+  HasBegun z budget spent (further.On first) m m' = IsGathering z m'.0.upper first × (first.counted ≡ 0) × (mark_back (first_note m'.0.upper.notes).its ≡ 0)
+      × HasMet 0 0 m m' × (m.0.upper.turns.passed < m'.0.upper.turns.passed)
+  HasBegun z budget spent (further.Ended snapped) m m' = HasSnapped g sought z budget spent snapped m m'
 
   -- The base that was shown last is the next one that the range marked, and goes farther than this; or the steps ended.
   abbrev pub IsFurther : Sizes → ℕ → ℕ → Spent → Further → MyTree → MyTree → Type 0

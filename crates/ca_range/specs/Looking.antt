@@ -14,6 +14,7 @@ use Rattle.ca_node.specs.TreeView.{Note, TreeView}
 use Rattle.ca_rows.specs.declared.sizes.Sizes.{Sizes}
 use Rattle.ca_runs.specs.Runs.{BeginsBefore}
 use Rattle.ca_range.specs.Ahead.{IsAtLast}
+use Rattle.ca_range.specs.Counted.{IsCountOf}
 use Rattle.ca_range.specs.Edged.{reaches_to}
 use Rattle.ca_range.specs.declared.looking.Looked.{Looked}
 use Rattle.ca_range.specs.declared.looking.Looked.TheVariants as looked
@@ -50,6 +51,10 @@ module _ {F : Type 0} (g : Shared F (Bor (List ℕ) × Unit {0}) Bool) (sought :
   abbrev pub HasAdded : ℕ → ℕ → Note → Type 0
   HasAdded counted now note = (more : ℕ) × (now ≡ counted + more) × HasCounted g sought.counts.now more (objects_from (bound_of sought.lo) note)
 
+  -- So many more are all that were counted.
+  abbrev pub HasCountedAll : ℕ → ℕ → Note → Type 0
+  HasCountedAll counted now note = (more : ℕ) × (now ≡ counted + more) × IsCountOf g sought.counts.now more (objects_from (bound_of sought.lo) note)
+
   -- The base has all keys up to the upper edge; or it hasn't, and as many objects were counted as are wanted; or neither, and it ends at this key.
   abbrev pub HasLooked : ℕ → Looked → List ℕ → Note → Type 0
   HasLooked counted (looked.Done true) key note = reaches_to (bound_of sought.hi) note.place.span.high ≡ true
@@ -57,7 +62,7 @@ module _ {F : Type 0} (g : Shared F (Bor (List ℕ) × Unit {0}) Bool) (sought :
       × (1 ≤ sought.want)
       × ((now : ℕ) × HasAdded counted now note × (sought.want ≤ now))
   HasLooked counted (looked.On now) key note = (note.place.span.high ≡ Excluded key) × HasAdded counted now note
-      × (reaches_to (bound_of sought.hi) note.place.span.high ≡ false) × (1 ≤ sought.want → now < sought.want)
+      × (reaches_to (bound_of sought.hi) note.place.span.high ≡ false) × (1 ≤ sought.want → (now < sought.want) × HasCountedAll counted now note)
 
   -- The base has the keys with which the lower edge begins, but not all up to the upper one, nor as many objects as are wanted: more bases are needed.
   pub record IsNotEnough (note : Note) : Type 0 where

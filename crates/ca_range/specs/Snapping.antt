@@ -1,5 +1,5 @@
 -- What stays of a pass through the steps of a snapshot, and what they come to.
-use Rattle.std.specs.Prelude.{◌≡◌, ℕ, ◌<◌, ◌≤◌, []}
+use Rattle.std.specs.Prelude.{◌≡◌, ℕ, ◌≤◌, []}
 use Rattle.ca_base.specs.Counting.{HasMet}
 use Rattle.ca_base.specs.Taking.{AreHeld}
 use Rattle.ca_model.specs.declared.outcome.Counter.TheVariants as counter

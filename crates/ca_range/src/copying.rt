@@ -1,5 +1,5 @@
 //! A copy of a base is written, with the mark of a range.
-ghost use Rattle.std.specs.Prelude.{◌≡◌, ◌≤◌, ℕ};
+ghost use Rattle.std.specs.Prelude.{◌≤◌};
 ghost use Rattle.ca_base.specs.Finding.{IsBaseShown};
 ghost use Rattle.ca_base.specs.Holding.{ReadsAndHolds};
 ghost use Rattle.ca_base.specs.Writing.{HasWritten};

@@ -1,5 +1,5 @@
 //! The next base of a range is marked, where no other range has it.
-ghost use Rattle.std.specs.Prelude.{◌≡◌, ◌<◌, ◌≤◌, ℕ};
+ghost use Rattle.std.specs.Prelude.{◌≡◌, ◌<◌, ◌≤◌};
 ghost use Rattle.ca_base.specs.Putting.{first_note};
 ghost use Rattle.ca_base.specs.Readiness.{IsReady, StaysReady};
 ghost use Rattle.ca_node.specs.TreePasses.{tree_of};

@@ -22,9 +22,9 @@ use crate::sought::{Search, Snapped};
 use ca_model::Code;
 use ca_node::{Spot, TreePass, TreeSpace, walk};
 
-/// What a step comes to that gathers bases.
+/// What a step of a snapshot comes to.
 #[derive(Clone, Copy)]
-pub(crate) enum Further {
+pub enum Further {
     /// One base more is marked.
     On(Gathered),
     /// No more steps are needed, or they can't be taken.
@@ -32,7 +32,7 @@ pub(crate) enum Further {
 }
 
 /// Gathers the bases of a range of the pass, from the one that was shown last, until they have all up to the upper edge, or as many objects as are wanted.
-pub(crate) fn gather<F: Fn(&[u8]) -> bool>(
+pub fn gather<F: Fn(&[u8]) -> bool>(
     space: &TreeSpace,
     pass: &mut TreePass,
     first: Gathered,
@@ -62,8 +62,8 @@ pub(crate) fn gather<F: Fn(&[u8]) -> bool>(
     Snapped::Busy
 }
 
-// One step: the next base is marked, if one is needed, and if it can be. Else the range is over.
-fn go_further<F: Fn(&[u8]) -> bool>(
+/// One step: the next base is marked, if one is needed, and if it can be. Else the range is over.
+pub fn go_further<F: Fn(&[u8]) -> bool>(
     space: &TreeSpace,
     pass: &mut TreePass,
     from: Gathered,

@@ -1,5 +1,5 @@
 //! A pass helps ranges of other passes.
-ghost use Rattle.std.specs.Prelude.{◌≡◌, ◌≢◌, ◌+◌, ◌<◌, ◌≤◌, ℕ, slice_index};
+ghost use Rattle.std.specs.Prelude.{◌≡◌, ◌≢◌, ◌+◌, ◌<◌, ◌≤◌, slice_index};
 ghost use Rattle.ca_adapt.specs.Allowed.{IsAllowed};
 ghost use Rattle.ca_adapt.specs.Statistics.{IsPastWord};
 ghost use Rattle.ca_adapt.specs.Tuned.{IsTuned};

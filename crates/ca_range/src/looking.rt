@@ -1,5 +1,5 @@
 //! What is found in the bases that a snapshot goes to.
-ghost use Rattle.std.specs.Prelude.{◌≡◌, ◌≤◌};
+ghost use Rattle.std.specs.Prelude.{◌≡◌, ◌<◌, ◌≤◌};
 ghost use Rattle.ca_base.specs.Finding.{IsReadable};
 ghost use Rattle.ca_base.specs.Putting.{first_note};
 ghost use Rattle.ca_model.specs.Edges.{bound_of};
@@ -9,7 +9,7 @@ ghost use Rattle.ca_node.specs.States.{HasState};
 ghost use Rattle.ca_node.specs.Told.{with_upper};
 ghost use Rattle.ca_node.specs.TreePasses.{tree_of};
 ghost use Rattle.ca_node.specs.Walking.{IsSought};
-ghost use Rattle.ca_range.specs.Looking.{BeginsFor, HasAdded, HasLooked, HoldsEdge, IsFirst, IsGoneTo};
+ghost use Rattle.ca_range.specs.Looking.{BeginsFor, HasAdded, HasCountedAll, HasLooked, HoldsEdge, IsFirst, IsGoneTo};
 ghost use Rattle.ca_range.specs.Staying.{OnlySteps};
 ghost use Rattle.ca_rows.specs.Passes.{OnlyReads, IsReading, KeepsList, sizes, known};
 
@@ -99,6 +99,7 @@ fn count_on<F: Fn(&[u8]) -> bool>(
     requires function { MayBeAskedForAll F.Fn sought.now.counts.now (sizes space.now).keypos }
     ensures frame { OnlyReads pass.old pass.new }
     ensures added { HasAdded F.Fn sought.now counted result (first_note (tree_of pass.old).notes) }
+    ensures all { 1 ≤ sought.now.want → result < sought.now.want → HasCountedAll F.Fn sought.now counted result (first_note (tree_of pass.old).notes) }
 {
     if sought.want == 0 {
         return counted;

@@ -1,5 +1,5 @@
 //! A base is marked as the next one of a range.
-ghost use Rattle.std.specs.Prelude.{◌≡◌, ◌<◌, ◌≤◌, [], ◌∷◌};
+ghost use Rattle.std.specs.Prelude.{◌<◌, ◌≤◌, [], ◌∷◌};
 ghost use Rattle.ca_base.specs.Counting.{HasFound};
 ghost use Rattle.ca_base.specs.Finding.{IsAtCursor, IsBaseShown};
 ghost use Rattle.ca_base.specs.Readiness.{IsReady, StaysReady, shown_last};

@@ -1,5 +1,5 @@
 //! Which range marked a base.
-ghost use Rattle.std.specs.Prelude.{◌≡◌, ◌↔◌, ℕ, IsTrue};
+ghost use Rattle.std.specs.Prelude.{◌≡◌, ◌↔◌, IsTrue};
 ghost use Rattle.ca_base.specs.Finding.{IsBaseShown};
 ghost use Rattle.ca_node.specs.Row.{IsMarkedBy};
 ghost use Rattle.ca_node.specs.TreePasses.{tree_of};

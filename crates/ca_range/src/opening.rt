@@ -1,34 +1,32 @@
 //! The pass's own range begins, with the first base of a snapshot.
 ghost use Rattle.std.specs.Prelude.{◌≡◌, ◌≢◌, ◌+◌, ◌/◌, ◌<◌, ◌≤◌, ℕ, [], ◌∷◌, false, slice_index};
-ghost use mathlib.Core.Option.{some};
 ghost use Rattle.ca_adapt.specs.Allowed.{IsAllowed};
 ghost use Rattle.ca_adapt.specs.Tuned.{IsTuned};
 ghost use Rattle.ca_base.specs.Counting.{losses, HasMet};
 ghost use Rattle.ca_base.specs.Finding.{IsBaseShown};
 ghost use Rattle.ca_base.specs.Putting.{first_note};
-ghost use Rattle.ca_base.specs.Readiness.{IsReady, StaysReady};
+ghost use Rattle.ca_base.specs.Readiness.{IsReady};
 ghost use Rattle.ca_base.specs.Taking.{AreHeld};
 ghost use Rattle.ca_model.specs.Edges.{bound_of, IsProperBound};
-ghost use Rattle.ca_model.specs.Function.{MayBeAskedForAll};
 ghost use Rattle.ca_node.specs.Layout.{sequence_unit};
 ghost use Rattle.ca_node.specs.OwnRanges.{opened};
 ghost use Rattle.ca_node.specs.Told.{IsSettled, status_of, with_upper};
 ghost use Rattle.ca_node.specs.TreePasses.{tree_of, IsOwner};
 ghost use Rattle.ca_node.specs.TreeView.{Note, Quiet};
-ghost use Rattle.ca_range.specs.Gathering.{IsGathering};
+ghost use Rattle.ca_range.specs.Gathering.{EndsInBudget, HasBegun, IsOver};
 ghost use Rattle.ca_range.specs.Looking.{IsFirst, IsNotEnough};
 ghost use Rattle.ca_range.specs.Meeting.{AreMet};
 ghost use Rattle.ca_range.specs.Opening.{begun_at, IsKeptWord, HasNumbered, HasPutFirst, HasWrittenFirst, IsFirstReady, IsNumberOf};
 ghost use Rattle.ca_range.specs.Snapping.{GoesOn, StaysPinned};
-ghost use Rattle.ca_range.specs.Snapshots.{HasSnapped, IsInBudget, OnlyRanges};
+ghost use Rattle.ca_range.specs.Snapshots.{OnlyRanges};
 ghost use Rattle.ca_base.specs.Spending.{IsSpentOn};
 ghost use Rattle.ca_rows.specs.Calls.{IsNumbered};
-ghost use Rattle.ca_rows.specs.Passes.{IsOn, IsReading, KeepsList, OnlyReads, StillKeepsList, sizes, known, view};
+ghost use Rattle.ca_rows.specs.Passes.{IsReading, KeepsList, OnlyReads, StillKeepsList, sizes, known, view};
 
 use crate::account::{Account, Range};
 use crate::copying::{Mark, write_copy};
 use crate::edging::write_border;
-use crate::gathering::gather;
+use crate::gathering::Further;
 use crate::own::{Gathered, Own};
 use crate::sought::{Search, Snapped};
 use ca_adapt::{Tuning, statistic_of, word_of};
@@ -50,42 +48,42 @@ pub(crate) struct Rows {
     pub(crate) copy: u32,
 }
 
-/// Begins a range of the pass with the base that was shown last, which no range has and which isn't enough, and gathers its bases.
+/// Begins a range of the pass with the base that was shown last, which no range has and which isn't enough: it is marked.
 pub(crate) fn begin_range<F: Fn(&[u8]) -> bool>(
     space: &TreeSpace,
     pass: &mut TreePass,
     first: Cursor,
     search: &Search<'_, F>,
     account: &mut Account,
-) -> Snapped
+) -> Further
     requires ready { IsReady space.now pass.old }
     requires number { pass.old.number ≡ (tree_of pass.old).number }
     requires quiet { (tree_of pass.old).ranges.own ≡ Quiet }
     requires tuned { IsTuned (sizes space.now) search.now.tuning.now }
     requires edge { IsProperBound (bound_of search.now.sought.now.hi) }
-    requires function { MayBeAskedForAll F.Fn search.now.sought.now.counts.now (sizes space.now).keypos }
     requires met { AreMet account.old.met.numbers (tree_of pass.old).ranges.unfinished }
     requires first { IsFirst (sizes space.now) (bound_of search.now.sought.now.lo) (tree_of pass.old) first }
     requires settled { IsSettled (tree_of pass.old) (first_note (tree_of pass.old).notes).its }
     requires needed { IsNotEnough F.Fn search.now.sought.now (tree_of pass.old).last }
-    ensures frame { StaysReady space.now pass.old pass.new }
+    ensures frame { StaysPinned space.now pass.old pass.new }
+    ensures quiet { IsOver result (tree_of pass.new) }
     ensures steps { OnlyRanges (sizes space.now) (tree_of pass.old) (tree_of pass.new) }
     ensures met { AreMet account.new.met.numbers (tree_of pass.new).ranges.unfinished }
-    ensures snapped { HasSnapped F.Fn search.now.sought.now (sizes space.now) search.now.budget account.new.spent result (known pass.old) (known pass.new) }
-    ensures in_budget { IsInBudget search.now.budget account.new.spent result }
+    ensures begun { HasBegun F.Fn search.now.sought.now (sizes space.now) search.now.budget account.new.spent result (known pass.old) (known pass.new) }
+    ensures in_budget { EndsInBudget search.now.budget account.new.spent result }
     ensures counted { IsSpentOn account.old.spent account.new.spent (known pass.old) (known pass.new) }
 {
     let Some(number) = next_number(space, pass) else {
-        return Snapped::Worn(Counter::Sequence);
+        return Further::Ended(Snapped::Worn(Counter::Sequence));
     };
     match take_two(space, pass, (BASE_FORM, BORDER_FORM), &mut account.spent) {
         Ok((copy, border)) => {
             let own = Own { number, border };
             begin_with(space, pass, first, Rows { own, copy }, search, account)
         }
-        Err(Stop::Lost(_)) => Snapped::Again,
-        Err(Stop::Empty) => Snapped::NoRow,
-        Err(Stop::Worn) => Snapped::Worn(Counter::PoolTag),
+        Err(Stop::Lost(_)) => Further::Ended(Snapped::Again),
+        Err(Stop::Empty) => Further::Ended(Snapped::NoRow),
+        Err(Stop::Worn) => Further::Ended(Snapped::Worn(Counter::PoolTag)),
     }
 }
 
@@ -115,7 +113,7 @@ fn number_in(state: RangeState) -> u64
     }
 }
 
-// Begins the range with these rows, which the pass holds.
+// Begins the range with these rows, which the pass holds: its first base is marked, or that exchange is lost.
 fn begin_with<F: Fn(&[u8]) -> bool>(
     space: &TreeSpace,
     pass: &mut TreePass,
@@ -123,7 +121,7 @@ fn begin_with<F: Fn(&[u8]) -> bool>(
     rows: Rows,
     search: &Search<'_, F>,
     account: &mut Account,
-) -> Snapped
+) -> Further
     requires owner { IsOwner space.now pass.old }
     requires numbered { IsNumbered pass.old.number (view pass.old).pin }
     requires held { AreHeld (sizes space.now).rows pass.old.kept.rows (view pass.old) (rows.copy ∷ rows.own.border ∷ []) × (rows.copy ≢ rows.own.border) }
@@ -131,34 +129,27 @@ fn begin_with<F: Fn(&[u8]) -> bool>(
     requires quiet { (tree_of pass.old).ranges.own ≡ Quiet }
     requires tuned { IsTuned (sizes space.now) search.now.tuning.now }
     requires edge { IsProperBound (bound_of search.now.sought.now.hi) }
-    requires function { MayBeAskedForAll F.Fn search.now.sought.now.counts.now (sizes space.now).keypos }
     requires met { AreMet account.old.met.numbers (tree_of pass.old).ranges.unfinished }
     requires first { IsFirst (sizes space.now) (bound_of search.now.sought.now.lo) (tree_of pass.old) first }
     requires settled { IsSettled (tree_of pass.old) (first_note (tree_of pass.old).notes).its }
     ensures goes { GoesOn space.now account.old.spent account.new.spent pass.old pass.new }
-    ensures quiet { (tree_of pass.new).ranges.own ≡ Quiet }
+    ensures quiet { IsOver result (tree_of pass.new) }
     ensures met { AreMet account.new.met.numbers (tree_of pass.new).ranges.unfinished }
-    ensures snapped { HasSnapped F.Fn search.now.sought.now (sizes space.now) search.now.budget account.new.spent result (known pass.old) (known pass.new) }
-    ensures in_budget { IsInBudget search.now.budget account.new.spent result }
+    ensures in_budget { EndsInBudget search.now.budget account.new.spent result }
+    ensures begun { HasBegun F.Fn search.now.sought.now (sizes space.now) search.now.budget account.new.spent result (known pass.old) (known pass.new) }
 {
     let mark = first_mark(space, pass, first.base, rows.own, search.tuning);
     write_first(space, pass, first.base, rows, &mark, search.sought.hi);
     open_own::<Brand>(space, pass, rows.own, search.sought.lo);
     if !put_first(space, pass, first, rows, &mut account.spent) {
-        return Snapped::Again;
+        return Further::Ended(Snapped::Again);
     }
     let (own, counted) = (rows.own, 0);
     let left = Cursor {
         base: rows.copy,
         ..first
     };
-    gather(
-        space,
-        pass,
-        Gathered { own, left, counted },
-        search,
-        account,
-    )
+    Further::On(Gathered { own, left, counted })
 }
 
 // Opens the range, which `K` names: it goes from this lower edge on.

@@ -3,15 +3,15 @@ use ca_node::Cursor;
 
 /// A range of a pass's own: its number, and the row that says up to where it goes.
 #[derive(Clone, Copy)]
-pub(crate) struct Own {
-    pub(crate) number: u64,
-    pub(crate) border: u32,
+pub struct Own {
+    pub number: u64,
+    pub border: u32,
 }
 
 /// How far the bases of a range are gathered: the last one that is marked, and how many objects were counted in those before.
 #[derive(Clone, Copy)]
-pub(crate) struct Gathered {
-    pub(crate) own: Own,
-    pub(crate) left: Cursor,
-    pub(crate) counted: u32,
+pub struct Gathered {
+    pub own: Own,
+    pub left: Cursor,
+    pub counted: u32,
 }

@@ -18,7 +18,7 @@ use ca_node::{RangeState, TreePass, TreeSpace, abort_own, decide_own, load_own_s
 use std::marker::Brand;
 
 /// Gives up a range of the pass for which it marked a base. Where another pass decided it, the run is left.
-pub(crate) fn give_up(space: &TreeSpace, pass: &mut TreePass, own: Own)
+pub fn give_up(space: &TreeSpace, pass: &mut TreePass, own: Own)
     requires ready { IsReady space.now pass.old }
     requires number { pass.old.number ≡ (tree_of pass.old).number }
     requires marking { IsMarking (sizes space.now) (tree_of pass.old) own }

@@ -1,5 +1,5 @@
 //! Snapshots of what is within two edges.
-ghost use Rattle.std.specs.Prelude.{◌≡◌, ◌≢◌, ◌<◌, ◌≤◌};
+ghost use Rattle.std.specs.Prelude.{◌≡◌, ◌<◌};
 ghost use Rattle.ca_adapt.specs.Tuned.{IsTuned};
 ghost use Rattle.ca_base.specs.Putting.{first_note};
 ghost use Rattle.ca_base.specs.Readiness.{IsReady, StaysReady};
@@ -9,14 +9,16 @@ ghost use Rattle.ca_node.specs.TreePasses.{tree_of};
 ghost use Rattle.ca_node.specs.TreeView.{Quiet};
 ghost use Rattle.ca_range.specs.Ahead.{IsAtLast};
 ghost use Rattle.ca_range.specs.Filling.{IsInUse, turns_of};
+ghost use Rattle.ca_range.specs.Gathering.{EndsInBudget, HasBegun, IsOver};
 ghost use Rattle.ca_range.specs.Meeting.{AreMet};
-ghost use Rattle.ca_range.specs.Snapping.{IsRefused, snapped_so};
+ghost use Rattle.ca_range.specs.Snapping.{IsRefused, StaysPinned, snapped_so};
 ghost use Rattle.ca_range.specs.Snapshots.{HasSnapped, IsInBudget, OnlyRanges};
 ghost use Rattle.ca_base.specs.Spending.{IsSpentOn};
 ghost use Rattle.ca_rows.specs.Passes.{sizes, known};
 
 use crate::account::Account;
 use crate::filling::range_in_use;
+use crate::gathering::{Further, gather};
 use crate::helped::Helped;
 use crate::helping::help_ranges;
 use crate::looking::{Looked, look, walk_to_first};
@@ -51,16 +53,50 @@ pub fn snapshot<F: Fn(&[u8]) -> bool>(
     ensures in_budget { IsInBudget budget account.new.spent result }
     ensures counted { IsSpentOn account.old.spent account.new.spent (known pass.old) (known pass.new) }
 {
-    let first = walk_to_first(space, pass, sought.lo);
+    let search = Search {
+        sought,
+        tuning,
+        budget,
+    };
+    match begin_snapshot(space, pass, &search, account) {
+        Further::On(first) => gather(space, pass, first, &search, account),
+        Further::Ended(snapped) => snapped,
+    }
+}
+
+/// The first step of a snapshot: where one base has all that is sought, it only looks at that; else a range of the pass is begun, and its first base is marked.
+pub fn begin_snapshot<F: Fn(&[u8]) -> bool>(
+    space: &TreeSpace,
+    pass: &mut TreePass,
+    search: &Search<'_, F>,
+    account: &mut Account,
+) -> Further
+    requires ready { IsReady space.now pass.old }
+    requires number { pass.old.number ≡ (tree_of pass.old).number }
+    requires quiet { (tree_of pass.old).ranges.own ≡ Quiet }
+    requires tuned { IsTuned (sizes space.now) search.now.tuning.now }
+    requires edge { IsProperBound (bound_of search.now.sought.now.hi) }
+    requires function { MayBeAskedForAll F.Fn search.now.sought.now.counts.now (sizes space.now).keypos }
+    requires met { AreMet account.old.met.numbers (tree_of pass.old).ranges.unfinished }
+    requires unspent { turns_of account.old.spent < search.now.budget }
+    ensures frame { StaysPinned space.now pass.old pass.new }
+    ensures quiet { IsOver result (tree_of pass.new) }
+    ensures steps { OnlyRanges (sizes space.now) (tree_of pass.old) (tree_of pass.new) }
+    ensures met { AreMet account.new.met.numbers (tree_of pass.new).ranges.unfinished }
+    ensures begun { HasBegun F.Fn search.now.sought.now (sizes space.now) search.now.budget account.new.spent result (known pass.old) (known pass.new) }
+    ensures in_budget { EndsInBudget search.now.budget account.new.spent result }
+    ensures counted { IsSpentOn account.old.spent account.new.spent (known pass.old) (known pass.new) }
+{
+    let first = walk_to_first(space, pass, search.sought.lo);
     let mut key = Code::new();
-    match look(space, pass, &first, sought, 0, &mut key) {
+    match look(space, pass, &first, search.sought, 0, &mut key) {
         Looked::Done(whole) => {
             let (last, chained) = (first.base, false);
-            return Snapped::Run(Run {
+            return Further::Ended(Snapped::Run(Run {
                 last,
                 chained,
                 whole,
-            });
+            }));
         }
         Looked::On(_) => {}
     }
@@ -69,16 +105,12 @@ pub fn snapshot<F: Fn(&[u8]) -> bool>(
         Ok(Some(range)) => {
             let cursor = first;
             let from = MarkedBase { cursor, range };
-            return help_first(space, pass, from, tuning, budget, account);
+            let (tuning, budget) = (search.tuning, search.budget);
+            return Further::Ended(help_first(space, pass, from, tuning, budget, account));
         }
-        Err(helped) => return after_help(helped),
+        Err(helped) => return Further::Ended(after_help(helped)),
     }
-    let search = Search {
-        sought,
-        tuning,
-        budget,
-    };
-    begin_range(space, pass, first, &search, account)
+    begin_range(space, pass, first, search, account)
 }
 
 /// Helps a range of another pass that is in the way of a snapshot.

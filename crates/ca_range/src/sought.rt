@@ -14,10 +14,10 @@ pub struct Sought<'a, F> {
 
 /// Which objects a pass wants, by which numbers the tree adapts, and how many turns may be spent.
 #[derive(Drop)]
-pub(crate) struct Search<'a, F> {
-    pub(crate) sought: &'a Sought<'a, F>,
-    pub(crate) tuning: &'a Tuning,
-    pub(crate) budget: u32,
+pub struct Search<'a, F> {
+    pub sought: &'a Sought<'a, F>,
+    pub tuning: &'a Tuning,
+    pub budget: u32,
 }
 
 /// Bases that have together what one state of the history has, from left to right without a gap.

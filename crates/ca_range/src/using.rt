@@ -1,5 +1,5 @@
 //! Which range has the next base of the pass's own range.
-ghost use Rattle.std.specs.Prelude.{◌≡◌, ◌≢◌, ◌<◌, ◌≤◌};
+ghost use Rattle.std.specs.Prelude.{◌≡◌, ◌≤◌};
 ghost use Rattle.ca_base.specs.Readiness.{IsReady};
 ghost use Rattle.ca_node.specs.LoneStays.{HasNone};
 ghost use Rattle.ca_node.specs.TreePasses.{tree_of};

@@ -18,7 +18,7 @@ use Rattle.ca_node.specs.Walking.{IsBegin, IsPlaced}
 use Rattle.ca_replace.specs.declared.adapting.Adapting.{Adapting}
 use Rattle.ca_replace.specs.declared.adapting.Course.{Course}
 use Rattle.ca_replace.specs.declared.attempting.Halt.{Halt}
-use Rattle.ca_replace.specs.Attempting.{BeginsAt, HasNext, HasSeenAlike, HasTriedSince, HasTriedTo, IsAsking, IsLooking, StaysAt, at_pin}
+use Rattle.ca_replace.specs.Attempting.{BeginsAt, HasNext, HasTriedSince, HasTriedTo, IsAsking, IsLooking, StaysAt, at_pin}
 use Rattle.ca_replace.specs.Between.{MayBegin}
 use Rattle.ca_replace.specs.Turning.{course_after}
 use Rattle.ca_replace.proofs.Meeting.{done_on, further_on}
@@ -77,19 +77,6 @@ split_stays z key cursor many attempt (Ok x) u v l h = stays_with z key cursor u
     (ap (λ (x : TreeView). x.since) h.2) (ap (λ (x : TreeView). x.ways) h.2)
     (ap (λ (x : TreeView). x.ranges.unfinished) h.2)
 split_stays z key cursor many attempt (Err why) u v l h = stopped_stays z key cursor why u v l h
-
-pub split_alike : (many attempt : ℕ) (r : Result (Unit {0}) Stop) (u v : TreeView)
-    → HasSplit many attempt r u v → HasSeenAlike u v
-split_alike many attempt (Ok x) u v h = (
-  ap (λ (y : TreeView). y.seen) h.2,
-  ap (λ (y : TreeView). y.since) h.2,
-  ap (λ (y : TreeView). y.last) h.2,
-)
-split_alike many attempt (Err why) u v h = let same = h ∙ stopped_same why u in (
-  ap (λ (y : TreeView). y.seen) same,
-  ap (λ (y : TreeView). y.since) same,
-  ap (λ (y : TreeView). y.last) same,
-)
 
 -- Behind none.
 pub deep_stays : (z : Sizes) (key : List ℕ) (cursor : Cursor) (u : TreeView)

@@ -11,7 +11,7 @@ use Rattle.ca_model.specs.declared.outcome.Outcome.TheVariants as outcome
 use Rattle.ca_model.specs.History.{History}
 use Rattle.ca_node.specs.States.{IsAlone}
 use Rattle.ca_node.specs.Told.{MyTree}
-use Rattle.ca_node.specs.TreeView.{Inventory, TreeView}
+use Rattle.ca_node.specs.TreeView.{Inventory, Note, TreeView}
 use Rattle.ca_replace.specs.Alone.{HadNoRoom, HasLoneCause, HasNoRoom}
 use Rattle.ca_replace.specs.Causes.{IfCaused, IsCaused, IsFullSince}
 use Rattle.ca_replace.specs.Growing.{HasWaited, HasRoomFor, IsSameTree, Grows}
@@ -73,11 +73,11 @@ lone_cause {T} z number budget adds why o m m' kept kept' is first alone seen wa
     by (cause.Worn counter) h = tt
 
 -- So is a read of what is within edges.
-pub lone_read : {T : Type 0} (z : Sizes) (number budget : ℕ) (o : Outcome T) (m m' : MyTree) (kept kept' : Vec Kept Global) → z.passes ≡ 1 → number ≡ 1
-    → IfCaused o (λ why. IsRangeCaused z number budget why m kept m' kept') → HasLoneCause z Nothing m.0.upper o
-lone_read z number budget (outcome.Done x) m m' kept kept' one first h = tt
-lone_read z number budget (outcome.Busy spent) m m' kept kept' one first h = tt
-lone_read z number budget (outcome.Full full) m m' kept kept' one first h =
+pub lone_read : {T : Type 0} (Needs : Note → Type 0) (z : Sizes) (number budget : ℕ) (o : Outcome T) (m m' : MyTree) (kept kept' : Vec Kept Global) → z.passes ≡ 1 → number ≡ 1
+    → IfCaused o (λ why. IsRangeCaused Needs z number budget why m kept m' kept') → HasLoneCause z Nothing m.0.upper o
+lone_read Needs z number budget (outcome.Done x) m m' kept kept' one first h = tt
+lone_read Needs z number budget (outcome.Busy spent) m m' kept kept' one first h = tt
+lone_read Needs z number budget (outcome.Full full) m m' kept kept' one first h =
     let none = never_lags z.passes number full.lag m'.0.pin one first h.3 in (⊎_elim (λ e. e) (λ some. absurd (some none)) h.1, none)
-lone_read z number budget (outcome.Deep level) m m' kept kept' one first h = absurd h
-lone_read z number budget (outcome.Worn counter) m m' kept kept' one first h = tt
+lone_read Needs z number budget (outcome.Deep level) m m' kept kept' one first h = absurd h
+lone_read Needs z number budget (outcome.Worn counter) m m' kept kept' one first h = tt

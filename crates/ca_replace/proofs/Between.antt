@@ -1,5 +1,5 @@
 -- What comes between two attempts of a call, or before the first one.
-use Rattle.std.proofs.Common.{◌≡◌, ◌<◌, ℕ, true, false, List, [], None, sym, refl, ap, ◌∙◌, subst}
+use Rattle.std.proofs.Common.{◌≡◌, ◌<◌, ℕ, ◌+◌, true, false, List, [], None, sym, refl, ap, ◌∙◌, subst, inl, inr, arith}
 use Rattle.ca_base.specs.Progress.{IsFurther}
 use Rattle.ca_base.specs.Taking.{AreHeld}
 use Rattle.ca_node.specs.Laws.{starts_whole}
@@ -9,6 +9,7 @@ use Rattle.ca_node.specs.TreeView.{Note, Way, Quiet, TreeView, left_over, pinned
 use Rattle.ca_node.proofs.Tallies.{tallied_still}
 use Rattle.ca_replace.specs.Attempting.{at_pin}
 use Rattle.ca_replace.specs.Between.{GoesOn, MayBegin}
+use Rattle.ca_replace.specs.Bounded.{IsPaced}
 use Rattle.ca_replace.specs.Resting.{IsAtRest}
 use Rattle.ca_replace.proofs.Again.{asking_pinned}
 use Rattle.ca_replace.proofs.Counted.{none_met}
@@ -44,6 +45,7 @@ announced told moment m = (
   record m.0 {
     pin = record m.0.pin {
       pinned = true;
+      pins = m.0.pin.pins + 1;
       told = told;
       moment = moment;
       entered = met_of m;
@@ -54,6 +56,15 @@ announced told moment m = (
   },
   m.1,
 )
+
+-- It pinned once, and is paced so; or it unpinned before.
+pub paced_once : (told moment : ℕ) (m m' : MyTree) → m' ≡ announced told moment m → IsPaced m m'
+paced_once told moment m m' is = subst (IsPaced m) (sym is)
+    record { pins = omega arith; most = omega arith; more = omega arith; entered = refl }
+
+paced_anew : (told moment : ℕ) (m m' : MyTree) → m' ≡ announced told moment (left m) → IsPaced m m'
+paced_anew told moment m m' is = subst (IsPaced m) (sym is)
+    record { pins = omega arith; most = omega arith; more = omega arith; entered = refl }
 
 -- It unpinned and pinned then.
 pub anew : (m k n : MyTree) (told moment : ℕ) → k ≡ left m → n ≡ announced told moment k
@@ -150,6 +161,7 @@ module _ {R : Type 0} (space : Space R TreeView) (pass new : Pass R TreeView) wh
             (ap (λ (y : MyTree). y.0.pin.lags) is) (ap (λ (y : MyTree). y.0.pin.looks) is)
             (ap (λ (y : MyTree). y.0.pin.entered.lags) is)
             (ap (λ (y : MyTree). y.0.pin.begun_at) is) (ap (λ (y : MyTree). y.0.pin.begun) is));
+        paced = inr (paced_anew told moment pass.seat.me new.seat.me is);
       }
 
 -- Nothing happened.
@@ -166,7 +178,7 @@ goes_still pass same = let u = pass.seat.me.0.upper in record {
     most = refl;
     splits_are = refl;
     same_turns = refl;
-    idle = (refl, refl);
+    idle = (refl, refl, refl);
     same_inventory = refl;
     same_cuts = refl;
   };
@@ -174,6 +186,7 @@ goes_still pass same = let u = pass.seat.me.0.upper in record {
   further = no_further u;
   since = no_further (at_pin u);
   pinned = λ m x. x;
+  paced = inl refl;
 }
 
 -- What was seen as the pass pinned is what had been seen before.

@@ -68,6 +68,7 @@ paid_both a b c k m n x y = let more = x.more in let more' = y.more in
 -- Of what was paid, what isn't help.
 pub paid_but : (a b : Spent) (m m' : MyTree) → IsPaid a b m m' → IsPaidBut a b m m'
 paid_but a b m m' x = record {
+  more_helped = x.more_helped;
   lost = record { more = x.more; now_is = x.lost };
   passed = record { more = x.more_passed; now_is = x.passed };
 }
@@ -81,6 +82,7 @@ rises_both a b c k m n x y = let up = x.more in let up' = y.more in record {
 
 but_both : (a b c : Spent) (k m n : MyTree) → IsPaidBut a b k m → IsPaidBut b c m n → IsPaidBut a c k n
 but_both a b c k m n x y = record {
+  more_helped = let one = x.more_helped in let two = y.more_helped in omega arith;
   lost = rises_both a.lost b.lost c.lost (losses k) (losses m) (losses n) x.lost y.lost;
   passed = rises_both a.passed b.passed c.passed (passes k) (passes m) (passes n) x.passed y.passed;
 }

@@ -16,7 +16,7 @@ use Rattle.ca_node.specs.Told.{MyTree, one_more_lost}
 use Rattle.ca_node.specs.TreeView.{Note, Renewal, TreeView}
 use Rattle.ca_node.specs.Walking.{IsWalked}
 use Rattle.ca_model.specs.declared.outcome.Cause.{Cause}
-use Rattle.ca_replace.specs.Adapting.{HasMetMore, HasMetNothing, IfEdited, IsCauseMet, IsNew}
+use Rattle.ca_replace.specs.Adapting.{HasMetMore, HasMetNothing, IfEdited, IsCauseMet, IsMetUnsplit, IsNew}
 use Rattle.ca_replace.proofs.Counted.{none_met}
 use Rattle.ca_replace.specs.Attempting.{come_to, refused_as}
 use Rattle.ca_rows.specs.declared.sizes.Sizes.{Sizes}
@@ -55,27 +55,35 @@ still_met m m' met lost e = subst
     (λ (x : MyTree). HasMetNothing x.0.upper.renewal (met_of x) x.0.upper.lost) (sym e)
     (met_nothing m m met lost refl (none_met m) refl refl)
 
+-- No attempt to join was begun since the update, if none was until a moment, nor from then on.
+still_tried : (u v : TreeView) → u.tries ≡ u.renewal.tries → v.tries ≡ u.tries → v.renewal ≡ u.renewal
+    → v.tries ≡ v.renewal.tries
+still_tried u v none same renewal = same ∙ (none ∙ ap (λ (r : Renewal). r.tries) (sym renewal))
+
 -- As the pass had walked to the key of its update, nothing had been met since.
 pub walked_met : (z : Sizes) (key : Bor (List ℕ)) (placed : ℕ) (k m : MyTree) (cursor : Cursor)
     → IsNew placed key.now (met_of k) k.0.upper → IsWalked z (spot.At key) k cursor m
     → (met_of m ≡ m.0.upper.renewal.met) × (m.0.upper.lost ≡ m.0.upper.renewal.lost)
+    × (m.0.upper.tries ≡ m.0.upper.renewal.tries)
 walked_met z key placed k m cursor new w = (
   ap met_of w.now ∙ (new.met_are ∙ ap (λ (x : MyTree). x.0.upper.renewal.met) (sym w.now)),
   ap (λ (x : MyTree). x.0.upper.lost) w.now
       ∙ (new.lost_are ∙ ap (λ (x : MyTree). x.0.upper.renewal.lost) (sym w.now)),
+  ap (λ (x : MyTree). x.0.upper.tries) w.now
+      ∙ (new.tries_are ∙ ap (λ (x : MyTree). x.0.upper.renewal.tries) (sym w.now)),
 )
 
 -- What a try to split a base answers was met since the update, where nothing had been met since
 -- until then.
 split_met_by : (z : Sizes) (note : Note) (w : Why) (m m' : MyTree)
     → met_of m ≡ m.0.upper.renewal.met → m.0.upper.lost ≡ m.0.upper.renewal.lost
-    → IsWhyNotSplit z note w m m' → IsCauseMet (adapted.NotSplit w) (met_of m') m'.0.upper
-split_met_by z note why.Root m m' met lost h = tt
+    → IsWhyNotSplit z note w m m' → IsMetUnsplit w m'.0.upper.renewal (met_of m') m'.0.upper.lost
+split_met_by z note why.Root m m' met lost h = absurd h
 split_met_by z note why.OneObject m m' met lost h = still_met m m' met lost h.1
 split_met_by z note why.AtLevel m m' met lost h = still_met m m' met lost h.2
-split_met_by z note why.SiblingRoute m m' met lost h = tt
-split_met_by z note why.TooMany m m' met lost h = tt
-split_met_by z note why.Taken m m' met lost h = tt
+split_met_by z note why.SiblingRoute m m' met lost h = absurd h
+split_met_by z note why.TooMany m m' met lost h = absurd h
+split_met_by z note why.Taken m m' met lost h = absurd h
 split_met_by z note why.Lost m m' met lost h = let pool = ap (λ (x : Met). x.lost) met in
     let more = h.1 in ⊎_elim
     (λ (e : m'.0.upper ≡ m.0.upper). let then = ap (λ (u : TreeView). u.renewal.met.lost) e in
@@ -92,33 +100,62 @@ split_met_by z note why.NoRow m m' met lost h = let links = ap (λ (u : TreeView
 split_met_by z note why.Worn m m' met lost h = let links = ap (λ (u : TreeView). u.lost) h.2 in
     met_more 0 1 0 m m' met lost (ap (λ (u : TreeView). u.renewal) h.2) h.1 (omega arith)
 
+-- Such a try leaves what the pass tried to join, and its last update.
+unsplit_tried : (z : Sizes) (note : Note) (w : Why) (m m' : MyTree) → m.0.upper.tries ≡ m.0.upper.renewal.tries
+    → IsWhyNotSplit z note w m m' → m'.0.upper.tries ≡ m'.0.upper.renewal.tries
+unsplit_tried z note why.Root m m' none h = absurd h
+unsplit_tried z note why.OneObject m m' none h = still_tried m.0.upper m'.0.upper none
+    (ap (λ (x : MyTree). x.0.upper.tries) h.1) (ap (λ (x : MyTree). x.0.upper.renewal) h.1)
+unsplit_tried z note why.AtLevel m m' none h = still_tried m.0.upper m'.0.upper none
+    (ap (λ (x : MyTree). x.0.upper.tries) h.2) (ap (λ (x : MyTree). x.0.upper.renewal) h.2)
+unsplit_tried z note why.SiblingRoute m m' none h = absurd h
+unsplit_tried z note why.TooMany m m' none h = absurd h
+unsplit_tried z note why.Taken m m' none h = absurd h
+unsplit_tried z note why.Lost m m' none h = ⊎_elim
+    (λ (e : m'.0.upper ≡ m.0.upper). still_tried m.0.upper m'.0.upper none
+    (ap (λ (u : TreeView). u.tries) e) (ap (λ (u : TreeView). u.renewal) e))
+    (λ (e : m'.0.upper ≡ one_more_lost m.0.upper). still_tried m.0.upper m'.0.upper none
+    (ap (λ (u : TreeView). u.tries) e) (ap (λ (u : TreeView). u.renewal) e)) h.3
+unsplit_tried z note why.NoRow m m' none h = still_tried m.0.upper m'.0.upper none
+    (ap (λ (u : TreeView). u.tries) h.2) (ap (λ (u : TreeView). u.renewal) h.2)
+unsplit_tried z note why.Worn m m' none h = still_tried m.0.upper m'.0.upper none
+    (ap (λ (u : TreeView). u.tries) h.2) (ap (λ (u : TreeView). u.renewal) h.2)
+
 -- The pass walked to the key of its update anew, and tried to split the base that it came to.
 pub split_met : (z : Sizes) (key : Bor (List ℕ)) (placed : ℕ) (note : Note) (a : Adapted)
     (k m m' : MyTree) (cursor : Cursor)
     → IsNew placed key.now (met_of k) k.0.upper → IsWalked z (spot.At key) k cursor m
     → IsSplitOutcome z note a m m' → IsOneTry a m m' → IsCauseMet a (met_of m') m'.0.upper
 split_met z key placed note adapted.Stay k m m' cursor new w h once = absurd h
-split_met z key placed note adapted.Split k m m' cursor new w h once = let e = h.2.2 in
-    met_nothing m m' (walked_met z key placed k m cursor new w).0
-    (walked_met z key placed k m cursor new w).1
-    (ap (λ (u : TreeView). u.renewal) e) h.1 (ap (λ (u : TreeView). u.lost) e) (once refl)
+split_met z key placed note adapted.Split k m m' cursor new w h once = let e = h.2.2 in (
+  met_nothing m m' (walked_met z key placed k m cursor new w).0
+      (walked_met z key placed k m cursor new w).1
+      (ap (λ (u : TreeView). u.renewal) e) h.1 (ap (λ (u : TreeView). u.lost) e) (once refl),
+  still_tried m.0.upper m'.0.upper (walked_met z key placed k m cursor new w).2
+      (ap (λ (u : TreeView). u.tries) e) (ap (λ (u : TreeView). u.renewal) e),
+)
 split_met z key placed note adapted.Joined k m m' cursor new w h once = absurd h
-split_met z key placed note (adapted.NotSplit r) k m m' cursor new w h once =
-    split_met_by z note r m m' (walked_met z key placed k m cursor new w).0
-    (walked_met z key placed k m cursor new w).1 h
+split_met z key placed note (adapted.NotSplit r) k m m' cursor new w h once = (
+  split_met_by z note r m m' (walked_met z key placed k m cursor new w).0
+      (walked_met z key placed k m cursor new w).1 h,
+  unsplit_tried z note r m m' (walked_met z key placed k m cursor new w).2 h,
+)
 split_met z key placed note (adapted.NotJoined r) k m m' cursor new w h once = absurd h
 
 -- Where nothing was tried nothing was met since the update: neither as it was carried out, nor behind
 -- the walk to its key.
 pub new_met : (key : List ℕ) (placed : ℕ) (k : MyTree) → IsNew placed key (met_of k) k.0.upper
     → IsCauseMet adapted.Stay (met_of k) k.0.upper
-new_met key placed k new = still_met k k new.met_are new.lost_are refl
+new_met key placed k new = (still_met k k new.met_are new.lost_are refl, new.tries_are)
 
 pub elsewhere_met : (z : Sizes) (key : Bor (List ℕ)) (placed : ℕ) (k m : MyTree) (cursor : Cursor)
     → IsNew placed key.now (met_of k) k.0.upper → IsWalked z (spot.At key) k cursor m
     → IsCauseMet adapted.Stay (met_of m) m.0.upper
-elsewhere_met z key placed k m cursor new w = still_met m m
-    (walked_met z key placed k m cursor new w).0 (walked_met z key placed k m cursor new w).1 refl
+elsewhere_met z key placed k m cursor new w = (
+  still_met m m (walked_met z key placed k m cursor new w).0
+      (walked_met z key placed k m cursor new w).1 refl,
+  (walked_met z key placed k m cursor new w).2,
+)
 
 -- So it was by what followed an attempt's exchange.
 settled_by : (P : Type 0) (tried : Result (Unit {0}) Stop) → (IsOk tried → P)

@@ -149,6 +149,7 @@ walked_learnt z spot m m' cursor w = record {
   further = walked_further z spot m m' cursor w;
   known = w.known;
   since = ap (λ (x : MyTree). x.0.upper.since) w.now;
+  tries = ap (λ (x : MyTree). x.0.upper.tries) w.now;
 }
 
 pub learnt_both : (z : Sizes) (u w v : TreeView) → HasLearnt z u w → HasLearnt z w v → HasLearnt z u v
@@ -156,6 +157,7 @@ learnt_both z u w v a b = record {
   further = further_on u w v a.further b.further;
   known = b.known;
   since = b.since ∙ a.since;
+  tries = b.tries ∙ a.tries;
 }
 
 -- Where the base that has the keys right below an upper edge has an object within it, or is the first base, the read of the last object answers by a state since

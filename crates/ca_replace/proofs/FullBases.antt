@@ -21,6 +21,7 @@ room_waits many attempt (Ok x) a c u v same h = (
   ap (λ (x : Adapting). x.last) same,
   ap (λ (y : TreeView). y.renewal) h.2,
   inl (ap (λ (x : Adapting). x.lost) same, ap (λ (y : TreeView). y.lost) h.2),
+  ap (λ (y : TreeView). y.tries) h.2,
 )
 room_waits many attempt (Err why) a c u v same h = subst
     (λ (x : Adapting × TreeView). Waits a (noted why x.0) u x.1) (λ i. (sym same i, sym h i))

@@ -37,7 +37,7 @@ use Rattle.ca_model.specs.declared.outcome.Cause.{Cause}
 use Rattle.ca_model.specs.declared.outcome.Cause.TheVariants as cause
 use Rattle.ca_replace.specs.Refusals.{outcome_by}
 use Rattle.ca_replace.specs.Adapting.{Adapts, Goes, HasGoneOn, HasLookedAgain, HasLostSince, IsCauseMetInCall, HasSettled, HasTriedOnce, HasWalkedThere, IsAdapted, IsMoved, IsNew, IsReason, Leaves, LeavesInCall, Waits, noted}
-use Rattle.ca_replace.specs.Attempting.{HasNext, HasStopped, HasTriedTo, IsPaid, IsPaidTo, IsQuiet, come_to, refused_as}
+use Rattle.ca_replace.specs.Attempting.{HasNext, HasStopped, HasTriedTo, IsIdleSince, IsPaid, IsPaidTo, IsQuiet, come_to, refused_as}
 use Rattle.ca_replace.proofs.Settling.{IsSettling}
 use Rattle.ca_replace.proofs.Counted.{none_paid, paid_before, paid_both, paid_of}
 use Rattle.ca_replace.proofs.Meeting.{further_on}
@@ -59,7 +59,7 @@ since_both x y w k l m (inr a) (inr b) = let more = a.1 in let more' = b.1 in in
 -- Waiting on and on.
 pub waits_on : (a b c : Adapting) (u w v : TreeView) → Waits a b u w → Waits b c w v → Waits a c u v
 waits_on a b c u w v x y =
-    (y.0 ∙ x.0, y.1 ∙ x.1, since_both a.lost b.lost c.lost u.lost w.lost v.lost x.2 y.2)
+    (y.0 ∙ x.0, y.1 ∙ x.1, since_both a.lost b.lost c.lost u.lost w.lost v.lost x.2 y.2, y.3 ∙ x.3)
 
 -- An update behind that.
 pub adapts_on : (z : Sizes) (t : Tuning) (a b : Adapting) (last : Last) (u w v : TreeView)
@@ -69,6 +69,7 @@ adapts_on z t a b last u w v x y = record {
   one_more = y.one_more ∙ ap (λ (r : Renewal). r.count + 1) x.1;
   lost = y.lost;
   since = since_both a.lost b.lost y.lost u.lost w.lost v.renewal.lost x.2 y.since;
+  untried = y.untried ∙ x.3;
   moved = y.moved;
   word_is = y.word_is;
   adapted = y.adapted;
@@ -87,20 +88,19 @@ pub gone_on : {T E : Type 0} (edits : T → Bool) (z : Sizes) (t : Tuning) (a b 
 gone_on edits z t a b c (Ok x) u w v h g = goes_on (edits x) z t a b c u w v h g
 gone_on edits z t a b c (Err why) u w v h g = waits_on a b c u w v h g
 
--- Nothing was updated, and no exchange of a link was lost.
-pub idle_waits : (a : Adapting) (u v : TreeView) → (v.renewal ≡ u.renewal) × (v.lost ≡ u.lost)
-    → Waits a a u v
-idle_waits a u v idle = (refl, idle.0, inl (refl, idle.1))
+-- Nothing was updated, no exchange of a link was lost, and no attempt to join was begun.
+pub idle_waits : (a : Adapting) (u v : TreeView) → IsIdleSince u v → Waits a a u v
+idle_waits a u v idle = (refl, idle.0, inl (refl, idle.1), idle.2)
 
 -- An attempt's exchange behind a look.
 pub gone_after : {T E : Type 0} (edits : T → Bool) (z : Sizes) (t : Tuning) (a b : Adapting)
     (r : Result T E) (u w v : TreeView)
-    → (w.renewal ≡ u.renewal) × (w.lost ≡ u.lost) → HasGoneOn edits z t a b r w v
+    → IsIdleSince u w → HasGoneOn edits z t a b r w v
     → HasGoneOn edits z t a b r u v
 gone_after edits z t a b r u w v idle g = gone_on edits z t a a b r u w v (idle_waits a u w idle) g
 
 pub adapts_after : (z : Sizes) (t : Tuning) (a : Adapting) (last : Last) (u w v : TreeView)
-    → (w.renewal ≡ u.renewal) × (w.lost ≡ u.lost)
+    → IsIdleSince u w
     → Adapts z t a.lost last w v → Adapts z t a.lost last u v
 adapts_after z t a last u w v idle h = adapts_on z t a a last u w v (idle_waits a u w idle) h
 
@@ -117,10 +117,10 @@ paid_looked r a b m m' m'' quiet paid =
 
 -- A try that came to nothing and lost an exchange of a link, if one, waits.
 pub noted_waits : (why : Stop) (a : Adapting) (u : TreeView) → Waits a (noted why a) u (stopped why u)
-noted_waits (stop.Lost exchange.Link) a u = (refl, refl, inr (refl, omega arith))
-noted_waits (stop.Lost exchange.Head) a u = idle_waits a u u (refl, refl)
-noted_waits stop.Empty a u = idle_waits a u u (refl, refl)
-noted_waits stop.Worn a u = idle_waits a u u (refl, refl)
+noted_waits (stop.Lost exchange.Link) a u = (refl, refl, inr (refl, omega arith), refl)
+noted_waits (stop.Lost exchange.Head) a u = idle_waits a u u (refl, refl, refl)
+noted_waits stop.Empty a u = idle_waits a u u (refl, refl, refl)
+noted_waits stop.Worn a u = idle_waits a u u (refl, refl, refl)
 
 -- After a split the pass knows as much of the history.
 pub split_further : (z : Sizes) (many attempt : ℕ) (r : Result (Unit {0}) Stop) (u v : TreeView)
@@ -185,6 +185,7 @@ is_new met z edit word placed (Ok x) u w about h row won = record {
   lost_are = h.same_lost ∙ ap (λ (r : Renewal). r.lost) (sym h.renewal);
   loads_are = h.same_loads ∙ ap (λ (r : Renewal). r.loads) (sym h.renewal);
   passed_are = ap (λ (t : Turns). t.passed) h.same_turns ∙ ap (λ (r : Renewal). r.passed) (sym h.renewal);
+  tries_are = h.same_tries ∙ ap (λ (r : Renewal). r.tries) (sym h.renewal);
   met_are = ap (λ (r : Renewal). r.met) (sym h.renewal);
   noted = subst (λ (r : Renewal). IsIn r.new w.notes) (sym h.renewal)
       (subst (λ (ns : List Note). IsIn (first_note w.notes) ns) (sym h.notes) (0, refl));
@@ -500,6 +501,7 @@ settled_on {z} {t} {tried} {r} {a} {b} {k} {m} {m'} {m''} s moved word_is = let 
           one_more = ap (λ (x : Renewal). x.count) e;
           lost = a.lost;
           since = inl (refl, ap (λ (x : Renewal). x.lost) e);
+          untried = ap (λ (x : Renewal). x.tries) e;
           moved = subst
               (λ (n : ℕ). IsMoved t n a.lost b.last.statistic)
               (sym (ap (λ (x : Renewal). get_or x.old.its 1 0) e))
@@ -534,12 +536,13 @@ settled_found z t statistic tried r a b k m m' m'' same is ended s = subst
 
 -- The end of a call that edits nothing, behind a look.
 pub entered_waits : (a : Adapting) (u w : TreeView) (m m' : MyTree) (event : Event) → m.0.upper ≡ w
-    → (w.renewal ≡ u.renewal) × (w.lost ≡ u.lost)
+    → IsIdleSince u w
     → IsEntered event m m' → Waits a a u m'.0.upper
 entered_waits a u w m m' event same idle is = let up = ap (λ (x : MyTree). x.0.upper) is.now in
     idle_waits a u m'.0.upper (
       ap (λ (x : TreeView). x.renewal) up ∙ (ap (λ (x : TreeView). x.renewal) same ∙ idle.0),
       ap (λ (x : TreeView). x.lost) up ∙ (ap (λ (x : TreeView). x.lost) same ∙ idle.1),
+      ap (λ (x : TreeView). x.tries) up ∙ (ap (λ (x : TreeView). x.tries) same ∙ idle.2),
     )
 
 -- The pass unpins then.
@@ -549,6 +552,7 @@ adapts_unpinned z t lost last u v h = record {
   one_more = h.one_more;
   lost = h.lost;
   since = h.since;
+  untried = h.untried;
   moved = h.moved;
   word_is = h.word_is;
   adapted = h.adapted;
@@ -595,7 +599,7 @@ pub goes_leaves : (edited : Bool) (z : Sizes) (t : Tuning) (a b : Adapting) (u v
     → a.lost ≡ false → Goes edited z t a b u v
     → Leaves edited z t a.last b.last u v
 goes_leaves true z t a b u v none h = subst (λ (x : Bool). Adapts z t x b.last u v) none h
-goes_leaves false z t a b u v none h = (h.0, h.1)
+goes_leaves false z t a b u v none h = (h.0, h.1, h.3)
 
 -- Of a call that is refused nothing is told of an update.
 pub none_met_as : {T : Type 0} (edits : T → Bool) (last : Last) (why : Cause) (o : Outcome T)
@@ -611,12 +615,12 @@ none_met_as {T} edits last why o m is = subst
 
 pub leaves_refused : {T : Type 0} (edits : T → Bool) (z : Sizes) (t : Tuning) (last : Last)
     (why : Cause) (o : Outcome T) (u v : TreeView)
-    → o ≡ outcome_by why → v.renewal ≡ u.renewal → LeavesInCall edits z t last last o u v
-leaves_refused {T} edits z t last why o u v is same = subst
+    → o ≡ outcome_by why → v.renewal ≡ u.renewal → v.tries ≡ u.tries → LeavesInCall edits z t last last o u v
+leaves_refused {T} edits z t last why o u v is same tried = subst
     (λ (x : Outcome T). LeavesInCall edits z t last last x u v) (sym is) (by why)
   where
     by : (why : Cause) → LeavesInCall edits z t last last (outcome_by {T = T} why) u v
-    by (cause.Busy spent) = (refl, same)
-    by (cause.Full full) = (refl, same)
-    by (cause.Deep level) = (refl, same)
-    by (cause.Worn counter) = (refl, same)
+    by (cause.Busy spent) = (refl, same, tried)
+    by (cause.Full full) = (refl, same, tried)
+    by (cause.Deep level) = (refl, same, tried)
+    by (cause.Worn counter) = (refl, same, tried)

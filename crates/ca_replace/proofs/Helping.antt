@@ -123,7 +123,12 @@ module _ {R : Type 0} (space : Space R TreeView) (t : Tuning) (tells : Event →
     stays = (ap (λ (x : TreeView). x.since) h.steps.only, tt, λ e. let no : true ≡ false = e in cc);
     turn = record {
       met_as = tt;
-      gone_on = (same_last how a.adapting, ap (λ (x : TreeView). x.renewal) h.steps.only, lost_since how a.adapting u.lost v.lost h.steps.lost_is);
+      gone_on = (
+        same_last how a.adapting,
+        ap (λ (x : TreeView). x.renewal) h.steps.only,
+        lost_since how a.adapting u.lost v.lost h.steps.lost_is,
+        ap (λ (x : TreeView). x.tries) h.steps.only,
+      );
       counted = paid_help a.spent spent pass.seat.me new.seat.me h.counted;
       found = halted_by how pass.seat.me new.seat.me h.gone;
       grown = λ alone. absurd (not_alone alone);

@@ -1,5 +1,5 @@
 -- What a call that read a range tells once its pass rests.
-use Rattle.std.proofs.Common.{◌≡◌, ◌≤◌, ℕ, Vec, sym, ap, ◌∙◌, subst, arith}
+use Rattle.std.proofs.Common.{◌≡◌, ◌⊎◌, ◌+◌, ◌-◌, ◌*◌, ◌<◌, ◌≤◌, ℕ, Vec, sym, ap, ◌∙◌, subst, inl, inr, ⊎_elim, arith}
 use Rattle.std.specs.Global.{Global}
 use Rattle.ca_base.specs.Progress.{IsRefused}
 use Rattle.ca_model.specs.Answer.{IfDone, IfRefused}
@@ -12,6 +12,7 @@ use Rattle.ca_model.specs.declared.outcome.Outcome.TheVariants as outcome
 use Rattle.ca_node.specs.Told.{MyTree}
 use Rattle.ca_node.specs.TreeView.{TreeView, unpinned}
 use Rattle.ca_replace.specs.Attempting.{HasDoneSuch}
+use Rattle.ca_replace.specs.Bounded.{IsBounded, looked_in, pinned_in, spent_in}
 use Rattle.ca_replace.specs.Causes.{EndsAtLag, IfCaused, IsUnspent, KeepsFew, WasUnspent}
 use Rattle.ca_replace.specs.Leaving.{HasLeft, IsLeftAlone}
 use Rattle.ca_replace.proofs.Causing.{few_from}
@@ -66,6 +67,13 @@ module _ {T : Type 0} (k m m' : MyTree) (kept kept' : Vec Kept Global) where
   caused_behind C (outcome.Deep s) a h = subst (λ (x : MyTree × Vec Kept Global). C (cause.Deep s) x.0 x.1) (λ i. (sym a.known i, sym a.list i)) h
   caused_behind C (outcome.Worn s) a h = subst (λ (x : MyTree × Vec Kept Global). C (cause.Worn s) x.0 x.1) (λ i. (sym a.known i, sym a.list i)) h
 
+  pub untried_behind : (o : Outcome T) → Left o → Alone o → m.0.upper.tries ≡ k.0.upper.tries → m'.0.upper.tries ≡ k.0.upper.tries
+  untried_behind (outcome.Done x) l a same = ap (λ (u : TreeView). u.tries) l.upper ∙ same
+  untried_behind (outcome.Busy s) l a same = ap (λ (x : MyTree). x.0.upper.tries) a.known ∙ same
+  untried_behind (outcome.Full s) l a same = ap (λ (x : MyTree). x.0.upper.tries) a.known ∙ same
+  untried_behind (outcome.Deep s) l a same = ap (λ (x : MyTree). x.0.upper.tries) a.known ∙ same
+  untried_behind (outcome.Worn s) l a same = ap (λ (x : MyTree). x.0.upper.tries) a.known ∙ same
+
   pub few_behind : (o : Outcome T) → Left o → Alone o → IfDone o (λ _. k.0.pin.looks ≤ m.0.pin.looks)
       → IfRefused o (λ _. KeepsFew k m kept) → KeepsFew k m' kept'
   few_behind (outcome.Done x) l a looks h = few_from k m m' kept' looks l.few
@@ -92,3 +100,21 @@ module _ {T : Type 0} (k m m' : MyTree) (kept kept' : Vec Kept Global) where
   unspent_behind budget (outcome.Full s) l h = tt
   unspent_behind budget (outcome.Deep s) l h = tt
   unspent_behind budget (outcome.Worn s) l h = tt
+
+  -- It looked at the others three times more, at most, and pinned no more often.
+  pub bounded_behind : (few : ℕ) (o : Outcome T) → Left o → Alone o → m'.0.pin.left.lost ≤ m'.0.lost
+      → IfDone o (λ _. looked_in k m + 3 ≤ 3 * pinned_in k m) → IsBounded few k m → IsBounded few k m'
+  bounded_behind few (outcome.Done x) l a lost looked h = let more = l.left in let links = ap (λ (u : TreeView). u.lost) l.upper in
+      let helped = ap (λ (u : TreeView). u.turns.helped) l.upper in let passed = ap (λ (u : TreeView). u.turns.passed) l.upper in
+      let pins = l.bounded.0 in let looks = l.bounded.1 in let one = h.pins in
+      let entered = ap (λ (e : Met). e.empty) l.entered in record {
+        pins = omega arith;
+        most = ⊎_elim (λ (few : pinned_in k m ≤ 1 + spent_in k m). inl (omega arith))
+            (λ (y : (0 < few) × (k.0.empty < m.0.pin.entered.empty) × (pinned_in k m ≤ 2 + spent_in k m)). let found = y.1 in
+            let many = y.2 in inr (y.0, omega arith, omega arith)) h.most;
+        looks = omega arith;
+      }
+  bounded_behind few (outcome.Busy s) l a lost looked h = subst (IsBounded few k) (sym a.known) h
+  bounded_behind few (outcome.Full s) l a lost looked h = subst (IsBounded few k) (sym a.known) h
+  bounded_behind few (outcome.Deep s) l a lost looked h = subst (IsBounded few k) (sym a.known) h
+  bounded_behind few (outcome.Worn s) l a lost looked h = subst (IsBounded few k) (sym a.known) h

@@ -258,6 +258,7 @@ module _ (z : Sizes) (a b : Spent) (m m' : MyTree) (h : HasLookedLeft z a b m m'
     };
     known = s.known known;
     since = ap (λ (u : TreeView). u.since) s.only;
+    tries = ap (λ (u : TreeView). u.tries) s.only;
   }
 
   pub left_met : HasMet 0 0 m m'

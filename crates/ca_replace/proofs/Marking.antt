@@ -55,7 +55,7 @@ quiet_still m ranges = record {
   most = refl;
   splits_are = refl;
   same_turns = refl;
-  idle = (refl, refl);
+  idle = (refl, refl, refl);
   same_inventory = refl;
   same_cuts = refl;
 }

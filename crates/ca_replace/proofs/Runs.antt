@@ -229,8 +229,9 @@ learnt_unanswered z u v first known l = subst (λ (x : History × List Entry). A
 
 -- A call that was entered in the log behind that is done.
 pub learnt_done : (z : Sizes) (u : TreeView) (m m' : MyTree) (event : Event) → IsAtPin u → HasLearnt z u m.0.upper
-    → IsEntered event m m' → HasDone event u m'.0.upper × IsKnown z m'.0.upper
-learnt_done z u m m' event first l e = entered_done z u m m' event l.further l.known (seen_before u m.0.upper first l.since) e
+    → IsEntered event m m' → HasDone event u m'.0.upper × IsKnown z m'.0.upper × (m'.0.upper.tries ≡ u.tries)
+learnt_done z u m m' event first l e = let d = entered_done z u m m' event l.further l.known (seen_before u m.0.upper first l.since) e in
+    (d.0, d.1, ap (λ (x : MyTree). x.0.upper.tries) e.now ∙ l.tries)
 
 -- So a call found an object, or none.
 pub finds_above : (lo : Bound) (found : Bool) (object : List ℕ) → (found ≡ false → object ≡ [])

@@ -24,7 +24,7 @@ use Rattle.ca_node.specs.TreeView.{Note, TreeView}
 use Rattle.ca_node.specs.Walking.{walked, IsBegin, IsWalked}
 use Rattle.ca_node.proofs.Logs.{last_state}
 use Rattle.ca_node.proofs.Parts.{part_map, part_get}
-use Rattle.ca_replace.specs.Attempting.{IsLooking, HasFetched, HasDoneSuch, HasSeenAlike, HasTriedTo, IsQuiet, come_to}
+use Rattle.ca_replace.specs.Attempting.{IsLooking, HasFetched, HasDoneSuch, HasTriedTo, IsQuiet, come_to}
 use Rattle.ca_replace.specs.Causes.{IsFull, IsFullSince}
 use Rattle.ca_base.specs.Finding.{IsPlaceIn}
 use Rattle.ca_base.specs.Progress.{IsFurther, HasDone}
@@ -105,7 +105,7 @@ walked_quiet z spot m m' cursor w = subst (IsQuiet m) (sym w.now) record {
   most = refl;
   splits_are = refl;
   same_turns = refl;
-  idle = (refl, refl);
+  idle = (refl, refl, refl);
   same_inventory = refl;
   same_cuts = refl;
 }

@@ -63,7 +63,7 @@ moved_quiet m m' pin since notes ways ranges is = subst (IsQuiet m) (sym is) rec
   most = refl;
   splits_are = refl;
   same_turns = refl;
-  idle = (refl, refl);
+  idle = (refl, refl, refl);
   same_inventory = refl;
   same_cuts = refl;
 }

@@ -22,7 +22,7 @@ use Rattle.ca_node.specs.Links.{IsIn}
 use Rattle.ca_node.specs.Place.{HasKey, Place}
 use Rattle.ca_node.specs.Row.{IsUnmarked}
 use Rattle.ca_node.specs.Told.{MyTree, link_word}
-use Rattle.ca_node.specs.TreeView.{Note, Renewal, TreeView}
+use Rattle.ca_node.specs.TreeView.{Note, Renewal, Tries, TreeView}
 use Rattle.ca_replace.specs.declared.adapting.Adapting.{Adapting}
 use Rattle.ca_replace.specs.declared.adapting.Last.{Last}
 use Rattle.ca_rows.specs.declared.sizes.Sizes.{Sizes}
@@ -38,7 +38,7 @@ abbrev pub HasLostSince : Bool → Bool → ℕ → ℕ → Type 0
 HasLostSince before now few many = ((now ≡ before) × (many ≡ few)) ⊎ ((now ≡ true) × (few < many))
 
 -- The base with this row was just put in place, by an update that is about this key; it was shown last. So many splits, joins, losses and turns were counted as
--- it was, and are now; and so many links were loaded. No range marked it, and no join.
+-- it was, and are now, and so many tries to join; and so many links were loaded. No range marked it, and no join.
 pub record IsNew (placed : ℕ) (key : List ℕ) (met : Met) (u : TreeView) : Type 0 where
   pub row : placed ≡ u.renewal.new.row
   pub last : u.last ≡ u.renewal.new
@@ -48,6 +48,7 @@ pub record IsNew (placed : ℕ) (key : List ℕ) (met : Met) (u : TreeView) : Ty
   pub lost_are : u.lost ≡ u.renewal.lost
   pub loads_are : u.loads ≡ u.renewal.loads
   pub passed_are : u.turns.passed ≡ u.renewal.passed
+  pub tries_are : u.tries ≡ u.renewal.tries
   pub met_are : met ≡ u.renewal.met
   pub noted : IsIn u.renewal.new u.notes
   pub unmarked : IsUnmarked u.renewal.new.its
@@ -78,16 +79,17 @@ HasTriedOnce z note before now adapted.Joined = ⊥
 HasTriedOnce z note before now (adapted.NotSplit why) = IsReason z note why × (now ≡ before)
 HasTriedOnce z note before now (adapted.NotJoined why) = ⊥
 
--- This was known as the new base had been walked to again: it was shown last, and nothing was split or joined since it was put in place. No link was loaded
--- behind the one that showed it.
+-- This was known as the new base had been walked to again: it was shown last, and nothing was split or joined, nor tried to be joined, since it was put in
+-- place. No link was loaded behind the one that showed it.
 abbrev pub IsKnownThere : Sizes → MyTree → TreeView → Type 0
 IsKnownThere z m v = (m.0.sizes ≡ z) × (m.0.upper.last ≡ v.last) × (m.0.upper.loads ≡ v.shown) × (m.0.upper.renewal ≡ v.renewal) × (m.0.upper.since ≡ v.since)
     × (m.0.upper.joins ≡ v.renewal.joins) × (m.0.upper.lost ≡ v.renewal.lost) × (met_of m ≡ v.renewal.met) × (m.0.upper.turns.passed ≡ v.renewal.passed)
+    × (m.0.upper.tries ≡ v.renewal.tries)
 
--- This is known now: nothing was seen, loaded, joined or lost since.
+-- This is known now: nothing was seen, loaded, joined, tried or lost since.
 abbrev pub IsKnownNow : MyTree → TreeView → Type 0
 IsKnownNow m v = (m.0.upper.seen ≡ v.seen) × (m.0.upper.loads ≡ v.loads) × (m.0.upper.joins ≡ v.joins) × (m.0.upper.lost ≡ v.lost)
-    × (m.0.upper.turns ≡ v.turns)
+    × (m.0.upper.turns ≡ v.turns) × (m.0.upper.tries ≡ v.tries)
 
 -- It was tried once to join the base that was shown last, between these two moments: that base hangs on this link. No base was split.
 abbrev pub HasTriedToJoin : Sizes → TreeView → Adapted → Type 0
@@ -148,44 +150,52 @@ HasMetPool empty worn r now = (now.empty ≡ r.met.empty + empty) × (now.worn �
 abbrev pub HasLostNothing : Renewal → Met → ℕ → Type 0
 HasLostNothing r now lost = now.lost + lost ≡ r.met.lost + r.lost
 
--- An exchange was lost since then, of a link or of the head; or else the base and its sibling were marked since, and another pass gave the attempt up before it
--- was secured, whose exchange isn't counted.
-abbrev pub HasLostSome : Renewal → Met → ℕ → ℕ → Type 0
-HasLostSome r now lost passed = (r.met.lost + r.lost < now.lost + lost) ⊎ (passed ≡ r.passed + 2)
+-- An exchange was lost since then, of a link, of a join word or of the head; or another pass gave up the attempt that was begun, which only a lost exchange of
+-- the pass's own tells.
+abbrev pub HasLostSome : Renewal → Met → ℕ → Tries → Type 0
+HasLostSome r now lost tries = (r.met.lost + r.lost < now.lost + lost) ⊎ (tries.overtaken ≡ r.tries.overtaken + 1)
 
--- By why the base was not joined this was met since then.
-abbrev pub IsMetUnjoined : Why → Renewal → Met → ℕ → ℕ → Type 0
-IsMetUnjoined why.Root r now lost passed = HasMetNothing r now lost
-IsMetUnjoined why.OneObject r now lost passed = Unit {0}
-IsMetUnjoined why.AtLevel r now lost passed = Unit {0}
-IsMetUnjoined why.SiblingRoute r now lost passed = HasMetNothing r now lost
-IsMetUnjoined why.TooMany r now lost passed = HasMetNothing r now lost
-IsMetUnjoined why.Taken r now lost passed = HasMetNothing r now lost
-IsMetUnjoined why.Lost r now lost passed = HasMetPool 0 0 r now × HasLostSome r now lost passed
-IsMetUnjoined why.NoRow r now lost passed = HasMetPool 1 0 r now
-IsMetUnjoined why.Worn r now lost passed = HasMetPool 0 1 r now ⊎ HasMetNothing r now lost
+-- An attempt was begun since then, or tried to be, once.
+abbrev pub HasTriedOne : Renewal → Tries → Type 0
+HasTriedOne r tries = tries.tried ≡ r.tries.tried + 1
+
+-- By why the base was not split this was met since then.
+abbrev pub IsMetUnsplit : Why → Renewal → Met → ℕ → Type 0
+IsMetUnsplit why.Root r now lost = ⊥
+IsMetUnsplit why.OneObject r now lost = HasMetNothing r now lost
+IsMetUnsplit why.AtLevel r now lost = HasMetNothing r now lost
+IsMetUnsplit why.SiblingRoute r now lost = ⊥
+IsMetUnsplit why.TooMany r now lost = ⊥
+IsMetUnsplit why.Taken r now lost = ⊥
+IsMetUnsplit why.Lost r now lost = (HasMetMore 0 0 0 r now lost × (r.met.lost < now.lost)) ⊎ HasMetMore 0 0 1 r now lost
+IsMetUnsplit why.NoRow r now lost = HasMetMore 1 0 0 r now lost
+IsMetUnsplit why.Worn r now lost = HasMetMore 0 1 0 r now lost
+
+-- By why the base was not joined this was met since then, and an attempt was begun once or none was.
+abbrev pub IsMetUnjoined : Why → Renewal → Met → ℕ → Tries → Type 0
+IsMetUnjoined why.Root r now lost tries = HasMetNothing r now lost × (tries ≡ r.tries)
+IsMetUnjoined why.OneObject r now lost tries = ⊥
+IsMetUnjoined why.AtLevel r now lost tries = ⊥
+IsMetUnjoined why.SiblingRoute r now lost tries = HasMetNothing r now lost × (tries ≡ r.tries)
+IsMetUnjoined why.TooMany r now lost tries = HasMetNothing r now lost × (tries ≡ r.tries)
+IsMetUnjoined why.Taken r now lost tries = HasMetNothing r now lost × (tries ≡ r.tries)
+IsMetUnjoined why.Lost r now lost tries = HasMetPool 0 0 r now × HasLostSome r now lost tries × HasTriedOne r tries
+IsMetUnjoined why.NoRow r now lost tries = HasMetPool 1 0 r now × HasTriedOne r tries
+IsMetUnjoined why.Worn r now lost tries = (HasMetPool 0 1 r now × HasTriedOne r tries) ⊎ (HasMetNothing r now lost × (tries ≡ r.tries))
 
 -- By what the answer says of the new base this was met since then: where nothing was tried, or the base was split by the one try, nothing. Where the try
 -- came to nothing the pass met what the answer says, an empty head or a worn tag once, and nothing else but exchanges of the head that were lost as rows
--- were put back.
-abbrev pub IsMetSince : Adapted → Renewal → Met → ℕ → ℕ → Type 0
-IsMetSince adapted.Stay r now lost passed = HasMetNothing r now lost
-IsMetSince adapted.Split r now lost passed = HasMetNothing r now lost
-IsMetSince adapted.Joined r now lost passed = HasMetPool 0 0 r now × HasLostNothing r now lost
-IsMetSince (adapted.NotSplit why.Root) r now lost passed = Unit {0}
-IsMetSince (adapted.NotSplit why.OneObject) r now lost passed = HasMetNothing r now lost
-IsMetSince (adapted.NotSplit why.AtLevel) r now lost passed = HasMetNothing r now lost
-IsMetSince (adapted.NotSplit why.SiblingRoute) r now lost passed = Unit {0}
-IsMetSince (adapted.NotSplit why.TooMany) r now lost passed = Unit {0}
-IsMetSince (adapted.NotSplit why.Taken) r now lost passed = Unit {0}
-IsMetSince (adapted.NotSplit why.Lost) r now lost passed = (HasMetMore 0 0 0 r now lost × (r.met.lost < now.lost)) ⊎ HasMetMore 0 0 1 r now lost
-IsMetSince (adapted.NotSplit why.NoRow) r now lost passed = HasMetMore 1 0 0 r now lost
-IsMetSince (adapted.NotSplit why.Worn) r now lost passed = HasMetMore 0 1 0 r now lost
-IsMetSince (adapted.NotJoined why) r now lost passed = IsMetUnjoined why r now lost passed
+-- were put back. Where a join wasn't due, or no attempt to join came of it, none was begun.
+abbrev pub IsMetSince : Adapted → Renewal → Met → ℕ → Tries → Type 0
+IsMetSince adapted.Stay r now lost tries = HasMetNothing r now lost × (tries ≡ r.tries)
+IsMetSince adapted.Split r now lost tries = HasMetNothing r now lost × (tries ≡ r.tries)
+IsMetSince adapted.Joined r now lost tries = HasMetPool 0 0 r now × HasLostNothing r now lost × HasTriedOne r tries
+IsMetSince (adapted.NotSplit why) r now lost tries = IsMetUnsplit why r now lost × (tries ≡ r.tries)
+IsMetSince (adapted.NotJoined why) r now lost tries = IsMetUnjoined why r now lost tries
 
 -- So it did since its last update.
 abbrev pub IsCauseMet : Adapted → Met → TreeView → Type 0
-IsCauseMet a now v = IsMetSince a v.renewal now v.lost v.turns.passed
+IsCauseMet a now v = IsMetSince a v.renewal now v.lost v.tries
 
 -- This holds where a call edited the map: by what its attempts came to, and by its outcome.
 abbrev pub IfTrue : Bool → Type 0 → Type 0
@@ -224,18 +234,19 @@ HasSettled z t statistic (Ok x) a b m m' = (b.last.statistic ≡ statistic) × H
 HasSettled z t statistic (Err why) a b m m' = (b ≡ noted why a) × (m' ≡ m)
 
 -- One update was carried out by a call. Its new base's statistic is that of the old one, moved by whether the call lost an exchange of a link until
--- then, and what was due by it was done. Both are kept.
+-- then, and what was due by it was done. Both are kept. Until the update no attempt to join was begun.
 pub record Adapts (z : Sizes) (t : Tuning) (before : Bool) (last : Last) (u v : TreeView) : Type 0 where
   pub one_more : v.renewal.count ≡ u.renewal.count + 1
   pub lost : Bool
   pub since : HasLostSince before lost u.lost v.renewal.lost
+  pub untried : v.renewal.tries ≡ u.tries
   pub moved : IsMoved t (slice_index v.renewal.old.its 1) lost last.statistic
   pub word_is : IsWordOf last.statistic (slice_index v.renewal.new.its 1)
   pub adapted : IsAdapted z t last.statistic v last.adapted
 
--- No update was carried out. Whether the call lost an exchange of a link is kept.
+-- No update was carried out, and no attempt to join was begun. Whether the call lost an exchange of a link is kept.
 abbrev pub Waits : Adapting → Adapting → TreeView → TreeView → Type 0
-Waits a b u v = (b.last ≡ a.last) × (v.renewal ≡ u.renewal) × HasLostSince a.lost b.lost u.lost v.lost
+Waits a b u v = (b.last ≡ a.last) × (v.renewal ≡ u.renewal) × HasLostSince a.lost b.lost u.lost v.lost × (v.tries ≡ u.tries)
 
 -- whether a call that may change or remove an object did
 abbrev pub is_put : Changed → Bool
@@ -252,10 +263,10 @@ abbrev pub HasGoneOn : {T E : Type 0} → (T → Bool) → Sizes → Tuning → 
 HasGoneOn edits z t a b (Ok x) u v = Goes (edits x) z t a b u v
 HasGoneOn edits z t a b (Err why) u v = Waits a b u v
 
--- What a call that edits comes to of what a store keeps of its last update.
+-- What a call that edits comes to of what a store keeps of its last update. One that edits nothing begins no attempt to join.
 abbrev pub Leaves : Bool → Sizes → Tuning → Last → Last → TreeView → TreeView → Type 0
 Leaves true z t last last' u v = Adapts z t false last' u v
-Leaves false z t last last' u v = (last' ≡ last) × (v.renewal ≡ u.renewal)
+Leaves false z t last last' u v = (last' ≡ last) × (v.renewal ≡ u.renewal) × (v.tries ≡ u.tries)
 
 abbrev pub LeavesInCall : {T : Type 0} → (T → Bool) → Sizes → Tuning → Last → Last → Outcome T → TreeView → TreeView → Type 0
 LeavesInCall edits z t last last' (outcome.Done x) u v = Leaves (edits x) z t last last' u v

@@ -52,10 +52,6 @@ abbrev pub HasFetched : Sizes → TreeView → List ℕ → Result ℕ ℕ → L
 HasFetched z u key (Ok at) o = OfSomeState u (λ map. IsFound map key (Some o)) × IsPair z.keypos (key, o) × (object_at (Ok at) (first_note u.notes).objects ≡ o)
 HasFetched z u key (Err at) o = OfSomeState u (λ map. IsFound map key None) × (o ≡ [])
 
--- It has seen as much of the history, since the same pin, and a walk came to the same base last.
-abbrev pub HasSeenAlike : TreeView → TreeView → Type 0
-HasSeenAlike u v = (v.seen ≡ u.seen) × (v.since ≡ u.since) × (v.last ≡ u.last)
-
 -- A call was entered in the log, one that is told so.
 abbrev pub HasDoneSuch : (Event → Type 0) → TreeView → TreeView → Type 0
 HasDoneSuch tells u v = (event : Event) × tells event × HasDone event u v
@@ -75,7 +71,8 @@ pub record IsAsking (u : TreeView) : Type 0 where
   pub unanswered : IsUnanswered u
 
 module _ {R : Type 0} where
-  -- The pass has no range, and knows its number. Where it met no mark since it was pinned, it found no range of another pass unfinished.
+  -- The pass has no range, nor an attempt to join, and knows its number. Where it met no mark since it was pinned, it found no range of another pass
+  -- unfinished.
   pub record IsIdle (marked : Bool) (pass : Pass R TreeView) : Type 0 where
     pub number : pass.number ≡ pass.seat.me.0.upper.number
     pub quiet : pass.seat.me.0.upper.ranges.own ≡ Quiet
@@ -166,8 +163,9 @@ pub record IsPaid (before now : Spent) (m m' : MyTree) : Type 0 where
   pub more_passed : passes m ≤ passes m'
   pub passed : before.passed ≤ 4294967295 → now.passed ≡ min 4294967295 (before.passed + (passes m' - passes m))
 
--- So it was, but what was helped isn't told.
+-- So it was, but how much was helped isn't told.
 pub record IsPaidBut (before now : Spent) (m m' : MyTree) : Type 0 where
+  pub more_helped : helps m ≤ helps m'
   pub lost : RisesBy before.lost now.lost (losses m) (losses m')
   pub passed : RisesBy before.passed now.passed (passes m) (passes m')
 
@@ -180,6 +178,10 @@ IsPaidTo (Err why) before now m m' = IsPaid before now m m'
 abbrev pub total : Spent → ℕ
 total spent = spent.lost + spent.helped + spent.passed
 
+-- Nothing was updated, no exchange of a link was lost, and no attempt to join was begun.
+abbrev pub IsIdleSince : TreeView → TreeView → Type 0
+IsIdleSince u v = (v.renewal ≡ u.renewal) × (v.lost ≡ u.lost) × (v.tries ≡ u.tries)
+
 -- No exchange was lost, nothing was met of the pool, and no row more was held.
 pub record IsQuiet (m m' : MyTree) : Type 0 where
   pub lost : losses m' ≡ losses m
@@ -187,8 +189,8 @@ pub record IsQuiet (m m' : MyTree) : Type 0 where
   pub most : m'.0.most ≡ m.0.most
   pub splits_are : splits m' ≡ splits m
   pub same_turns : m'.0.upper.turns ≡ m.0.upper.turns
-  -- Nothing was updated.
-  pub idle : (m'.0.upper.renewal ≡ m.0.upper.renewal) × (m'.0.upper.lost ≡ m.0.upper.lost)
+  -- Nothing was updated, or tried to be joined.
+  pub idle : IsIdleSince m.0.upper m'.0.upper
   -- The tree has what it had.
   pub same_inventory : m'.0.upper.inventory ≡ m.0.upper.inventory
   pub same_cuts : m'.0.upper.cuts ≡ m.0.upper.cuts

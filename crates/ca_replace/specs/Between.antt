@@ -1,5 +1,5 @@
 -- What comes between two attempts of a call, or before the first one.
-use Rattle.std.specs.Prelude.{◌≡◌, ℕ, Bool, List, Option}
+use Rattle.std.specs.Prelude.{◌≡◌, ◌⊎◌, ℕ, Bool, List, Option}
 use Rattle.ca_node.specs.declared.cursor.Cursor.{Cursor}
 use Rattle.ca_node.specs.Tallied.{IsTallied}
 use Rattle.ca_node.specs.Told.{MyTree, IsKnown}
@@ -7,13 +7,15 @@ use Rattle.ca_node.specs.TreeView.{TreeView}
 use Rattle.ca_base.specs.Progress.{IsFurther}
 use Rattle.ca_base.specs.Readiness.{IsReady}
 use Rattle.ca_replace.specs.Attempting.{BeginsAt, IsAsking, IsIdle, IsQuiet, at_pin}
+use Rattle.ca_replace.specs.Bounded.{IsPaced}
 use Rattle.ca_replace.specs.Causes.{HasPinned}
 use Rattle.ca_rows.specs.declared.space.Pass.{Pass}
 use Rattle.ca_rows.specs.declared.space.Space.{Space}
 use Rattle.ca_rows.specs.Calls.{IsSame}
 
 module _ {R : Type 0} where
-  -- The pass is pinned, holds no row, has no range, and learnt of others' edits alone since it pinned. An attempt of a call about this key may begin so.
+  -- The pass is pinned, holds no row, has no range and no attempt to join, and learnt of others' edits alone since it pinned. An attempt of a call about this
+  -- key may begin so.
   pub record MayBegin (space : Space R TreeView) (key : List ℕ) (again : Option Cursor) (marked : Bool) (pass : Pass R TreeView) : Type 0 where
     pub ready : IsReady space pass
     pub known : IsKnown space.table.shared.key pass.seat.me.0.upper
@@ -33,3 +35,5 @@ module _ {R : Type 0} where
     pub further : IsFurther pass.seat.me.0.upper new.seat.me.0.upper
     pub since : IsFurther (at_pin pass.seat.me.0.upper) (at_pin new.seat.me.0.upper)
     pub pinned : (m : MyTree) → HasPinned m pass.seat.me → HasPinned m new.seat.me
+    -- It pinned once, or not at all.
+    pub paced : (new.seat.me.0.pin ≡ pass.seat.me.0.pin) ⊎ IsPaced pass.seat.me new.seat.me

@@ -1,9 +1,10 @@
 -- What a call of a pass's store tells beside its event, if it may edit.
-use Rattle.std.specs.Prelude.{◌≡◌, ℕ, Bool, List}
+use Rattle.std.specs.Prelude.{◌≡◌, ℕ, Bool, List, vec_len}
 use Rattle.std.specs.declared.option.Option.{Option}
 use Rattle.ca_model.specs.declared.outcome.Outcome.{Outcome}
 use Rattle.ca_replace.specs.Adapting.{IsCauseMetInCall, LeavesInCall}
 use Rattle.ca_replace.specs.Alone.{HasLoneCause}
+use Rattle.ca_replace.specs.Bounded.{IsBounded}
 use Rattle.ca_replace.specs.Causes.{HasCause, IsSparing}
 use Rattle.ca_replace.specs.Cutting.{HasCutInCall}
 use Rattle.ca_replace.specs.Growing.{GrowsInCall}
@@ -24,6 +25,8 @@ pub record HasTold {T : Type 0} (edits : T → Bool) (adds : Option (List ℕ)) 
   pub caused : HasCause budget adds s t o
   pub alone : s.z.passes ≡ 1 → HasLoneCause s.z adds s.seat.me.0.upper o
   pub sparing : IsSparing s t
+  -- how often it pinned, and how often it looked at the others
+  pub bounded : IsBounded (vec_len s.kept) s.seat.me t.seat.me
   -- the statistic of its update's new base, and what was due by it: a split that came to nothing has its cause since the update
   pub adapted : LeavesInCall edits s.z s.tuning s.last t.last o s.seat.me.0.upper t.seat.me.0.upper
   pub met_as : IsCauseMetInCall edits t.last o t.seat.me

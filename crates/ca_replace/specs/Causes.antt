@@ -16,6 +16,7 @@ use Rattle.ca_node.specs.States.{IsAlone, OfSomeState}
 use Rattle.ca_node.specs.Told.{MyTree}
 use Rattle.ca_node.specs.TreeView.{Note, TreeView}
 use Rattle.ca_replace.specs.Attempting.{helps, passes, total}
+use Rattle.ca_replace.specs.Bounded.{PinsNever}
 use Rattle.ca_replace.specs.Resting.{StoreView}
 use Rattle.ca_model.specs.declared.outcome.Cause.{Cause}
 use Rattle.ca_model.specs.declared.outcome.Cause.TheVariants as cause
@@ -113,10 +114,11 @@ abbrev pub LagsOnce : MyTree → MyTree → Type 0
 LagsOnce m m' = (m'.0.pin.lags ≤ m.0.pin.lags + 1) × (m'.0.pin.entered ≡ m.0.pin.entered) × (m'.0.pin.begun ≡ m.0.pin.begun)
     × (m'.0.pin.begun_at ≡ m.0.pin.begun_at)
 
--- Rows were given back by a look at the others, which answered so.
+-- Rows were given back by a look at the others, or by three at most, which answered so.
 pub record HasGiven (passes number : ℕ) (answer : Reclaimed) (m m' : MyTree) (kept' : Vec Kept Global) : Type 0 where
   pub reclaims : Reclaims m m'
   pub looked : HasLooked m m'
+  pub bounded : PinsNever m m'
   pub kept : answer.kept ≡ vec_len kept'
   pub lag : IsLag passes number answer.lag m'.0.pin
   pub lags : m'.0.pin.lags ≡ m.0.pin.lags + lag_count answer.lag
@@ -131,6 +133,7 @@ pub record GaveBack (m m' : MyTree) : Type 0 where
   pub upper : m'.0.upper ≡ m.0.upper
   pub met : HasMet 0 0 m m'
   pub lags : LagsOnce m m'
+  pub bounded : PinsNever m m'
 
 -- Another attempt may follow one that found no free row: that one had begun with rows kept, the budget isn't spent, no pass lags, and no row is kept
 -- now, unless an exchange was lost.

@@ -22,9 +22,9 @@ pub record Grows (splits rows bases : ℕ) (u v : TreeView) : Type 0 where
 abbrev pub IsSameTree : TreeView → TreeView → Type 0
 IsSameTree u v = (v.splits ≡ u.splits) × (v.inventory ≡ u.inventory)
 
--- So it has, and the pass spent no turn.
+-- So it has, and the pass spent no turn, and began no attempt to join.
 abbrev pub IsUntouched : TreeView → TreeView → Type 0
-IsUntouched u v = IsSameTree u v × (v.turns ≡ u.turns)
+IsUntouched u v = IsSameTree u v × (v.turns ≡ u.turns) × (v.tries ≡ u.tries)
 
 -- The base that has this key has room for one object more.
 abbrev pub HasRoom : Sizes → List ℕ → TreeView → Type 0

@@ -3,6 +3,7 @@ use Rattle.std.specs.Prelude.{◌≡◌, ◌+◌, ◌≤◌, Vec}
 use Rattle.std.specs.Global.{Global}
 use Rattle.ca_node.specs.Told.{MyTree}
 use Rattle.ca_node.specs.TreeView.{unpinned}
+use Rattle.ca_replace.specs.Bounded.{PinsNever}
 use Rattle.ca_replace.specs.Causes.{KeepsFew}
 use Rattle.ca_rows.specs.declared.kept.Kept.{Kept}
 
@@ -14,6 +15,7 @@ pub record HasLeft (m m' : MyTree) (kept' : Vec Kept Global) : Type 0 where
   pub few : KeepsFew m m' kept'
   pub lags : m'.0.pin.lags ≤ m.0.pin.lags + 1
   pub entered : m'.0.pin.entered ≡ m.0.pin.entered
+  pub bounded : PinsNever m m'
 
 -- Nothing changed.
 pub record IsLeftAlone (m m' : MyTree) (kept kept' : Vec Kept Global) : Type 0 where

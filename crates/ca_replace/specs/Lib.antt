@@ -3,6 +3,7 @@ pub mod Alone
 pub mod Aside
 pub mod Attempting
 pub mod Between
+pub mod Bounded
 pub mod Called
 pub mod Causes
 pub mod Closing

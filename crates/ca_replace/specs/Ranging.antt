@@ -1,5 +1,5 @@
 -- Calls that read ranges: one attempt of such a call, what its attempts come to, and why such a call is refused.
-use Rattle.std.specs.Prelude.{◌≡◌, ℕ, ◌<◌, ◌≤◌, Result, Ok, Err, Vec}
+use Rattle.std.specs.Prelude.{◌≡◌, ◌⊎◌, ℕ, ◌<◌, ◌≤◌, Result, Ok, Err, Vec}
 use Rattle.std.specs.declared.option.Option.TheVariants.{None}
 use Rattle.std.specs.Global.{Global}
 use mathlib.Core.Option.{some}
@@ -14,8 +14,9 @@ use Rattle.ca_model.specs.declared.outcome.Outcome.{Outcome}
 use Rattle.ca_model.specs.declared.outcome.Spent.{Spent}
 use Rattle.ca_node.specs.Tallied.{IsTallied}
 use Rattle.ca_node.specs.Told.{IsKnown, MyTree}
-use Rattle.ca_node.specs.TreeView.{Quiet, TreeView}
+use Rattle.ca_node.specs.TreeView.{Note, Quiet, TreeView}
 use Rattle.ca_range.specs.Clearing.{turns_at}
+use Rattle.ca_range.specs.Snapshots.{IsThwarted}
 use Rattle.ca_replace.specs.declared.missing.Miss.{Miss}
 use Rattle.ca_replace.specs.declared.missing.Miss.TheVariants as miss
 use Rattle.ca_replace.specs.Attempting.{HasDoneSuch, total}
@@ -41,28 +42,40 @@ module _ {R : Type 0} where
     pub number : new.number ≡ pass.number
     pub at_work : IsAtWork space new
 
--- An attempt came to nothing for this cause, given the call's budget, and what it spent in all.
-abbrev pub HasMissed : ℕ → Spent → Miss → MyTree → MyTree → Type 0
-HasMissed budget spent miss.Again m m' = HasMet 0 0 m m' × (turns_at m < turns_at m')
-HasMissed budget spent miss.Busy m m' = HasMet 0 0 m m' × (budget ≤ total spent)
-HasMissed budget spent miss.NoRow m m' = HasMet 1 0 m m'
-HasMissed budget spent (miss.Worn counter.PoolTag) m m' = HasMet 0 1 m m'
-HasMissed budget spent (miss.Worn counter.Epoch) m m' = ⊥
-HasMissed budget spent (miss.Worn counter.Sequence) m m' = HasMet 0 0 m m' × (m'.0.upper.ranges.sequence ≡ some last_sequence)
+-- An attempt came to nothing for this cause, given the call's budget, and what it spent in all. Where the number of its pass's ranges is the last one, the base
+-- to which it walked last is one of which the call needs more.
+abbrev pub HasMissed : (Note → Type 0) → ℕ → Spent → Miss → MyTree → MyTree → Type 0
+HasMissed Needs budget spent miss.Again m m' = HasMet 0 0 m m' × (turns_at m < turns_at m')
+HasMissed Needs budget spent miss.Busy m m' = HasMet 0 0 m m' × (budget ≤ total spent)
+HasMissed Needs budget spent miss.NoRow m m' = HasMet 1 0 m m'
+HasMissed Needs budget spent (miss.Worn counter.PoolTag) m m' = HasMet 0 1 m m'
+HasMissed Needs budget spent (miss.Worn counter.Epoch) m m' = ⊥
+HasMissed Needs budget spent (miss.Worn counter.Sequence) m m' = HasMet 0 0 m m' × (m'.0.upper.ranges.sequence ≡ some last_sequence) × Needs m'.0.upper.last
 
-abbrev pub HasMissedBy : {T : Type 0} → ℕ → Spent → Result T Miss → MyTree → MyTree → Type 0
-HasMissedBy budget spent (Ok x) m m' = Unit {0}
-HasMissedBy budget spent (Err why) m m' = HasMissed budget spent why m m'
+abbrev pub HasMissedBy : {T : Type 0} → (Note → Type 0) → ℕ → Spent → Result T Miss → MyTree → MyTree → Type 0
+HasMissedBy Needs budget spent (Ok x) m m' = Unit {0}
+HasMissedBy Needs budget spent (Err why) m m' = HasMissed Needs budget spent why m m'
 
--- The attempt did the call, which is told so, by what is known then; or it came to nothing, and learnt of others' edits alone.
+-- An attempt is made anew only where another pass was met, as `IsThwarted` says; or where what one base had vanished, before the call came to it again.
+abbrev pub MayTryAgain : (MyTree → MyTree → Type 0) → Miss → MyTree → MyTree → Type 0
+MayTryAgain Vanished miss.Again m m' = IsThwarted m m' ⊎ Vanished m m'
+MayTryAgain Vanished miss.Busy m m' = Unit {0}
+MayTryAgain Vanished miss.NoRow m m' = Unit {0}
+MayTryAgain Vanished (miss.Worn which) m m' = Unit {0}
+
+-- Of most calls nothing vanishes.
+abbrev pub NeverVanishes : MyTree → MyTree → Type 0
+NeverVanishes m m' = ⊥
+
+-- The attempt did the call, which is told so, by what is known then; or it came to nothing, and learnt of others' edits alone. It began no attempt to join.
 abbrev pub HasRangedTo : {T : Type 0} → (T → TreeView → Event → Type 0) → Sizes → Result T Miss → TreeView → TreeView → Type 0
-HasRangedTo tells z (Ok x) u v = HasDoneSuch (tells x v) u v × IsKnown z v
-HasRangedTo tells z (Err why) u v = IsFurther u v × IsKnown z v
+HasRangedTo tells z (Ok x) u v = HasDoneSuch (tells x v) u v × IsKnown z v × (v.tries ≡ u.tries)
+HasRangedTo tells z (Err why) u v = IsFurther u v × IsKnown z v × (v.tries ≡ u.tries)
 
--- Attempts did the call, which is told so; or it is refused, and they learnt of others' edits alone.
+-- Attempts did the call, which is told so; or it is refused, and they learnt of others' edits alone. They began no attempt to join.
 abbrev pub HasRanged : {T : Type 0} → (T → TreeView → Event → Type 0) → Result T Cause → TreeView → TreeView → Type 0
-HasRanged tells (Ok x) u v = HasDoneSuch (tells x v) u v
-HasRanged tells (Err why) u v = IsFurther u v
+HasRanged tells (Ok x) u v = HasDoneSuch (tells x v) u v × (v.tries ≡ u.tries)
+HasRanged tells (Err why) u v = IsFurther u v × (v.tries ≡ u.tries)
 
 -- why a call is refused whose last attempt came to this, given what was spent
 abbrev pub cause_of : Miss → Spent → Cause
@@ -72,15 +85,15 @@ cause_of miss.NoRow spent = cause.Busy spent
 cause_of (miss.Worn counter) spent = cause.Worn counter
 
 -- A call with this budget that reads a range may be refused so, given what its pass knew and kept before it and what it knows and keeps behind it: as one that
--- adds no key; or the number of its pass's ranges is the last one.
-abbrev pub IsRangeCaused : Sizes → ℕ → ℕ → Cause → MyTree → Vec Kept Global → MyTree → Vec Kept Global → Type 0
-IsRangeCaused z number budget (cause.Busy spent) m kept m' kept' = IsCaused z number budget None (cause.Busy spent) m kept m' kept'
-IsRangeCaused z number budget (cause.Full full) m kept m' kept' = IsCaused z number budget None (cause.Full full) m kept m' kept'
-IsRangeCaused z number budget (cause.Deep level) m kept m' kept' = ⊥
-IsRangeCaused z number budget (cause.Worn counter.PoolTag) m kept m' kept' = IsCaused z number budget None (cause.Worn counter.PoolTag) m kept m' kept'
-IsRangeCaused z number budget (cause.Worn counter.Epoch) m kept m' kept' = IsCaused z number budget None (cause.Worn counter.Epoch) m kept m' kept'
-IsRangeCaused z number budget (cause.Worn counter.Sequence) m kept m' kept' = m'.0.upper.ranges.sequence ≡ some last_sequence
+-- adds no key; or the number of its pass's ranges is the last one, and the base to which it walked last is one of which the call needs more.
+abbrev pub IsRangeCaused : (Note → Type 0) → Sizes → ℕ → ℕ → Cause → MyTree → Vec Kept Global → MyTree → Vec Kept Global → Type 0
+IsRangeCaused Needs z number budget (cause.Busy spent) m kept m' kept' = IsCaused z number budget None (cause.Busy spent) m kept m' kept'
+IsRangeCaused Needs z number budget (cause.Full full) m kept m' kept' = IsCaused z number budget None (cause.Full full) m kept m' kept'
+IsRangeCaused Needs z number budget (cause.Deep level) m kept m' kept' = ⊥
+IsRangeCaused Needs z number budget (cause.Worn counter.PoolTag) m kept m' kept' = IsCaused z number budget None (cause.Worn counter.PoolTag) m kept m' kept'
+IsRangeCaused Needs z number budget (cause.Worn counter.Epoch) m kept m' kept' = IsCaused z number budget None (cause.Worn counter.Epoch) m kept m' kept'
+IsRangeCaused Needs z number budget (cause.Worn counter.Sequence) m kept m' kept' = (m'.0.upper.ranges.sequence ≡ some last_sequence) × Needs m'.0.upper.last
 
 -- A call of a pass's store that reads a range may be refused so, given what contracts see of the store before it and behind it.
-abbrev pub HasRangeCause : {T : Type 0} → ℕ → StoreView → StoreView → Outcome T → Type 0
-HasRangeCause budget s t o = IfCaused o (λ why. IsRangeCaused s.z s.number budget why s.seat.me s.kept t.seat.me t.kept)
+abbrev pub HasRangeCause : {T : Type 0} → (Note → Type 0) → ℕ → StoreView → StoreView → Outcome T → Type 0
+HasRangeCause Needs budget s t o = IfCaused o (λ why. IsRangeCaused Needs s.z s.number budget why s.seat.me s.kept t.seat.me t.kept)

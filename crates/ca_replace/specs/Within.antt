@@ -1,23 +1,27 @@
 -- Calls that read what is within edges, as events.
-use Rattle.std.specs.Prelude.{◌≡◌, ℕ, ◌≤◌, Bool, true, false, cond, List, [], None, Some, length}
+use Rattle.std.specs.Prelude.{◌≡◌, ℕ, ◌<◌, ◌≤◌, Bool, true, false, cond, List, [], None, Some, length}
 use denote.Ref.{Bor}
 use denote.Param.Members.{Shared}
 use Rattle.ca_base.specs.Progress.{IsFurther}
 use Rattle.ca_base.specs.Putting.{first_note}
-use Rattle.ca_model.specs.Edges.{Bound, bound_of, objects_of, within}
+use Rattle.ca_model.specs.Edges.{Bound, Excluded, Included, Unbounded, bound_of, last_object, objects_of, up_to, within}
 use Rattle.ca_model.specs.Event.{Event, Above, Below, Range}
 use Rattle.ca_model.specs.History.{state}
 use Rattle.ca_model.specs.Runs.{Reaches}
-use Rattle.ca_node.specs.Told.{IsKnown}
+use Rattle.ca_node.specs.Told.{MyTree, IsKnown}
 use Rattle.ca_model.specs.declared.edge.Edge.{Edge}
 use Rattle.ca_model.specs.declared.edge.Edge.TheVariants as edge
+use Rattle.ca_node.specs.declared.cursor.Cursor.{Cursor}
 use Rattle.ca_node.specs.declared.cursor.Spot.{Spot}
 use Rattle.ca_node.specs.declared.cursor.Spot.TheVariants as spot
-use Rattle.ca_node.specs.TreeView.{TreeView}
-use Rattle.ca_range.specs.Edged.{EndsBefore}
+use Rattle.ca_node.specs.TreeView.{Note, TreeView}
+use Rattle.ca_node.specs.Walking.{IsWalked}
+use Rattle.ca_range.specs.Edged.{EndsBefore, reaches_to}
+use Rattle.ca_range.specs.Looking.{HoldsEdge, objects_from}
 use Rattle.ca_range.specs.Snapshots.{IsRemembered, bases_of}
 use Rattle.ca_range.specs.declared.sought.Run.{Run}
 use Rattle.ca_range.specs.declared.sought.Sought.{Sought}
+use Rattle.ca_replace.specs.Aside.{HasGoneLeft}
 use Rattle.ca_replace.specs.Running.{IsOpenRun, all_of, left_of}
 use Rattle.ca_replace.specs.declared.opened.OpenRun.{OpenRun}
 use Rattle.ca_rows.specs.declared.sizes.Sizes.{Sizes}
@@ -57,6 +61,21 @@ module _ {F : Type 0} (g : Shared F (Bor (List ℕ) × Unit {0}) Bool) (sought :
     pub event_is : event ≡ Range (bound_of sought.lo) (bound_of sought.hi) cut (left_of u run)
     pub reaches : Reaches g sought.counts.now (bound_of sought.hi) cut sought.want (left_of u run) whole
 
+-- The base has the keys with which the lower edge begins, but not all up to the upper one: it ends at a key below that.
+pub record EndsTooSoon (lo hi : Bound) (note : Note) : Type 0 where
+  pub holds : HoldsEdge lo note.place.span
+  pub key : List ℕ
+  pub ends : note.place.span.high ≡ Excluded key
+  pub short : reaches_to hi note.place.span.high ≡ false
+
+-- Of such a base a read needs more: the one of a first object, where no object of the base is within the lower edge; the one of a last object, from where it
+-- looked last.
+abbrev pub NeedsAbove : Bound → Note → Type 0
+NeedsAbove lo note = EndsTooSoon lo Unbounded note × (objects_from lo note ≡ [])
+
+abbrev pub NeedsBelow : Bound → Note → Type 0
+NeedsBelow hi note = (lo : Bound) × EndsTooSoon lo hi note
+
 -- The bases of a run have what a state since the pin has up to an upper edge, from a lower edge on, or from before it.
 pub record HasAllUpTo (lo hi : Bound) (z : Sizes) (u : TreeView) (run : Run) : Type 0 where
   pub remembered : IsRemembered z u run
@@ -69,14 +88,33 @@ pub record HasAllUpTo (lo hi : Bound) (z : Sizes) (u : TreeView) (run : Run) : T
   pub ends : EndsBefore hi (first_note (bases_of run u)).place.span.high
   pub known : IsKnown z u
 
--- It has seen more of the history, at most, and answered no call and was refused none. Behind that its history is known, and it has been pinned no less long.
+-- It has seen more of the history, at most, and answered no call and was refused none, nor began an attempt to join. Behind that its history is known, and it
+-- has been pinned no less long.
 pub record HasLearnt (z : Sizes) (u v : TreeView) : Type 0 where
   pub further : IsFurther u v
   pub known : IsKnown z v
   pub since : v.since ≡ u.since
+  pub tries : v.tries ≡ u.tries
 
 -- which base has the keys right up to an upper edge
 abbrev pub spot_at : Edge → Spot
 spot_at edge.Open = spot.Last
 spot_at (edge.At key) = spot.At key
 spot_at (edge.Past key) = spot.Below key
+
+-- A read of the last object within an upper edge walked to the base that has the keys right up to it, and looked to the left up to a base with an object, which
+-- begins at this key. From there up to the edge the bases of a run have none: what that base had was removed meanwhile.
+pub record HasVanished (hi : Edge) (z : Sizes) (m m' : MyTree) : Type 0 where
+  pub near : MyTree
+  pub cursor : Cursor
+  pub walked : IsWalked z (spot_at hi) m cursor near
+  pub route : ℕ
+  pub route_is : cursor.low ≡ Some route
+  pub mid : MyTree
+  pub gone : HasGoneLeft z route near mid
+  pub low : List ℕ
+  pub begins : (first_note mid.0.upper.notes).place.span.low ≡ Included low
+  pub some : 0 < length (first_note mid.0.upper.notes).objects
+  pub run : Run
+  pub bases : HasAllUpTo (Included low) (bound_of hi) z m'.0.upper run
+  pub none : last_object (up_to (bound_of hi) (all_of run m'.0.upper)) ≡ None

@@ -7,7 +7,7 @@ ghost use Rattle.ca_node.specs.Row.{pair};
 ghost use Rattle.ca_replace.specs.declared.attempting.Halt.TheVariants.{Deep as IsDeep, Split as IsSplit};
 ghost use Rattle.ca_replace.specs.Causes.{IsFullSince};
 ghost use Rattle.ca_replace.specs.Cutting.{IsFullFor};
-ghost use Rattle.ca_replace.specs.Attempting.{BeginsAt, IsAsking, IsIdle, IsLooking, HasFetched, HasSeenAlike, HasTriedSince, HasTriedTo, StaysAt, split_to};
+ghost use Rattle.ca_replace.specs.Attempting.{BeginsAt, IsAsking, IsIdle, IsLooking, HasFetched, HasTriedSince, HasTriedTo, StaysAt, split_to};
 ghost use Rattle.ca_node.specs.Told.{IsKnown, IsSettled};
 ghost use Rattle.ca_node.specs.Walking.{IsWalked};
 ghost use Rattle.ca_node.specs.declared.cursor.Spot.TheVariants.{At as IsAt};
@@ -285,7 +285,6 @@ fn make_room(
     requires many { (many ≡ length (shown_last pass.old).objects) × (tree.now.tuning.leaf ≤ many) }
     ensures frame { StaysReady tree.now.space pass.old pass.new }
     ensures further { IsFurther (tree_of pass.old) (tree_of pass.new) × IsKnown (sizes tree.now.space) (tree_of pass.new) }
-    ensures same_seen { HasSeenAlike (tree_of pass.old) (tree_of pass.new) }
     ensures stays { (key : List ℕ) → IsLooking (sizes tree.now.space) (tree_of pass.old) key cursor → StaysAt {T = Unit {0}} (sizes tree.now.space) key (Err result)
         (tree_of pass.old) (tree_of pass.new) course.new.again false }
     ensures deep { result ≡ IsDeep → (sizes tree.now.space).levels ≤ (shown_last pass.old).place.level }

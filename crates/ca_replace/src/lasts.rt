@@ -1,5 +1,5 @@
 //! Attempts of the call that reads the last object within an upper edge.
-ghost use Rattle.std.specs.Prelude.{◌≡◌, ◌<◌, ◌≤◌, [], IfOk, None, Some, cond, false, map};
+ghost use Rattle.std.specs.Prelude.{◌≡◌, ◌<◌, ◌≤◌, [], IfErr, IfOk, None, Some, cond, false, map};
 ghost use Rattle.ca_model.specs.Edges.{Included, Unbounded, bound_of, last_object, up_to, IsProperBound};
 ghost use Rattle.ca_base.specs.Counting.{HasMet};
 ghost use Rattle.ca_base.specs.Putting.{first_note};
@@ -10,8 +10,8 @@ ghost use Rattle.ca_node.specs.Told.{IsEntered};
 ghost use Rattle.ca_node.specs.TreePasses.{tree_of};
 ghost use Rattle.ca_node.specs.Walking.{IsWalked};
 ghost use Rattle.ca_replace.specs.Attempting.{IsPaid, total};
-ghost use Rattle.ca_replace.specs.Ranging.{HasMissedBy, IsAtWork};
-ghost use Rattle.ca_replace.specs.Within.{FindsBelow, HasAllUpTo, HasLearnt, below_event, spot_at};
+ghost use Rattle.ca_replace.specs.Ranging.{HasMissedBy, IsAtWork, MayTryAgain, NeverVanishes};
+ghost use Rattle.ca_replace.specs.Within.{FindsBelow, HasAllUpTo, HasLearnt, HasVanished, NeedsBelow, below_event, spot_at};
 ghost use Rattle.ca_rows.specs.Passes.{KeepsList, IsReading, sizes, known};
 
 use crate::aside::look_left;
@@ -39,6 +39,10 @@ impl Look for BelowCall<'_> {
     ghost may = { λ call z. IsProperBound (bound_of call.hi) };
 
     ghost tells = { λ call z found into u event. FindsBelow (bound_of call.hi) found into.items event };
+
+    ghost needs = { λ call note. NeedsBelow (bound_of call.hi) note };
+
+    ghost vanished = { λ call z. HasVanished call.hi z };
 
     fn look(
         &self,
@@ -101,7 +105,8 @@ fn take_run(
     ensures run { IfOk result (λ run. HasAllUpTo (bound_of edges.entry.0) (bound_of edges.entry.1) (sizes tree.now.space) (tree_of pass.new) run) }
     ensures met { IfOk result (λ _. HasMet 0 0 (known pass.old) (known pass.new)) }
     ensures counted { IsPaid spent.old spent.new (known pass.old) (known pass.new) }
-    ensures missed { HasMissedBy budget spent.new result (known pass.old) (known pass.new) }
+    ensures missed { HasMissedBy (NeedsBelow (bound_of edges.entry.1)) budget spent.new result (known pass.old) (known pass.new) }
+    ensures again { IfErr result (λ why. MayTryAgain NeverVanishes why (known pass.old) (known pass.new)) }
     ensures in_budget { IfOk result (λ _. total spent.new < budget) }
 {
     let counts = |_object: &[u8]| true;

@@ -1,16 +1,18 @@
 //! Calls of a pass that rests which read ranges: attempts, each under a pin of its own, and how such a call ends.
-ghost use Rattle.std.specs.Prelude.{◌≡◌, ◌↔◌, ◌<◌, ◌≤◌, [], Err, IfErr, IfOk, IsTrue};
+ghost use Rattle.std.specs.Prelude.{◌≡◌, ◌↔◌, ◌+◌, ◌*◌, ◌<◌, ◌≤◌, [], Err, IfErr, IfOk, IsTrue, vec_len};
 ghost use Rattle.ca_base.specs.Progress.{IsRefused};
 ghost use Rattle.ca_base.specs.Readiness.{StaysReady};
 ghost use Rattle.ca_model.specs.Answer.{IfBusy, IfDone, IfRefused, IsNeverDeep};
 ghost use Rattle.ca_model.specs.Event.{Event};
 ghost use Rattle.ca_model.specs.Known.{one_more};
 ghost use Rattle.ca_node.specs.States.{IsAtPin};
+ghost use Rattle.ca_node.specs.Told.{MyTree};
 ghost use Rattle.ca_node.specs.TreePasses.{tree_of};
-ghost use Rattle.ca_node.specs.TreeView.{TreeView};
+ghost use Rattle.ca_node.specs.TreeView.{Note, TreeView};
 ghost use Rattle.ca_replace.specs.Attempting.{IsPaid, HasDoneSuch, total};
+ghost use Rattle.ca_replace.specs.Bounded.{IsBounded, IsPaced, PinsNow, looked_in, pinned_in};
 ghost use Rattle.ca_replace.specs.Causes.{EndsAtLag, HasPinned, IfCaused, IsUnspent, KeepsFew};
-ghost use Rattle.ca_replace.specs.Ranging.{GetsToWork, HasMissedBy, HasRanged, HasRangedTo, IsAtWork, IsRangeCaused, cause_of};
+ghost use Rattle.ca_replace.specs.Ranging.{GetsToWork, HasMissedBy, HasRanged, HasRangedTo, IsAtWork, IsRangeCaused, MayTryAgain, cause_of};
 ghost use Rattle.ca_replace.specs.Resting.{IsAtRest, StaysAtRest};
 ghost use Rattle.ca_replace.specs.declared.missing.Miss.TheVariants.{Again as IsAgain, NoRow as IsNoRow};
 ghost use Rattle.ca_rows.specs.declared.sizes.Sizes.{Sizes};
@@ -38,6 +40,12 @@ pub(crate) trait Look {
     /// Whether the call is this event, given its answer, what it left, and what its pass knows then.
     ghost tells: { Self → Sizes → Self.Answer → Self.Left → TreeView → Event → Type 0 };
 
+    /// Whether it needs more than such a base.
+    ghost needs: { Self → Note → Type 0 };
+
+    /// What vanished before it, where an attempt came to nothing.
+    ghost vanished: { Self → Sizes → MyTree → MyTree → Type 0 };
+
     /// One attempt, of a pass that was just pinned. What it spends is added to what the call spent before.
     fn look(
         &self,
@@ -57,7 +65,8 @@ pub(crate) trait Look {
         ensures tried { HasRangedTo (λ answer. tells self.now (sizes tree.now.space) answer left.new) (sizes tree.now.space) result (tree_of pass.old)
             (tree_of pass.new) }
         ensures counted { IsPaid spent.old spent.new (known pass.old) (known pass.new) }
-        ensures missed { HasMissedBy budget spent.new result (known pass.old) (known pass.new) }
+        ensures missed { HasMissedBy (needs self.now) budget spent.new result (known pass.old) (known pass.new) }
+        ensures again { IfErr result (λ why. MayTryAgain (vanished self.now (sizes tree.now.space)) why (known pass.old) (known pass.new)) }
         ensures in_budget { IfOk result (λ _. total spent.new < budget) };
 }
 
@@ -76,13 +85,16 @@ pub(crate) fn read_range<L: Look>(
     ensures done { IfDone result (λ answer. HasDoneSuch (L.tells order.now.what.now (sizes tree.now.space) answer left.new (tree_of pass.new)) (tree_of pass.old)
         (tree_of pass.new)) }
     ensures refused { IfRefused result (λ rise. IsRefused rise (tree_of pass.old) (tree_of pass.new)) }
+    ensures untried { (tree_of pass.new).tries ≡ (tree_of pass.old).tries }
     ensures never_deep { IsNeverDeep result }
     ensures busy { IfBusy result (λ spent. order.now.budget ≤ spent) }
-    ensures caused { IfCaused result (λ why. IsRangeCaused (sizes tree.now.space) pass.old.number order.now.budget why (known pass.old) pass.old.kept.rows
-        (known pass.new) pass.new.kept.rows) }
+    ensures caused { IfCaused result (λ why. IsRangeCaused (L.needs order.now.what.now) (sizes tree.now.space) pass.old.number order.now.budget why (known pass.old)
+        pass.old.kept.rows (known pass.new) pass.new.kept.rows) }
     ensures few { IfRefused result (λ _. KeepsFew (known pass.old) (known pass.new) pass.new.kept.rows) }
     ensures lags { EndsAtLag (known pass.old) (known pass.new) }
+    ensures bounded { IsBounded (vec_len pass.old.kept.rows) (known pass.old) (known pass.new) }
     ensures looks { IfDone result (λ _. (view pass.old).pin.looks ≤ (view pass.new).pin.looks) }
+    ensures looked { IfDone result (λ _. looked_in (known pass.old) (known pass.new) + 3 ≤ 3 * pinned_in (known pass.old) (known pass.new)) }
     ensures all_seen { IfDone result (λ _. (view pass.new).pin.lags ≡ (view pass.old).pin.lags) }
     ensures unspent { IfDone result (λ _. IsUnspent order.now.budget (known pass.old) (known pass.new)) }
 {
@@ -107,11 +119,14 @@ pub(crate) fn read_or_refuse<L: Look>(
     ensures done { IfOk result (λ answer. HasDoneSuch (L.tells order.now.what.now (sizes tree.now.space) answer left.new (tree_of pass.new)) (tree_of pass.old)
         (tree_of pass.new)) }
     ensures refused { IfErr result (λ why. IsRefused (one_more why) (tree_of pass.old) (tree_of pass.new)) }
-    ensures caused { IfErr result (λ why. IsRangeCaused (sizes tree.now.space) pass.old.number order.now.budget why (known pass.old) pass.old.kept.rows
-        (known pass.new) pass.new.kept.rows) }
+    ensures untried { (tree_of pass.new).tries ≡ (tree_of pass.old).tries }
+    ensures caused { IfErr result (λ why. IsRangeCaused (L.needs order.now.what.now) (sizes tree.now.space) pass.old.number order.now.budget why (known pass.old)
+        pass.old.kept.rows (known pass.new) pass.new.kept.rows) }
     ensures few { IfErr result (λ _. KeepsFew (known pass.old) (known pass.new) pass.new.kept.rows) }
     ensures lags { EndsAtLag (known pass.old) (known pass.new) }
+    ensures bounded { IsBounded (vec_len pass.old.kept.rows) (known pass.old) (known pass.new) }
     ensures looks { IfOk result (λ _. (view pass.old).pin.looks ≤ (view pass.new).pin.looks) }
+    ensures looked { IfOk result (λ _. looked_in (known pass.old) (known pass.new) + 3 ≤ 3 * pinned_in (known pass.old) (known pass.new)) }
     ensures all_seen { IfOk result (λ _. (view pass.new).pin.lags ≡ (view pass.old).pin.lags) }
     ensures unspent { IfOk result (λ _. IsUnspent order.now.budget (known pass.old) (known pass.new)) }
 {
@@ -144,11 +159,13 @@ fn attempts<L: Look>(
     ensures works { IfOk result (λ _. GetsToWork tree.now.space pass.old pass.new) }
     ensures rests { IfErr result (λ _. StaysAtRest tree.now.space pass.old pass.new) }
     ensures come { HasRanged (λ answer. L.tells order.now.what.now (sizes tree.now.space) answer left.new) result (tree_of pass.old) (tree_of pass.new) }
-    ensures caused { IfErr result (λ why. IsRangeCaused (sizes tree.now.space) pass.old.number order.now.budget why (known pass.old) pass.old.kept.rows
-        (known pass.new) pass.new.kept.rows) }
+    ensures caused { IfErr result (λ why. IsRangeCaused (L.needs order.now.what.now) (sizes tree.now.space) pass.old.number order.now.budget why (known pass.old)
+        pass.old.kept.rows (known pass.new) pass.new.kept.rows) }
     ensures few { IfErr result (λ _. KeepsFew (known pass.old) (known pass.new) pass.new.kept.rows) }
     ensures lags { EndsAtLag (known pass.old) (known pass.new) }
+    ensures bounded { IsBounded (vec_len pass.old.kept.rows) (known pass.old) (known pass.new) }
     ensures looks { IfOk result (λ _. (view pass.old).pin.looks ≤ (view pass.new).pin.looks) }
+    ensures looked { IfOk result (λ _. looked_in (known pass.old) (known pass.new) + 3 ≤ 3 * pinned_in (known pass.old) (known pass.new)) }
     ensures all_seen { IfOk result (λ _. (view pass.new).pin.lags ≡ (view pass.old).pin.lags) }
     ensures unspent { IfOk result (λ _. IsUnspent order.now.budget (known pass.old) (known pass.new)) }
 {
@@ -202,10 +219,11 @@ fn tries<L: Look>(
     ensures tried { HasRangedTo (λ answer. L.tells order.now.what.now (sizes tree.now.space) answer left.new) (sizes tree.now.space) result (tree_of pass.old)
         (tree_of pass.new) }
     ensures counted { IsPaid spent.old spent.new (known pass.old) (known pass.new) }
-    ensures missed { HasMissedBy order.now.budget spent.new result (known pass.old) (known pass.new) }
+    ensures missed { HasMissedBy (L.needs order.now.what.now) order.now.budget spent.new result (known pass.old) (known pass.new) }
     ensures in_budget { IfOk result (λ _. total spent.new < order.now.budget) }
     ensures spent_all { result ≡ Err IsAgain → order.now.budget ≤ total spent.new }
     ensures pinned { HasPinned (known pass.old) (known pass.new) }
+    ensures paced { IsPaced (known pass.old) (known pass.new) }
 {
     loop {
         let tried = try_once(tree, pass, order, left, spent);
@@ -238,9 +256,10 @@ fn try_once<L: Look>(
     ensures tried { HasRangedTo (λ answer. L.tells order.now.what.now (sizes tree.now.space) answer left.new) (sizes tree.now.space) result (tree_of pass.old)
         (tree_of pass.new) }
     ensures counted { IsPaid spent.old spent.new (known pass.old) (known pass.new) }
-    ensures missed { HasMissedBy order.now.budget spent.new result (known pass.old) (known pass.new) }
+    ensures missed { HasMissedBy (L.needs order.now.what.now) order.now.budget spent.new result (known pass.old) (known pass.new) }
     ensures in_budget { IfOk result (λ _. total spent.new < order.now.budget) }
     ensures pinned { HasPinned (known pass.old) (known pass.new) }
+    ensures once { PinsNow (known pass.old) (known pass.new) }
 {
     tree.space.pin(pass);
     match order.what.look(tree, pass, left, order.budget, spent) {

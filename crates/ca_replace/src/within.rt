@@ -10,11 +10,12 @@ ghost use Rattle.ca_model.specs.declared.edge.Edge.TheVariants.{Open as IsOpen};
 ghost use Rattle.ca_node.specs.States.{IsReadSince};
 ghost use Rattle.ca_node.specs.Told.{IsEntered};
 ghost use Rattle.ca_node.specs.TreePasses.{tree_of};
+ghost use Rattle.ca_range.specs.Looking.{IsNotEnough};
 ghost use Rattle.ca_range.specs.Snapshots.{HasRun, IsRemembered};
 ghost use Rattle.ca_replace.specs.Attempting.{IsPaid, total};
-ghost use Rattle.ca_replace.specs.Ranging.{HasMissedBy, IsAtWork};
+ghost use Rattle.ca_replace.specs.Ranging.{HasMissedBy, IsAtWork, MayTryAgain, NeverVanishes};
 ghost use Rattle.ca_replace.specs.Running.{all_of};
-ghost use Rattle.ca_replace.specs.Within.{FindsAbove, HasLearnt, HasOpened, above_event};
+ghost use Rattle.ca_replace.specs.Within.{FindsAbove, HasLearnt, HasOpened, NeedsAbove, above_event};
 ghost use Rattle.ca_rows.specs.Passes.{KeepsList, OnlyReads, IsReading, sizes, known};
 
 use crate::ending::{Read, enter, enter_run};
@@ -43,6 +44,10 @@ impl<F: Fn(&[u8]) -> bool> Look for RangeCall<'_, F> {
         × MayBeAskedForAll F.Fn call.sought.counts.now z.keypos };
 
     ghost tells = { λ call z whole opened u event. HasOpened F.Fn call.sought z whole opened u event };
+
+    ghost needs = { λ call note. IsNotEnough F.Fn call.sought note };
+
+    ghost vanished = { λ call z. NeverVanishes };
 
     fn look(
         &self,
@@ -81,6 +86,10 @@ impl Look for AboveCall<'_> {
     ghost may = { λ call z. IsProperBound (bound_of call.lo) };
 
     ghost tells = { λ call z found into u event. FindsAbove (bound_of call.lo) found into.items event };
+
+    ghost needs = { λ call note. NeedsAbove (bound_of call.lo) note };
+
+    ghost vanished = { λ call z. NeverVanishes };
 
     fn look(
         &self,
@@ -174,7 +183,8 @@ pub(crate) fn snap<F: Fn(&[u8]) -> bool>(
     ensures run { IfOk result (λ run. HasRun F.Fn sought.now (sizes tree.now.space) (tree_of pass.new) run) }
     ensures met { IfOk result (λ _. HasMet 0 0 (known pass.old) (known pass.new)) }
     ensures counted { IsPaid spent.old spent.new (known pass.old) (known pass.new) }
-    ensures missed { HasMissedBy budget spent.new result (known pass.old) (known pass.new) }
+    ensures missed { HasMissedBy (IsNotEnough F.Fn sought.now) budget spent.new result (known pass.old) (known pass.new) }
+    ensures again { IfErr result (λ why. MayTryAgain NeverVanishes why (known pass.old) (known pass.new)) }
     ensures in_budget { IfOk result (λ _. total spent.new < budget) }
 {
     let mut account = Account::new();

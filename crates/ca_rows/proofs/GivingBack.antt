@@ -38,6 +38,7 @@ module _ {U : Type 0} where
     same_made = refl;
     same_number = refl;
     same_pinned = refl;
+    same_pins = refl;
     same_told = refl;
     same_moment = refl;
     same_entered = refl;
@@ -65,6 +66,7 @@ module _ {U : Type 0} where
         same_made = y.same_made ∙ x.same_made;
         same_number = y.same_number ∙ x.same_number;
         same_pinned = y.same_pinned ∙ x.same_pinned;
+        same_pins = y.same_pins ∙ x.same_pins;
         same_told = y.same_told ∙ x.same_told;
         same_moment = y.same_moment ∙ x.same_moment;
         same_entered = y.same_entered ∙ x.same_entered;
@@ -130,6 +132,7 @@ module _ {U : Type 0} where
           same_made = refl;
           same_number = refl;
           same_pinned = refl;
+          same_pins = refl;
           same_told = refl;
           same_moment = refl;
           same_entered = refl;

@@ -193,6 +193,7 @@ module _ {U : Type 0} (linked lent : List ℕ → ℕ → Type 0) (noted : List 
                   record d.pin {
                     pinned =
                         true;
+                    pins = d.pin.pins + 1;
                     moment =
                         epoch s.words;
                     entered =
@@ -209,6 +210,7 @@ module _ {U : Type 0} (linked lent : List ℕ → ℕ → Type 0) (noted : List 
           record d.pin {
             pinned =
                 true;
+            pins = d.pin.pins + 1;
             moment =
                 epoch s.words;
             entered =
@@ -311,6 +313,7 @@ module _ {U : Type 0} (linked lent : List ℕ → ℕ → Type 0) (noted : List 
               record me.0.pin {
                 pinned =
                     true;
+                pins = me.0.pin.pins + 1;
                 moment = epoch s.words;
                 entered = met_of me;
                 begun = begun_of me;

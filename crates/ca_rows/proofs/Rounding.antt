@@ -37,6 +37,7 @@ module _ {U : Type 0} where
         same_made = refl;
         same_number = refl;
         same_pinned = refl;
+        same_pins = refl;
         same_told = refl;
         same_moment = refl;
         same_entered = refl;
@@ -63,6 +64,7 @@ module _ {U : Type 0} where
     same_made = refl;
     same_number = refl;
     same_pinned = refl;
+    same_pins = refl;
     same_told = refl;
     same_moment = refl;
     same_entered = refl;

@@ -1,5 +1,5 @@
 -- What the calls of a space come to.
-use Rattle.std.specs.Prelude.{◌≡◌, ◌≢◌, ℕ, ◌<◌, ◌≤◌, Bool, true, false, List, length, slice_set}
+use Rattle.std.specs.Prelude.{◌≡◌, ◌≢◌, ℕ, ◌+◌, ◌<◌, ◌≤◌, Bool, true, false, List, length, slice_set}
 use mathlib.Core.Option.{some, none}
 use Rattle.atomic_table.specs.Table.{Step}
 use Rattle.atomic_table.specs.declared.shared.Seat.{Seat}
@@ -68,13 +68,14 @@ module _ {U : Type 0} where
       → m'
       ≡ (record m.0 { claims = claimed row (Holds (slice_set its index value)) m.0.claims }, m.1)
 
-  -- The pass is pinned: it announced an epoch, at one that isn't lower. What it had met of the pool
-  -- is noted, and which rows are its.
+  -- The pass is pinned: it announced an epoch, at one that isn't lower, and that is counted. What it
+  -- had met of the pool is noted, and which rows are its.
   abbrev pub Pins : (U → U) → Mine U → Mine U → Type 0
   Pins enters m m' = (told : ℕ) × (moment : ℕ) × (told ≤ moment) × (m' ≡ (
     record m.0 {
       pin = record m.0.pin {
         pinned = true;
+        pins = m.0.pin.pins + 1;
         told = told;
         moment = moment;
         entered = met_of m;

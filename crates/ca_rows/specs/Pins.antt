@@ -15,6 +15,7 @@ abbrev pub unpinned : ℕ → Pin
 unpinned number = record {
   number = number;
   pinned = false;
+  pins = 0;
   told = 0;
   moment = 0;
   entered = nothing_met;

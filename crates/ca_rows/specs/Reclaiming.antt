@@ -21,6 +21,7 @@ module _ {U : Type 0} where
     pub same_made : m'.0.made ≡ m.0.made
     pub same_number : m'.0.pin.number ≡ m.0.pin.number
     pub same_pinned : m'.0.pin.pinned ≡ m.0.pin.pinned
+    pub same_pins : m'.0.pin.pins ≡ m.0.pin.pins
     pub same_told : m'.0.pin.told ≡ m.0.pin.told
     pub same_moment : m'.0.pin.moment ≡ m.0.pin.moment
     pub same_entered : m'.0.pin.entered ≡ m.0.pin.entered

@@ -104,12 +104,19 @@ module _ {U : Type 0} where
   abbrev pub Asked : Step (Unit {0}) → Mine U → ℕ → Mine U → Type 0
   Asked st m n m' = (n ≤ 4611686018427387904) × (m' ≡ with_pin m (record m.0.pin { told = n }))
 
-  -- It was announced, at an epoch that isn't lower. What the seat has met of the pool until then is noted, and which rows are its.
+  -- It was announced, at an epoch that isn't lower, and that is counted. What the seat has met of the pool until then is noted, and which rows are its.
   abbrev pub Announced : (U → U) → Step (Unit {0}) → Mine U → ℕ → Mine U → Type 0
   Announced enters st m n m' = (moment : ℕ) × (m.0.pin.told ≤ moment)
       × (m' ≡ (
         record m.0 {
-          pin = record m.0.pin { pinned = true; moment = moment; entered = met_of m; begun = begun_of m; begun_at = m.0.pin.looks };
+          pin = record m.0.pin {
+            pinned = true;
+            pins = m.0.pin.pins + 1;
+            moment = moment;
+            entered = met_of m;
+            begun = begun_of m;
+            begun_at = m.0.pin.looks;
+          };
           upper = enters m.0.upper;
         },
         m.1,

@@ -44,6 +44,8 @@ pub struct Pin {
     /// The number of its pass, or 0.
     pub number: u64,
     pub pinned: bool,
+    /// How often it announced an epoch.
+    pub pins: u64,
     /// The epoch that it announces.
     pub told: u64,
     /// The epoch as it announced.

@@ -4,7 +4,7 @@ use Rattle.ca_base.specs.Taking.{lent_of}
 use Rattle.ca_node.specs.JoinSteps.{attempt_of, joins_secured, joins_too_late, own_too_late, securing}
 use Rattle.ca_node.specs.Laws.{in_nothing}
 use Rattle.ca_node.specs.Told.{MyTree}
-use Rattle.ca_node.specs.TreeView.{Quiet, Secured, TreeView}
+use Rattle.ca_node.specs.TreeView.{Quiet, Secured, TreeView, one_overtaken}
 use Rattle.ca_adapt.specs.Trying.{IsJoinSteps}
 use Rattle.ca_adapt.proofs.Concluded.{concluded_late, concluded_lost, concluded_won, own_steps}
 use Rattle.ca_adapt.proofs.JoinHeld.{raised_held, relinked_held}
@@ -56,7 +56,7 @@ pub returns-then-not-secure_join-clause-steps : goal.returns-then-not-secure_joi
 returns-then-not-secure_join-clause-steps c = let u = c.args.pass.now.seat.me.0.upper in let z = c.args.space.now.table.shared.key in
     let x = attempt_of c.args.pair.attempt.route c.args.pair.attempt.number in
     subst (λ (v : TreeView). IsJoinSteps z u v) (sym (c.give_back.ensures.frame.same.4 ∙ ap (λ (y : MyTree). y.0.upper) c.if-not-secure_join.ensures.done))
-    (own_steps z u Quiet (joins_too_late x u.ranges.joins))
+    (own_steps z u Quiet (joins_too_late x u.ranges.joins) (one_overtaken u.tries))
 
 pub returns-then-not-secure_join-clause-done : goal.returns-then-not-secure_join-clause-done
 returns-then-not-secure_join-clause-done c = concluded_late c.args.pair.attempt c.args.pass.now.seat.me
@@ -105,7 +105,7 @@ returns-then-unite-clause-steps c = let u = c.args.pass.now.seat.me.0.upper in l
     let x = attempt_of c.args.pair.attempt.route c.args.pair.attempt.number in
     steps_both z u c.secure_join.new.pass.seat.me.0.upper c.unite.new.pass.seat.me.0.upper
     (subst (λ (v : TreeView). IsJoinSteps z u v) (sym (ap (λ (y : MyTree). y.0.upper) c.if-not-secure_join.ensures.done))
-    (own_steps z u (Secured x) (joins_secured x u.ranges.joins))) c.unite.ensures.steps
+    (own_steps z u (Secured x) (joins_secured x u.ranges.joins) u.tries)) c.unite.ensures.steps
 
 pub returns-then-unite-clause-done : goal.returns-then-unite-clause-done
 returns-then-unite-clause-done c = concluded_won c.args.pair.attempt c.args.pass.now.seat.me c.secure_join.new.pass.seat.me
@@ -128,7 +128,7 @@ returns-else-unite-clause-steps c = let u = c.args.pass.now.seat.me.0.upper in l
     let x = attempt_of c.args.pair.attempt.route c.args.pair.attempt.number in
     steps_both z u c.secure_join.new.pass.seat.me.0.upper c.unite.new.pass.seat.me.0.upper
     (subst (λ (v : TreeView). IsJoinSteps z u v) (sym (ap (λ (y : MyTree). y.0.upper) c.if-not-secure_join.ensures.done))
-    (own_steps z u (Secured x) (joins_secured x u.ranges.joins))) c.unite.ensures.steps
+    (own_steps z u (Secured x) (joins_secured x u.ranges.joins) u.tries)) c.unite.ensures.steps
 
 pub returns-else-unite-clause-done : goal.returns-else-unite-clause-done
 returns-else-unite-clause-done c = concluded_lost c.args.pair.attempt c.args.pass.now.seat.me c.secure_join.new.pass.seat.me

@@ -1,4 +1,4 @@
-use Rattle.std.proofs.Common.{◌≡◌, true, false, sym, ap, ◌∙◌, subst}
+use Rattle.std.proofs.Common.{◌≡◌, true, false, sym, ap, ◌∙◌}
 use Rattle.ca_node.specs.LoneStays.{none_by_quiet}
 use Rattle.ca_node.specs.Told.{MyTree}
 use Rattle.ca_range.proofs.JoinsFinished.{finished_read}

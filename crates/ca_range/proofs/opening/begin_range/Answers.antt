@@ -8,13 +8,13 @@ use Rattle.ca_node.specs.Told.{MyTree, IsSettled}
 use Rattle.ca_node.specs.TreeView.{TreeView}
 use Rattle.ca_range.specs.Looking.{IsFirst, IsNotEnough}
 use Rattle.ca_range.proofs.NextNumbers.{numbered_first, taken_goes, taken_met, taken_spent, upper_taken}
-use Rattle.ca_range.proofs.OwnSteps.{ready_stays}
-use Rattle.ca_range.proofs.SnapshotSteps.{crossed_turns, more_turns, snapped_after}
+use Rattle.ca_range.proofs.GoingOn.{begun_after}
+use Rattle.ca_range.proofs.SnapshotSteps.{crossed_turns, more_turns}
 use Rattle.ca_rows.specs.Layout.{last_sequence}
 use Rattle.ca_range.proofs.opening.begin_range.Goals as goal
 
-pub returns-in_default-clause-snapped : goal.returns-in_default-clause-snapped
-returns-in_default-clause-snapped g c = let m = c.args.pass.now.seat.me in let sought = c.args.search.now.sought.now in
+pub returns-in_default-clause-begun : goal.returns-in_default-clause-begun
+returns-in_default-clause-begun g c = let m = c.args.pass.now.seat.me in let sought = c.args.search.now.sought.now in
     subst (λ (x : MyTree). HasMet 0 0 m x × (x.0.upper.ranges.sequence ≡ some last_sequence) × IsNotEnough g.F.Fn sought x.0.upper.last)
     (sym c.in_default.ensures.numbered) ((omega arith, omega arith), refl, c.requires.needed)
 
@@ -31,10 +31,9 @@ begin_with-requires-clause-settled g c = let n = c.in-Some.ensures.numbered in
 
 pub returns-in-Ok-clause-frame : goal.returns-in-Ok-clause-frame
 returns-in-Ok-clause-frame g c = let n = c.in-Some.ensures.numbered in
-    ready_stays c.args.space.now c.args.pass.now c.begin_with.new.pass
     (taken_goes c.args.space.now c.args.pass.now c.next_number.new.pass c.take_two.new.pass n.0 c.next_number.ensures.frame n.1 c.take_two.ensures.frame
     c.begin_with.new.pass c.args.account.now.spent c.take_two.new.spent c.begin_with.new.account.spent c.take_two.ensures.counted
-    c.begin_with.ensures.goes).frame c.requires.quiet c.begin_with.ensures.quiet
+    c.begin_with.ensures.goes).frame
 
 pub returns-in-Ok-clause-steps : goal.returns-in-Ok-clause-steps
 returns-in-Ok-clause-steps g c = let n = c.in-Some.ensures.numbered in
@@ -48,18 +47,18 @@ returns-in-Ok-clause-counted g c = let n = c.in-Some.ensures.numbered in
     c.begin_with.new.pass c.args.account.now.spent c.take_two.new.spent c.begin_with.new.account.spent c.take_two.ensures.counted
     c.begin_with.ensures.goes).counted
 
-pub returns-in-Ok-clause-snapped : goal.returns-in-Ok-clause-snapped
-returns-in-Ok-clause-snapped g c = let n = c.in-Some.ensures.numbered in let m = c.args.pass.now.seat.me in let k = c.take_two.new.pass.seat.me in
-    snapped_after g.F.Fn c.args.search.now.sought.now c.args.space.now.table.shared.key c.args.search.now.budget c.begin_with.new.account.spent
+pub returns-in-Ok-clause-begun : goal.returns-in-Ok-clause-begun
+returns-in-Ok-clause-begun g c = let n = c.in-Some.ensures.numbered in let m = c.args.pass.now.seat.me in let k = c.take_two.new.pass.seat.me in
+    begun_after g.F.Fn c.args.search.now.sought.now c.args.space.now.table.shared.key c.args.search.now.budget c.begin_with.new.account.spent
     c.begin_with.result m k c.begin_with.new.pass.seat.me
     (taken_met c.args.space.now c.args.pass.now c.next_number.new.pass c.take_two.new.pass n.0 c.next_number.ensures.frame n.1 c.take_two.ensures.frame
     c.in-Ok.ensures.found.0)
     (more_turns c.args.account.now.spent c.take_two.new.spent m k
     (taken_spent c.args.space.now c.args.pass.now c.next_number.new.pass c.take_two.new.pass n.0 c.next_number.ensures.frame n.1 c.take_two.ensures.frame
-    c.args.account.now.spent c.take_two.new.spent c.take_two.ensures.counted)) c.begin_with.ensures.snapped
+    c.args.account.now.spent c.take_two.new.spent c.take_two.ensures.counted)) c.begin_with.ensures.begun
 
-pub returns-in-Err-Lost-clause-snapped : goal.returns-in-Err-Lost-clause-snapped
-returns-in-Err-Lost-clause-snapped g c = let n = c.in-Some.ensures.numbered in let m = c.args.pass.now.seat.me in let k = c.take_two.new.pass.seat.me in
+pub returns-in-Err-Lost-clause-begun : goal.returns-in-Err-Lost-clause-begun
+returns-in-Err-Lost-clause-begun g c = let n = c.in-Some.ensures.numbered in let m = c.args.pass.now.seat.me in let k = c.take_two.new.pass.seat.me in
     let f = subst (λ (s : Stop). HasStoppedBy s c.next_number.new.pass.seat.me k) c.in-Err-Lost.field-0-is c.in-Err-Lost.ensures.found in
     let before = ap losses n.1 in let more = f.0 in let lost : losses m < losses k = omega arith in (
       taken_met c.args.space.now c.args.pass.now c.next_number.new.pass c.take_two.new.pass n.0 c.next_number.ensures.frame n.1 c.take_two.ensures.frame f.1,

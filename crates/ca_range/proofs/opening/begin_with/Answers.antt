@@ -7,8 +7,7 @@ use Rattle.ca_node.specs.Told.{MyTree, IsSettled}
 use Rattle.ca_node.specs.TreeView.{TreeView, Turns}
 use Rattle.ca_range.specs.Looking.{IsFirst}
 use Rattle.ca_range.specs.Opening.{begun_at}
-use Rattle.ca_range.proofs.OwnFirst.{first_gathered, first_goes, first_ready, first_ready_now, lost_now, met_now, turns_now}
-use Rattle.ca_range.proofs.OwnSteps.{goes_both, snapped_by}
+use Rattle.ca_range.proofs.OwnFirst.{first_begun, first_goes, first_ready, lost_now, met_now, turns_now}
 use Rattle.ca_range.proofs.SnapshotSteps.{crossed_turns, more_turns, no_less, no_less_both}
 use Rattle.ca_range.proofs.opening.begin_with.Goals as goal
 
@@ -30,8 +29,8 @@ returns-then-not-put_first-clause-goes g c = first_goes c.args.space.now c.args.
     c.write_first.ensures.frame c.write_first.ensures.written.only c.open_own.ensures.frame c.open_own.ensures.opened c.put_first.ensures.frame
     c.if-not-put_first.ensures.done c.args.account.now.spent c.put_first.new.spent c.put_first.ensures.counted
 
-pub returns-then-not-put_first-clause-snapped : goal.returns-then-not-put_first-clause-snapped
-returns-then-not-put_first-clause-snapped g c = let m = c.args.pass.now.seat.me in let k = c.open_own.new.pass.seat.me in let l = c.put_first.new.pass.seat.me in
+pub returns-then-not-put_first-clause-begun : goal.returns-then-not-put_first-clause-begun
+returns-then-not-put_first-clause-begun g c = let m = c.args.pass.now.seat.me in let k = c.open_own.new.pass.seat.me in let l = c.put_first.new.pass.seat.me in
     let d = c.if-not-put_first.ensures.done in let begun = begun_at c.args.rows.own (bound_of c.args.search.now.sought.now.lo) in
     let met = met_now c.args.space.now c.args.pass.now c.first_mark-mark.new.pass c.write_first.new.pass c.open_own.new.pass
     c.put_first.new.pass false c.args.rows begun c.first_mark-mark.ensures.frame
@@ -46,37 +45,15 @@ returns-then-not-put_first-clause-snapped g c = let m = c.args.pass.now.seat.me 
     let more = c.put_first.ensures.lost c.if-not-put_first.true in let lost : losses m < losses l = omega (arith, before, more) in
     (met_both 0 0 0 0 m k l met c.put_first.ensures.met, crossed_turns m l less (inl lost), inl (inl lost))
 
-pub gather-requires-clause-ready : goal.gather-requires-clause-ready
-gather-requires-clause-ready g c = let o = c.requires.owner in
-    first_ready_now c.args.space.now c.args.pass.now c.first_mark-mark.new.pass c.write_first.new.pass c.open_own.new.pass
-    c.put_first.new.pass true c.args.rows (begun_at c.args.rows.own (bound_of c.args.search.now.sought.now.lo)) c.first_mark-mark.ensures.frame
-    c.write_first.ensures.frame c.write_first.ensures.written.only c.open_own.ensures.frame c.open_own.ensures.opened c.put_first.ensures.frame
-    c.if-not-put_first.ensures.done o.reading.own c.requires.numbered o.reading.pinned (subst (λ (n : ℕ). 0 < n) (sym o.same_number) o.some_number)
-    c.args.account.now.spent c.put_first.new.spent c.put_first.ensures.counted
-
-pub gather-requires-clause-gathering : goal.gather-requires-clause-gathering
-gather-requires-clause-gathering g c = let z = c.args.space.now.table.shared.key in let p = c.first_mark-mark.new.pass in let e = c.first_mark-mark.ensures in
-    let o = c.requires.owner in let still = e.frame.still in let lo = bound_of c.args.search.now.sought.now.lo in
-    let copy = c.requires.held.0.0.each c.args.rows.copy (0, refl) in let border = c.requires.held.0.0.each c.args.rows.own.border (1, refl) in
-    first_gathered z p.seat.me c.write_first.new.pass.seat.me c.open_own.new.pass.seat.me c.args.rows c.args.first p.number lo
-    (bound_of c.args.search.now.sought.now.hi) c.first_mark-mark.result
-    (subst (λ (x : MyTree). IsFirst z lo x.0.upper c.args.first) (sym still) c.requires.first)
-    (e.frame.number ∙ (sym o.same_number ∙ sym (ap (λ (x : MyTree). x.0.upper.number) still)))
-    (e.range.0 ∙ sym e.frame.number) e.range.1 e.back e.bound c.requires.number.3 c.write_first.ensures.written c.open_own.ensures.opened
-    g.F.Fn c.args.search.now.sought.now c.put_first.new.pass.seat.me c.if-not-put_first.ensures.done refl refl copy.0 copy.1 border.1
-    (subst (λ (n : ℕ). 0 < n) (sym e.frame.number) o.some_number) (subst (λ (n : ℕ). n ≤ 64) (sym e.frame.number) o.few)
-
 pub returns-clause-goes : goal.returns-clause-goes
-returns-clause-goes g c = goes_both c.args.space.now c.args.account.now.spent c.put_first.new.spent c.gather.new.account.spent c.args.pass.now
-    c.put_first.new.pass c.gather.new.pass
-    (first_goes c.args.space.now c.args.pass.now c.first_mark-mark.new.pass c.write_first.new.pass c.open_own.new.pass
+returns-clause-goes g c = first_goes c.args.space.now c.args.pass.now c.first_mark-mark.new.pass c.write_first.new.pass c.open_own.new.pass
     c.put_first.new.pass true c.args.rows (begun_at c.args.rows.own (bound_of c.args.search.now.sought.now.lo)) c.first_mark-mark.ensures.frame
     c.write_first.ensures.frame c.write_first.ensures.written.only c.open_own.ensures.frame c.open_own.ensures.opened c.put_first.ensures.frame
-    c.if-not-put_first.ensures.done c.args.account.now.spent c.put_first.new.spent c.put_first.ensures.counted) c.gather.ensures.goes
+    c.if-not-put_first.ensures.done c.args.account.now.spent c.put_first.new.spent c.put_first.ensures.counted
 
-pub returns-clause-snapped : goal.returns-clause-snapped
-returns-clause-snapped g c = let m = c.args.pass.now.seat.me in let k = c.open_own.new.pass.seat.me in let l = c.put_first.new.pass.seat.me in
-    let n = c.gather.new.pass.seat.me in let d = c.if-not-put_first.ensures.done in
+pub returns-clause-begun : goal.returns-clause-begun
+returns-clause-begun g c = let m = c.args.pass.now.seat.me in let k = c.open_own.new.pass.seat.me in let l = c.put_first.new.pass.seat.me in
+    let d = c.if-not-put_first.ensures.done in
     let begun = begun_at c.args.rows.own (bound_of c.args.search.now.sought.now.lo) in
     let met = met_now c.args.space.now c.args.pass.now c.first_mark-mark.new.pass c.write_first.new.pass c.open_own.new.pass
     c.put_first.new.pass true c.args.rows begun c.first_mark-mark.ensures.frame
@@ -89,7 +66,14 @@ returns-clause-snapped g c = let m = c.args.pass.now.seat.me in let k = c.open_o
     c.write_first.ensures.frame c.write_first.ensures.written.only c.open_own.ensures.frame c.open_own.ensures.opened c.put_first.ensures.frame d in
     let helped = ap (λ (t : Turns). t.helped) turns in let passed = ap (λ (t : Turns). t.passed) turns in
     let helped' = ap (λ (u : TreeView). u.turns.helped) d.2 in let passed' = ap (λ (u : TreeView). u.turns.passed) d.2 in
-    let more = c.put_first.ensures.counted.lost.more in
-    snapped_by g.F.Fn c.args.search.now.sought.now c.args.space.now.table.shared.key c.args.search.now.budget c.gather.new.account.spent c.gather.result m l n
-    (met_both 0 0 0 0 m k l met c.put_first.ensures.met) (record { lost = omega arith; helped = omega arith; passed = omega arith }) (omega arith)
-    (more_turns c.put_first.new.spent c.gather.new.account.spent l n c.gather.ensures.goes.counted) c.gather.ensures.ended
+    let e = c.first_mark-mark.ensures in let z = c.args.space.now.table.shared.key in let p = c.first_mark-mark.new.pass in
+    let o = c.requires.owner in let still = e.frame.still in let lo = bound_of c.args.search.now.sought.now.lo in
+    let copy = c.requires.held.0.0.each c.args.rows.copy (0, refl) in let border = c.requires.held.0.0.each c.args.rows.own.border (1, refl) in
+    first_begun z p.seat.me c.write_first.new.pass.seat.me c.open_own.new.pass.seat.me c.args.rows c.args.first p.number lo
+    (bound_of c.args.search.now.sought.now.hi) c.first_mark-mark.result
+    (subst (λ (x : MyTree). IsFirst z lo x.0.upper c.args.first) (sym still) c.requires.first)
+    (e.frame.number ∙ (sym o.same_number ∙ sym (ap (λ (x : MyTree). x.0.upper.number) still)))
+    (e.range.0 ∙ sym e.frame.number) e.range.1 e.back e.bound c.requires.number.3 c.write_first.ensures.written c.open_own.ensures.opened
+    g.F.Fn c.args.search.now.sought.now l c.args.search.now.budget c.put_first.new.spent d refl refl copy.0 copy.1 border.1
+    (subst (λ (n : ℕ). 0 < n) (sym e.frame.number) o.some_number) (subst (λ (n : ℕ). n ≤ 64) (sym e.frame.number) o.few) m
+    (met_both 0 0 0 0 m k l met c.put_first.ensures.met) (let h = passed in let h' = passed' in omega arith)

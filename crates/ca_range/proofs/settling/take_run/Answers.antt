@@ -1,4 +1,4 @@
-use Rattle.std.proofs.Common.{◌<◌, ℕ, true, sym, ap, ◌∙◌, subst, arith}
+use Rattle.std.proofs.Common.{◌<◌, ℕ, true, sym, ap, ◌∙◌, subst}
 use Rattle.ca_base.proofs.Counts.{met_both}
 use Rattle.ca_node.specs.OwnRanges.{IsKnownEnded}
 use Rattle.ca_node.specs.TreeView.{TreeView}

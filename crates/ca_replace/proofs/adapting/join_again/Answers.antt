@@ -8,6 +8,7 @@ use Rattle.ca_replace.proofs.Counted.{none_paid, paid_but}
 use Rattle.ca_replace.proofs.DueCauses.{elsewhere_met}
 use Rattle.ca_replace.proofs.DueJoins.{hung_under, join_cut, join_further, join_grows, join_met, join_paid, join_won, joins_there}
 use Rattle.ca_replace.proofs.GoingOn.{led_elsewhere}
+use Rattle.ca_replace.proofs.JoinHelps.{joined_on}
 use Rattle.ca_replace.proofs.Growing.{alone_on, same_grows}
 use Rattle.ca_replace.proofs.Showing.{walked_further, walked_listed, walked_quiet}
 use Rattle.ca_replace.proofs.Winning.{comes_there}
@@ -76,7 +77,8 @@ pub returns-clause-counted : goal.returns-clause-counted
 returns-clause-counted c = join_paid c.args.tree.now.space.table.shared.key c.args.placed.now.key c.args.placed.now.row c.args.pass.now.seat.me
     c.walk-cursor.new.pass.seat.me c.try_join.new.pass.seat.me c.walk-cursor.result c.try_join.result c.requires.placed
     c.walk-cursor.ensures.walked c.if-cursor-placed.false c.try_join.ensures.steps c.args.spent.now c.try_join.new.spent
-    c.try_join.ensures.counted
+    (joined_on c.args.tree.now.space.table.shared.key c.walk-cursor.result.link (first_note c.walk-cursor.new.pass.seat.me.0.upper.notes)
+    c.try_join.result c.walk-cursor.new.pass.seat.me c.try_join.new.pass.seat.me c.try_join.ensures.joined) c.try_join.ensures.counted
 
 pub returns-clause-cut : goal.returns-clause-cut
 returns-clause-cut c = join_cut c.args.tree.now.space.table.shared.key c.args.placed.now.key c.args.placed.now.row c.args.pass.now.seat.me

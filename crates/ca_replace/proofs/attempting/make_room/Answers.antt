@@ -5,7 +5,7 @@ use Rattle.ca_replace.proofs.GoingOn.{split_further}
 use Rattle.std.proofs.Common.{◌≡◌, true, false, Err, Option, Some, refl, sym, ap, ◌∙◌, subst, arith}
 use Rattle.ca_node.specs.declared.cursor.Cursor.{Cursor}
 use Rattle.ca_replace.specs.Attempting.{BeginsAt}
-use Rattle.ca_replace.proofs.Again.{again_after, deep_stays, split_alike, split_stays}
+use Rattle.ca_replace.proofs.Again.{again_after, deep_stays, split_stays}
 use Rattle.ca_replace.proofs.Growing.{made_room}
 use Rattle.ca_replace.proofs.Showing.{shown_last}
 use Rattle.ca_replace.proofs.Cutting.{made_cut}
@@ -76,8 +76,3 @@ pub returns-then-cursor-tree-clause-stays : goal.returns-then-cursor-tree-clause
 returns-then-cursor-tree-clause-stays c key looking = let h = deep_stays c.args.tree.now.space.table.shared.key
     key c.args.cursor c.args.pass.now.seat.me.0.upper looking in
     (h.0, h.1, λ _. h.2)
-
-pub returns-clause-same_seen : goal.returns-clause-same_seen
-returns-clause-same_seen c = split_alike c.args.many _ c.split_at-split.result
-    c.args.pass.now.seat.me.0.upper c.split_at-split.new.pass.seat.me.0.upper
-    c.split_at-split.ensures.split

@@ -9,6 +9,7 @@ use Rattle.ca_replace.specs.Causes.{IsFullSince, IsRefill}
 use Rattle.ca_replace.specs.Attempting.{HasStopped, total}
 use Rattle.ca_replace.specs.Growing.{HasWaited}
 use Rattle.ca_replace.proofs.Causing.{caused_as, few_from, nearer, refill_caused}
+use Rattle.ca_replace.proofs.Pacing.{bounded_by, bounded_yet, kept_more, none_yet, paid_more}
 use Rattle.ca_replace.proofs.Pinning.{begun_with, empty_before}
 use Rattle.ca_replace.proofs.Counted.{none_paid, paid_both, paid_given, spends_more, paid_stopped}
 use Rattle.ca_replace.proofs.GoingOn.{gone_on, idle_waits, refused_gone, stopped_waits, waits_on}
@@ -43,7 +44,7 @@ loop-come-init g c = record {
   unspent = let none = c.requires.none in let some = c.requires.budget in
       omega (arith, none.0, none.1, none.2);
   waits = idle_waits c.args.course.now.adapting c.args.pass.now.seat.me.0.upper
-      c.args.pass.now.seat.me.0.upper (refl, refl);
+      c.args.pass.now.seat.me.0.upper (refl, refl, refl);
   won = λ _. refl;
   waited = λ _. inl (refl, refl);
   full = none_full c.args.tree.now.space.table.shared.key
@@ -51,6 +52,7 @@ loop-come-init g c = record {
       c.args.pass.now.seat.me.0.upper.cuts refl;
   worn = refl;
   first = inl (refl, refl);
+  yet = none_yet _ _ c.args.pass.now.seat.me;
 }
 
 pub turns-come-requires-clause-resting : goal.turns-come-requires-clause-resting
@@ -85,7 +87,15 @@ loop-come-preserved g c = let i = c.loop-come.invariant in
     let last = c.refill.new.pass.seat.me in let empty = c.if-is_empty.ensures.0 refl in
     let met = subst
     (λ (x : Result _ Halt). HasStopped x before behind) empty c.turns-come.ensures.found in
-    let given = c.refill.ensures.gave.met in record {
+    let given = c.refill.ensures.gave.met in
+    let emptied = empty_before (vec_len c.loop-come.pass.kept.rows) c.kept-kept.result
+    (vec_len c.refill.new.pass.kept.rows) start before behind last
+    c.args.pass.now.kept.rows c.kept-kept.ensures (c.in_default.ensures.again refl).some
+    (let one = i.counted.more in let two = (paid_stopped c.turns-come.result empty_halt c.loop-come.course.spent c.turns-come.new.course.spent
+    c.loop-come.pass.seat.me c.turns-come.new.pass.seat.me (c.if-is_empty.ensures.0 refl) c.turns-come.ensures.counted).more in
+    omega arith)
+    (c.in_default.ensures.again refl).begins i.first met given
+    c.turns-come.ensures.pinned c.refill.ensures.gave.lags c.refill.ensures.looked in record {
       number = c.refill.ensures.frame.number ∙ (c.turns-come.ensures.frame.number ∙ i.number);
       resting = c.refill.ensures.frame.resting;
       further = subst (IsFurther start.0.upper) (sym c.refill.ensures.gave.upper)
@@ -140,15 +150,29 @@ loop-come-preserved g c = let i = c.loop-come.invariant in
       unspent = (c.in_default.ensures.again refl).unspent;
       lags = (c.in_default.ensures.again refl).unlagged
           ∙ (c.turns-come.ensures.pinned.lags ∙ i.lags);
-      first = inr (empty_before (vec_len c.loop-come.pass.kept.rows) c.kept-kept.result
-          (vec_len c.refill.new.pass.kept.rows) start before behind last
-          c.args.pass.now.kept.rows c.kept-kept.ensures (c.in_default.ensures.again refl).some
-          (let one = i.counted.more in let two = (paid_stopped c.turns-come.result empty_halt c.loop-come.course.spent c.turns-come.new.course.spent
-          c.loop-come.pass.seat.me c.turns-come.new.pass.seat.me (c.if-is_empty.ensures.0 refl) c.turns-come.ensures.counted).more in
-          omega arith)
-          (c.in_default.ensures.again refl).begins i.first met given
-          c.turns-come.ensures.pinned c.refill.ensures.gave.lags c.refill.ensures.looked);
+      first = inr emptied;
+      yet = bounded_yet (vec_len c.loop-come.pass.kept.rows) (vec_len c.args.pass.now.kept.rows) start before behind last i.yet
+          c.turns-come.ensures.paced c.turns-come.ensures.pinned.looks c.refill.ensures.gave.bounded.0 c.refill.ensures.gave.bounded.1
+          c.refill.ensures.gave.lags.1
+          (paid_more c.turns-come.new.course.spent c.refill.new.spent behind last c.refill.ensures.counted)
+          (vec_len c.refill.new.pass.kept.rows)
+          (subst (λ n. 0 < n) c.kept-kept.ensures (c.in_default.ensures.again refl).some)
+          (c.in_default.ensures.again refl).begins c.refill.ensures.gave.upper (let found = emptied.0 in omega arith) emptied.1
+          (let looked = c.refill.ensures.looked in omega arith);
     }
+
+pub returns-in-Err-clause-bounded : goal.returns-in-Err-clause-bounded
+returns-in-Err-clause-bounded g c = bounded_by (vec_len c.loop-come.pass.kept.rows) (vec_len c.args.pass.now.kept.rows) c.args.pass.now.seat.me
+    c.loop-come.pass.seat.me c.turns-come.new.pass.seat.me c.refill.new.pass.seat.me c.loop-come.invariant.yet c.turns-come.ensures.paced
+    c.turns-come.ensures.pinned.looks c.refill.ensures.gave.bounded.0 c.refill.ensures.gave.bounded.1 c.refill.ensures.gave.lags.1
+    (paid_more c.turns-come.new.course.spent c.refill.new.spent c.turns-come.new.pass.seat.me c.refill.new.pass.seat.me c.refill.ensures.counted)
+
+pub returns-else-is_empty-clause-bounded : goal.returns-else-is_empty-clause-bounded
+returns-else-is_empty-clause-bounded g c = bounded_by (vec_len c.loop-come.pass.kept.rows) (vec_len c.args.pass.now.kept.rows)
+    c.args.pass.now.seat.me c.loop-come.pass.seat.me c.turns-come.new.pass.seat.me c.keep_few.new.pass.seat.me c.loop-come.invariant.yet
+    c.turns-come.ensures.paced c.turns-come.ensures.pinned.looks c.keep_few.ensures.gave.bounded.0 c.keep_few.ensures.gave.bounded.1
+    c.keep_few.ensures.gave.lags.1
+    (kept_more c.keep_few.result c.turns-come.new.pass.seat.me c.keep_few.new.pass.seat.me c.keep_few.ensures.gave c.keep_few.ensures.lost)
 
 pub returns-in-Err-clause-few : goal.returns-in-Err-clause-few
 returns-in-Err-clause-few g c =

@@ -1,10 +1,12 @@
-use Rattle.std.proofs.Common.{◌≡◌, ℕ, false, refl, ap, ◌∙◌, sym, subst, arith}
+use Rattle.std.proofs.Common.{◌≡◌, ℕ, false, refl, ap, ◌∙◌, sym, subst, arith, vec_len}
 use Rattle.ca_rows.specs.declared.kept.KeptRows.{KeptRows}
 use Rattle.ca_model.specs.Known.{one_more}
 use Rattle.ca_replace.proofs.Causing.{caused_still, deep_adds, few_still}
 use Rattle.ca_node.specs.Told.{MyTree}
 use Rattle.ca_node.specs.States.{IsAlone}
+use Rattle.ca_range.specs.Clearing.{turns_at}
 use Rattle.ca_replace.specs.Causes.{EndsAtLag}
+use Rattle.ca_replace.proofs.Pacing.{bounded_as}
 use Rattle.ca_replace.proofs.GoingOn.{goes_leaves, leaves_refused, none_met_as}
 use Rattle.atomic_table.specs.Seated.{TableId}
 use Rattle.ca_rows.specs.declared.sizes.Sizes.{Sizes}
@@ -37,6 +39,7 @@ returns-in-Ok-clause-told g c = let space = c.args.tree.now.space.table.shared i
         c.attempts.ensures.frame.resting.few.ever,
         c.attempts.ensures.lags,
       );
+      bounded = c.attempts.ensures.bounded;
       adapted = goes_leaves (g.A.Attempt.edits c.args.order.now.what.now c.in-Ok.answer)
           space.key c.args.tree.now.tuning
           (record { lost = false; last = c.args.last.now }) c.attempts.new.course.adapting
@@ -87,9 +90,12 @@ returns-in-Err-clause-told g c = let space = c.args.tree.now.space.table.shared 
         subst (λ (m : MyTree). EndsAtLag pass.seat.me m) (sym c.give_up.ensures.counted)
             c.attempts.ensures.lags,
       );
+      bounded = bounded_as (vec_len pass.kept.rows) pass.seat.me last.seat.me behind.seat.me c.attempts.ensures.bounded
+          (ap (λ (m : MyTree). m.0.pin) c.give_up.ensures.counted) (ap turns_at c.give_up.ensures.counted);
       adapted = leaves_refused edits space.key c.args.tree.now.tuning c.args.last.now c.in-Err.why
           c.outcome_by.result pass.seat.me.0.upper behind.seat.me.0.upper c.outcome_by.ensures
-          (ap (λ (m : MyTree). m.0.upper.renewal) c.give_up.ensures.counted ∙ turns.gone_on.1);
+          (ap (λ (m : MyTree). m.0.upper.renewal) c.give_up.ensures.counted ∙ turns.gone_on.1)
+          (ap (λ (m : MyTree). m.0.upper.tries) c.give_up.ensures.counted ∙ turns.gone_on.3);
       met_as = none_met_as edits c.args.last.now c.in-Err.why c.outcome_by.result behind.seat.me
           c.outcome_by.ensures;
       grows = λ one. refused_grows space.key adds _ pass.seat.me.0.upper last.seat.me

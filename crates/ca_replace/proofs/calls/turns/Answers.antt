@@ -4,9 +4,10 @@ use Rattle.ca_rows.specs.declared.view.Pin.{Pin}
 use Rattle.ca_replace.specs.Attempting.{at_pin, total}
 use Rattle.ca_replace.specs.Causes.{IsFullSince}
 use Rattle.ca_replace.proofs.Again.{known_since, may_follow, next_since, tried_since}
-use Rattle.ca_replace.proofs.Between.{announced, first_since, may_first}
+use Rattle.ca_replace.proofs.Between.{announced, first_since, may_first, paced_once}
 use Rattle.ca_replace.proofs.Counted.{met_then, met_turn, one_turn_less, paid_before, paid_turn}
 use Rattle.ca_replace.proofs.Meeting.{further_on}
+use Rattle.ca_replace.proofs.Pacing.{paced_next, paced_on, paid_to_more, turn_more}
 use Rattle.ca_replace.proofs.Pinning.{pinned_as, pinned_once, pinned_still}
 use Rattle.ca_replace.proofs.Turns.{rests_again, rests_as, tried_unpinned, turn_further}
 use Rattle.ca_replace.proofs.Waiting.{moved_further, moved_quiet, turn_unpinned, turns_left, waits_more, waits_none, waits_quiet}
@@ -31,6 +32,7 @@ loop-course-init g c = let z = c.args.tree.now.space.table.shared.key in
           (ap (λ (x : MyTree). x.0.pin.looks) is)
           (ap (λ (x : MyTree). x.0.pin.entered.lags) is)
           (ap (λ (x : MyTree). x.0.pin.begun_at) is) (ap (λ (x : MyTree). x.0.pin.begun) is);
+      paced = paced_once c.pin.ensures.pinned.0 c.pin.ensures.pinned.1 k m is;
       unspent = c.requires.unspent;
       waiting = waits_none z (g.A.Attempt.adds c.args.order.now.what.now) _ _ k m (refl, refl)
           (moved_quiet k m pin u.seen [] [] ranges is)
@@ -95,6 +97,11 @@ loop-course-preserved g c = let z = c.args.tree.now.space.table.shared.key in
           c.attempt-tried.result k.0.upper m.0.upper n.0.upper c.attempt-tried.new.course.again c.attempt-tried.new.course.marked
           next before.since did.tried did.stays) on.since;
       pinned = on.pinned k (pinned_as k m n before.pinned did.frame.pin.1);
+      paced = paced_next k m n p before.paced did.frame.pin.1
+          (turn_more c.loop-course.course.spent c.attempt-tried.new.course.spent m n
+          (paid_turn c.attempt-tried.result c.loop-course.course.spent c.attempt-tried.new.course.spent m n next did.turn.counted)
+          (met_turn c.attempt-tried.result m n next did.turn.found).1)
+          (let none = more.met.0 in omega arith) (let none = on.quiet.met.0 in omega arith) on.quiet.lost on.quiet.same_turns on.paced;
       unspent = let room = c.if-spent_in_all-budget.false in let all = c.spent_in_all.ensures in
           let most = c.budget-budget.type_inv in let is = c.budget-budget.ensures in
           let same = ap total c.go_on.ensures.course.1 in omega arith;
@@ -184,6 +191,19 @@ returns-then-not-has_next-clause-pinned g c = let is = c.unpin.ensures.unpinned 
     (ap (λ (x : MyTree). x.0.pin.lags) is) (ap (λ (x : MyTree). x.0.pin.looks) is)
     (ap (λ (x : MyTree). x.0.pin.entered.lags) is) (ap (λ (x : MyTree). x.0.pin.begun_at) is)
     (ap (λ (x : MyTree). x.0.pin.begun) is)
+
+pub returns-then-not-has_next-clause-paced : goal.returns-then-not-has_next-clause-paced
+returns-then-not-has_next-clause-paced g c = let i = turn_unpinned (λ (x : _). g.A.Attempt.edits c.args.order.now.what.now x)
+    c.args.tree.now.space.table.shared.key (g.A.Attempt.adds c.args.order.now.what.now)
+    c.args.tree.now.tuning c.loop-course.course c.attempt-tried.new.course c.attempt-tried.result
+    c.loop-course.pass.seat.me c.attempt-tried.new.pass.seat.me c.unpin.new.pass.seat.me
+    c.attempt-tried.ensures.turn c.unpin.ensures.unpinned in
+    let out = c.unpin.ensures.unpinned in let pin = c.attempt-tried.ensures.frame.pin.1 in
+    paced_on c.args.pass.now.seat.me c.loop-course.pass.seat.me c.unpin.new.pass.seat.me c.loop-course.invariant.paced
+    (ap (λ (x : MyTree). x.0.pin.pins) out ∙ ap (λ (e : Pin). e.pins) pin)
+    (ap (λ (x : MyTree). x.0.pin.entered) out ∙ ap (λ (e : Pin). e.entered) pin)
+    (paid_to_more c.attempt-tried.result c.loop-course.course.spent c.attempt-tried.new.course.spent c.loop-course.pass.seat.me
+    c.unpin.new.pass.seat.me i.counted)
 
 pub returns-then-not-has_next-clause-turns : goal.returns-then-not-has_next-clause-turns
 returns-then-not-has_next-clause-turns g c = let z = c.args.tree.now.space.table.shared.key in

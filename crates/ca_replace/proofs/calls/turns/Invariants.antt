@@ -2,6 +2,7 @@ use Rattle.std.proofs.Common.{◌≡◌, ◌-◌, ◌<◌, false}
 use Rattle.ca_base.specs.Progress.{IsFurther}
 use Rattle.ca_replace.specs.Attempting.{at_pin, total}
 use Rattle.ca_replace.specs.Between.{MayBegin}
+use Rattle.ca_replace.specs.Bounded.{IsPaced}
 use Rattle.ca_replace.specs.Causes.{HasPinned}
 use Rattle.ca_replace.proofs.Waiting.{IsWaiting}
 use Rattle.ca_rows.specs.Calls.{IsSame}
@@ -17,6 +18,7 @@ invariant-loop-course g l = record {
   may : MayBegin l.tree.space (g.A.Attempt.about l.order.what.now) l.course.again false l.pass;
   since : IsFurther l.fn.pass.seat.me.0.upper (at_pin l.pass.seat.me.0.upper);
   pinned : HasPinned l.fn.pass.seat.me l.pass.seat.me;
+  paced : IsPaced l.fn.pass.seat.me l.pass.seat.me;
   unspent : total l.course.spent < l.order.budget;
   waiting : IsWaiting l.tree.space.table.shared.key (g.A.Attempt.adds l.order.what.now)
       l.fn.course l.course l.fn.pass.seat.me l.pass.seat.me;

@@ -1,6 +1,7 @@
 use Rattle.std.proofs.Common.{◌≡◌, ◌<◌, ◌∙◌, ℕ, Err, Ok, ap, arith, false, inl, inr, refl, subst, sym, true, vec_len}
 use Rattle.ca_base.specs.Progress.{IsFurther}
 use Rattle.ca_model.specs.declared.outcome.Cause.{Cause}
+use Rattle.ca_node.specs.TreeView.{TreeView}
 use Rattle.ca_replace.specs.Attempting.{total}
 use Rattle.ca_replace.specs.Causes.{IsRefill}
 use Rattle.ca_replace.specs.Ranging.{HasMissed, IsRangeCaused}
@@ -9,6 +10,7 @@ use Rattle.ca_replace.proofs.Causing.{few_from, nearer, unspent}
 use Rattle.ca_replace.proofs.Counted.{none_paid, paid_both, paid_given, spends_more}
 use Rattle.ca_replace.proofs.Meeting.{further_on}
 use Rattle.ca_replace.proofs.Misses.{range_caused, ranged_on, refill_range_caused}
+use Rattle.ca_replace.proofs.Pacing.{bounded_by, bounded_yet, kept_more, looked_by, none_yet, paid_more}
 use Rattle.ca_replace.proofs.Pinning.{begun_with, empty_before}
 use Rattle.ca_replace.proofs.Turns.{no_further}
 use Rattle.ca_rows.specs.declared.view.Met.{Met}
@@ -19,12 +21,14 @@ loop-answer-init g c = let m = c.args.pass.now.seat.me in record {
   number = refl;
   resting = c.requires.resting;
   further = no_further m.0.upper;
+  untried = refl;
   counted = none_paid c.args.spent.now m m refl refl;
   looks = omega arith;
   worn = refl;
   first = inl (refl, refl);
   unspent = let none = c.requires.none in let some = c.requires.budget in omega (arith, none.0, none.1, none.2);
   lags = refl;
+  yet = none_yet _ _ m;
 }
 
 pub tries-requires-clause-resting : goal.tries-requires-clause-resting
@@ -41,9 +45,10 @@ returns-in-Ok-clause-works g c = record {
 
 pub returns-in-Ok-clause-come : goal.returns-in-Ok-clause-come
 returns-in-Ok-clause-come g c = let z = c.args.tree.now.space.table.shared.key in
-    (ranged_on (λ (x : _). g.L.Look.tells c.args.order.now.what.now z x c.tries.new.left) z (Ok c.in-Ok.answer)
+    let on = ranged_on (λ (x : _). g.L.Look.tells c.args.order.now.what.now z x c.tries.new.left) z (Ok c.in-Ok.answer)
     c.args.pass.now.seat.me.0.upper c.loop-answer.pass.seat.me.0.upper c.tries.new.pass.seat.me.0.upper
-    c.loop-answer.invariant.further c.in-Ok.ensures.tried).0
+    c.loop-answer.invariant.further c.loop-answer.invariant.untried c.in-Ok.ensures.tried in
+    (on.0, on.2)
 
 pub returns-in-Ok-clause-lags : goal.returns-in-Ok-clause-lags
 returns-in-Ok-clause-lags g c = (
@@ -58,6 +63,30 @@ returns-in-Ok-clause-looks g c = let before = c.loop-answer.invariant.looks in l
 pub returns-in-Ok-clause-all_seen : goal.returns-in-Ok-clause-all_seen
 returns-in-Ok-clause-all_seen g c = c.tries.ensures.pinned.lags ∙ c.loop-answer.invariant.lags
 
+pub returns-in-Ok-clause-bounded : goal.returns-in-Ok-clause-bounded
+returns-in-Ok-clause-bounded g c = bounded_by (vec_len c.loop-answer.pass.kept.rows) (vec_len c.args.pass.now.kept.rows) c.args.pass.now.seat.me
+    c.loop-answer.pass.seat.me c.tries.new.pass.seat.me c.tries.new.pass.seat.me c.loop-answer.invariant.yet c.tries.ensures.paced
+    c.tries.ensures.pinned.looks refl (omega arith) refl (omega arith)
+
+pub returns-in-Ok-clause-looked : goal.returns-in-Ok-clause-looked
+returns-in-Ok-clause-looked g c = looked_by (vec_len c.loop-answer.pass.kept.rows) (vec_len c.args.pass.now.kept.rows) c.args.pass.now.seat.me
+    c.loop-answer.pass.seat.me c.tries.new.pass.seat.me c.tries.new.pass.seat.me c.loop-answer.invariant.yet c.tries.ensures.paced
+    c.tries.ensures.pinned.looks refl (omega arith) refl (omega arith) refl
+
+pub returns-then-not-is_without_row-clause-bounded : goal.returns-then-not-is_without_row-clause-bounded
+returns-then-not-is_without_row-clause-bounded g c = bounded_by (vec_len c.loop-answer.pass.kept.rows) (vec_len c.args.pass.now.kept.rows)
+    c.args.pass.now.seat.me c.loop-answer.pass.seat.me c.tries.new.pass.seat.me c.keep_few.new.pass.seat.me c.loop-answer.invariant.yet
+    c.tries.ensures.paced c.tries.ensures.pinned.looks c.keep_few.ensures.gave.bounded.0 c.keep_few.ensures.gave.bounded.1
+    c.keep_few.ensures.gave.lags.1
+    (kept_more c.keep_few.result c.tries.new.pass.seat.me c.keep_few.new.pass.seat.me c.keep_few.ensures.gave c.keep_few.ensures.lost)
+
+pub returns-in-Err-refill-clause-bounded : goal.returns-in-Err-refill-clause-bounded
+returns-in-Err-refill-clause-bounded g c = bounded_by (vec_len c.loop-answer.pass.kept.rows) (vec_len c.args.pass.now.kept.rows)
+    c.args.pass.now.seat.me c.loop-answer.pass.seat.me c.tries.new.pass.seat.me c.refill.new.pass.seat.me c.loop-answer.invariant.yet
+    c.tries.ensures.paced c.tries.ensures.pinned.looks c.refill.ensures.gave.bounded.0 c.refill.ensures.gave.bounded.1
+    c.refill.ensures.gave.lags.1
+    (paid_more c.tries.new.spent c.refill.new.spent c.tries.new.pass.seat.me c.refill.new.pass.seat.me c.refill.ensures.counted)
+
 pub returns-then-not-is_without_row-clause-rests :
     goal.returns-then-not-is_without_row-clause-rests
 returns-then-not-is_without_row-clause-rests g c = record {
@@ -67,9 +96,11 @@ returns-then-not-is_without_row-clause-rests g c = record {
 
 pub returns-then-not-is_without_row-clause-come : goal.returns-then-not-is_without_row-clause-come
 returns-then-not-is_without_row-clause-come g c = let u = c.args.pass.now.seat.me.0.upper in
-    subst (IsFurther u) (sym c.keep_few.ensures.gave.upper)
-    (further_on u c.loop-answer.pass.seat.me.0.upper c.tries.new.pass.seat.me.0.upper c.loop-answer.invariant.further
-    c.in-Err.ensures.tried.0)
+    subst (λ (v : TreeView). IsFurther u v × (v.tries ≡ u.tries)) (sym c.keep_few.ensures.gave.upper) (
+      further_on u c.loop-answer.pass.seat.me.0.upper c.tries.new.pass.seat.me.0.upper c.loop-answer.invariant.further
+          c.in-Err.ensures.tried.0,
+      c.in-Err.ensures.tried.2 ∙ c.loop-answer.invariant.untried,
+    )
 
 pub returns-then-not-is_without_row-clause-caused :
     goal.returns-then-not-is_without_row-clause-caused
@@ -79,9 +110,9 @@ returns-then-not-is_without_row-clause-caused g c = let i = c.loop-answer.invari
     let z = c.args.tree.now.space.table.shared.key in let spent = c.tries.new.spent in
     let why = c.in-Err.why in
     let more = c.add-spent.ensures.more in
-    subst (λ (x : Cause). IsRangeCaused z c.args.pass.now.number c.args.order.now.budget x start c.args.pass.now.kept.rows last
+    subst (λ (x : Cause). IsRangeCaused (g.L.Look.needs c.args.order.now.what.now) z c.args.pass.now.number c.args.order.now.budget x start c.args.pass.now.kept.rows last
     c.keep_few.new.pass.kept.rows) (sym c.refusal.ensures)
-    (range_caused z c.args.pass.now.number c.args.order.now.budget spent (record spent { lost = c.add-spent.result }) start before
+    (range_caused (g.L.Look.needs c.args.order.now.what.now) z c.args.pass.now.number c.args.order.now.budget spent (record spent { lost = c.add-spent.result }) start before
     behind last c.args.pass.now.kept.rows c.keep_few.new.pass.kept.rows i.worn c.keep_few.ensures.gave (omega arith)
     record {
       spent = c.args.spent.now;
@@ -114,18 +145,20 @@ returns-in-Err-refill-clause-rests g c = record {
 
 pub returns-in-Err-refill-clause-come : goal.returns-in-Err-refill-clause-come
 returns-in-Err-refill-clause-come g c = let u = c.args.pass.now.seat.me.0.upper in
-    subst (IsFurther u) (sym c.refill.ensures.gave.upper)
-    (further_on u c.loop-answer.pass.seat.me.0.upper c.tries.new.pass.seat.me.0.upper c.loop-answer.invariant.further
-    c.in-Err.ensures.tried.0)
+    subst (λ (v : TreeView). IsFurther u v × (v.tries ≡ u.tries)) (sym c.refill.ensures.gave.upper) (
+      further_on u c.loop-answer.pass.seat.me.0.upper c.tries.new.pass.seat.me.0.upper c.loop-answer.invariant.further
+          c.in-Err.ensures.tried.0,
+      c.in-Err.ensures.tried.2 ∙ c.loop-answer.invariant.untried,
+    )
 
 pub returns-in-Err-refill-clause-caused : goal.returns-in-Err-refill-clause-caused
 returns-in-Err-refill-clause-caused g c = let i = c.loop-answer.invariant in
     let start = c.args.pass.now.seat.me in let before = c.loop-answer.pass.seat.me in
     let behind = c.tries.new.pass.seat.me in let last = c.refill.new.pass.seat.me in
     let z = c.args.tree.now.space.table.shared.key in
-    let met = subst (λ (x : Miss). HasMissed c.args.order.now.budget c.tries.new.spent x before behind)
+    let met = subst (λ (x : Miss). HasMissed (g.L.Look.needs c.args.order.now.what.now) c.args.order.now.budget c.tries.new.spent x before behind)
     (c.if-not-is_without_row.ensures.0 refl) c.in-Err.ensures.missed in
-    refill_range_caused z c.args.pass.now.number c.args.order.now.budget c.kept-kept.result c.in-Err-refill.cause
+    refill_range_caused (g.L.Look.needs c.args.order.now.what.now) z c.args.pass.now.number c.args.order.now.budget c.kept-kept.result c.in-Err-refill.cause
     c.refill.new.spent start behind last c.args.pass.now.kept.rows c.refill.new.pass.kept.rows
     record {
       spent = c.args.spent.now;
@@ -172,22 +205,29 @@ pub loop-answer-preserved : goal.loop-answer-preserved
 loop-answer-preserved g c = let i = c.loop-answer.invariant in let again = c.in_default.ensures.again refl in
     let start = c.args.pass.now.seat.me in let before = c.loop-answer.pass.seat.me in
     let behind = c.tries.new.pass.seat.me in let last = c.refill.new.pass.seat.me in
-    let met = subst (λ (x : Miss). HasMissed c.args.order.now.budget c.tries.new.spent x before behind)
+    let met = subst (λ (x : Miss). HasMissed (g.L.Look.needs c.args.order.now.what.now) c.args.order.now.budget c.tries.new.spent x before behind)
     (c.if-not-is_without_row.ensures.0 refl) c.in-Err.ensures.missed in
-    let given = c.refill.ensures.gave.met in record {
+    let given = c.refill.ensures.gave.met in
+    let emptied = empty_before (vec_len c.loop-answer.pass.kept.rows) c.kept-kept.result (vec_len c.refill.new.pass.kept.rows)
+    start before behind last c.args.pass.now.kept.rows c.kept-kept.ensures again.some
+    (let one = i.counted.more in let two = c.tries.ensures.counted.more in omega arith)
+    again.begins i.first met given c.tries.ensures.pinned c.refill.ensures.gave.lags c.refill.ensures.looked in record {
       number = c.refill.ensures.frame.number ∙ (c.in-Err.ensures.rests.number ∙ i.number);
       resting = c.refill.ensures.frame.resting;
       further = subst (IsFurther start.0.upper) (sym c.refill.ensures.gave.upper)
           (further_on start.0.upper before.0.upper behind.0.upper i.further c.in-Err.ensures.tried.0);
+      untried = ap (λ (v : TreeView). v.tries) c.refill.ensures.gave.upper ∙ (c.in-Err.ensures.tried.2 ∙ i.untried);
       counted = paid_both c.args.spent.now c.tries.new.spent c.refill.new.spent start behind last
           (paid_both c.args.spent.now c.loop-answer.spent c.tries.new.spent start before behind i.counted
           c.tries.ensures.counted) c.refill.ensures.counted;
       looks = let before = i.looks in let same = c.tries.ensures.pinned.looks in let more = c.refill.ensures.looked in omega arith;
       worn = omega (arith, i.worn, met.1, given.1);
-      first = inr (empty_before (vec_len c.loop-answer.pass.kept.rows) c.kept-kept.result (vec_len c.refill.new.pass.kept.rows)
-          start before behind last c.args.pass.now.kept.rows c.kept-kept.ensures again.some
-          (let one = i.counted.more in let two = c.tries.ensures.counted.more in omega arith)
-          again.begins i.first met given c.tries.ensures.pinned c.refill.ensures.gave.lags c.refill.ensures.looked);
+      first = inr emptied;
+      yet = bounded_yet (vec_len c.loop-answer.pass.kept.rows) (vec_len c.args.pass.now.kept.rows) start before behind last i.yet
+          c.tries.ensures.paced c.tries.ensures.pinned.looks c.refill.ensures.gave.bounded.0 c.refill.ensures.gave.bounded.1
+          c.refill.ensures.gave.lags.1 (paid_more c.tries.new.spent c.refill.new.spent behind last c.refill.ensures.counted)
+          (vec_len c.refill.new.pass.kept.rows) (subst (λ n. 0 < n) c.kept-kept.ensures again.some) again.begins c.refill.ensures.gave.upper
+          (let found = emptied.0 in omega arith) emptied.1 (let looked = c.refill.ensures.looked in omega arith);
       unspent = again.unspent;
       lags = again.unlagged ∙ (c.tries.ensures.pinned.lags ∙ i.lags);
     }

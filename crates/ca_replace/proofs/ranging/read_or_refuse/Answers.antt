@@ -1,6 +1,9 @@
-use Rattle.std.proofs.Common.{ap}
+use Rattle.std.proofs.Common.{ap, vec_len}
 use Rattle.ca_model.specs.Known.{one_more}
+use Rattle.ca_node.specs.Told.{MyTree}
+use Rattle.ca_range.specs.Clearing.{turns_at}
 use Rattle.ca_replace.proofs.Misses.{range_still}
+use Rattle.ca_replace.proofs.Pacing.{bounded_as}
 use Rattle.ca_rows.specs.declared.kept.KeptRows.{KeptRows}
 use Rattle.ca_replace.proofs.ranging.read_or_refuse.Goals as goal
 
@@ -8,5 +11,10 @@ pub returns-in-Err-clause-caused : goal.returns-in-Err-clause-caused
 returns-in-Err-clause-caused g c = let last = c.attempts.new.pass in let behind = c.give_up.new.pass in
     range_still c.args.pass.now.seat.me last.seat.me behind.seat.me (one_more c.in-Err.why last.seat.me.0.upper.counts)
     c.args.pass.now.kept.rows last.kept.rows behind.kept.rows c.give_up.ensures.counted
-    (ap (λ (k : KeptRows). k.rows) c.give_up.ensures.kept) c.args.tree.now.space.table.shared.key c.args.pass.now.number
+    (ap (λ (k : KeptRows). k.rows) c.give_up.ensures.kept) (g.L.Look.needs c.args.order.now.what.now) c.args.tree.now.space.table.shared.key c.args.pass.now.number
     c.args.order.now.budget c.in-Err.why c.in-Err.ensures.caused
+
+pub returns-in-Err-clause-bounded : goal.returns-in-Err-clause-bounded
+returns-in-Err-clause-bounded g c = let last = c.attempts.new.pass in let counted = c.give_up.ensures.counted in
+    bounded_as (vec_len c.args.pass.now.kept.rows) c.args.pass.now.seat.me last.seat.me c.give_up.new.pass.seat.me c.attempts.ensures.bounded
+    (ap (λ (m : MyTree). m.0.pin) counted) (ap turns_at counted)

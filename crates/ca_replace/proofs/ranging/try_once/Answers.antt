@@ -1,6 +1,6 @@
 use Rattle.std.proofs.Common.{◌∙◌, Err, Ok, ap, sym}
 use Rattle.ca_node.specs.Told.{MyTree}
-use Rattle.ca_replace.proofs.Misses.{further_pinned, missed_further, missed_left, missed_pinned, paid_left, paid_pinned, pinned_by, pinned_left, ranged_on}
+use Rattle.ca_replace.proofs.Misses.{further_pinned, missed_further, missed_left, missed_pinned, now_by, now_left, paid_left, paid_pinned, pinned_by, pinned_left, ranged_on}
 use Rattle.ca_replace.proofs.Working.{work_after, work_first, work_left}
 use Rattle.ca_replace.proofs.ranging.try_once.Goals as goal
 
@@ -30,7 +30,7 @@ returns-in-Ok-clause-tried g c = let z = c.args.tree.now.space.table.shared.key 
     ranged_on (λ (x : _). g.L.Look.tells c.args.order.now.what.now z x c.look.new.left) z (Ok c.in-Ok.answer)
     c.args.pass.now.seat.me.0.upper c.pin.new.pass.seat.me.0.upper c.look.new.pass.seat.me.0.upper
     (further_pinned c.pin.ensures.pinned.0 c.pin.ensures.pinned.1 c.args.pass.now.seat.me c.pin.new.pass.seat.me
-    c.pin.ensures.pinned.3) c.in-Ok.ensures.tried
+    c.pin.ensures.pinned.3) (ap (λ (m : MyTree). m.0.upper.tries) c.pin.ensures.pinned.3) c.in-Ok.ensures.tried
 
 pub returns-in-Ok-clause-counted : goal.returns-in-Ok-clause-counted
 returns-in-Ok-clause-counted g c = paid_pinned c.args.spent.now c.look.new.spent c.pin.ensures.pinned.0 c.pin.ensures.pinned.1
@@ -39,6 +39,15 @@ returns-in-Ok-clause-counted g c = paid_pinned c.args.spent.now c.look.new.spent
 pub returns-in-Ok-clause-pinned : goal.returns-in-Ok-clause-pinned
 returns-in-Ok-clause-pinned g c = pinned_by c.pin.ensures.pinned.0 c.pin.ensures.pinned.1 c.args.pass.now.seat.me
     c.pin.new.pass.seat.me c.look.new.pass.seat.me c.pin.ensures.pinned.3 c.look.ensures.frame.pin.1
+
+pub returns-in-Ok-clause-once : goal.returns-in-Ok-clause-once
+returns-in-Ok-clause-once g c = now_by c.pin.ensures.pinned.0 c.pin.ensures.pinned.1 c.args.pass.now.seat.me
+    c.pin.new.pass.seat.me c.look.new.pass.seat.me c.pin.ensures.pinned.3 c.look.ensures.frame.pin.1
+
+pub returns-in-Err-clause-once : goal.returns-in-Err-clause-once
+returns-in-Err-clause-once g c = now_left c.args.pass.now.seat.me c.look.new.pass.seat.me c.unpin.new.pass.seat.me
+    c.unpin.ensures.unpinned (now_by c.pin.ensures.pinned.0 c.pin.ensures.pinned.1 c.args.pass.now.seat.me
+    c.pin.new.pass.seat.me c.look.new.pass.seat.me c.pin.ensures.pinned.3 c.look.ensures.frame.pin.1)
 
 pub returns-in-Err-clause-rests : goal.returns-in-Err-clause-rests
 returns-in-Err-clause-rests g c = let told = c.in-Err.ensures.tried in record {
@@ -54,7 +63,7 @@ returns-in-Err-clause-tried g c = let z = c.args.tree.now.space.table.shared.key
     (ranged_on (λ (x : _). g.L.Look.tells c.args.order.now.what.now z x c.look.new.left) z (Err c.in-Err.why)
     u c.pin.new.pass.seat.me.0.upper v
     (further_pinned c.pin.ensures.pinned.0 c.pin.ensures.pinned.1 c.args.pass.now.seat.me c.pin.new.pass.seat.me
-    c.pin.ensures.pinned.3) c.in-Err.ensures.tried)
+    c.pin.ensures.pinned.3) (ap (λ (m : MyTree). m.0.upper.tries) c.pin.ensures.pinned.3) c.in-Err.ensures.tried)
 
 pub returns-in-Err-clause-counted : goal.returns-in-Err-clause-counted
 returns-in-Err-clause-counted g c = paid_left c.args.spent.now c.look.new.spent c.args.pass.now.seat.me c.look.new.pass.seat.me
@@ -63,9 +72,9 @@ returns-in-Err-clause-counted g c = paid_left c.args.spent.now c.look.new.spent 
     c.args.pass.now.seat.me c.pin.new.pass.seat.me c.look.new.pass.seat.me c.pin.ensures.pinned.3 c.look.ensures.counted)
 
 pub returns-in-Err-clause-missed : goal.returns-in-Err-clause-missed
-returns-in-Err-clause-missed g c = missed_left c.args.order.now.budget c.look.new.spent c.in-Err.why c.args.pass.now.seat.me
+returns-in-Err-clause-missed g c = missed_left (g.L.Look.needs c.args.order.now.what.now) c.args.order.now.budget c.look.new.spent c.in-Err.why c.args.pass.now.seat.me
     c.look.new.pass.seat.me c.unpin.new.pass.seat.me c.unpin.ensures.unpinned
-    (missed_pinned {T = Unit {0}} c.args.order.now.budget c.look.new.spent (Err c.in-Err.why) c.pin.ensures.pinned.0 c.pin.ensures.pinned.1
+    (missed_pinned {T = Unit {0}} (g.L.Look.needs c.args.order.now.what.now) c.args.order.now.budget c.look.new.spent (Err c.in-Err.why) c.pin.ensures.pinned.0 c.pin.ensures.pinned.1
     c.args.pass.now.seat.me c.pin.new.pass.seat.me c.look.new.pass.seat.me c.pin.ensures.pinned.3 c.in-Err.ensures.missed)
 
 pub returns-in-Err-clause-pinned : goal.returns-in-Err-clause-pinned

@@ -1,19 +1,23 @@
-use Rattle.std.proofs.Common.{◌≡◌, ◌∙◌, ◌∷◌, Bool, List, None, Option, Some, ap, false, refl, subst, sym, true, ℕ}
+use Rattle.std.proofs.Common.{◌≡◌, ◌∙◌, ◌∷◌, Bool, Err, List, None, Option, Some, ap, false, inr, refl, subst, sym, true, ℕ}
 use Rattle.std.specs.Prelude.{cond, map}
 use Rattle.ca_base.specs.Putting.{first_note}
-use Rattle.ca_model.specs.Edges.{Included, Unbounded, bound_of, last_object, up_to}
+use Rattle.ca_model.specs.Edges.{Bound, Included, Unbounded, bound_of, last_object, up_to}
 use Rattle.ca_node.specs.Row.{pair}
 use Rattle.ca_node.specs.States.{IsReadSince}
 use Rattle.ca_node.specs.Told.{IsKnown, MyTree}
 use Rattle.ca_node.specs.TreeView.{Note}
 use Rattle.ca_node.specs.Walking.{IsLowRoute}
 use Rattle.ca_base.specs.Progress.{IsFurther}
+use Rattle.ca_range.proofs.Filled.{raised_met}
 use Rattle.ca_replace.specs.Attempting.{IsPaid}
-use Rattle.ca_replace.specs.Within.{HasLearnt, below_event, spot_at}
+use Rattle.ca_replace.specs.Within.{HasAllUpTo, HasLearnt, HasVanished, NeedsBelow, below_event, spot_at}
+use Rattle.ca_replace.specs.Aside.{IsEndOfLooks}
+use Rattle.ca_replace.specs.Running.{all_of}
 use Rattle.ca_replace.proofs.Counted.{paid_both, paid_entered}
 use Rattle.ca_replace.proofs.Ends.{learnt_both, walked_last, walked_learnt}
 use Rattle.ca_replace.proofs.LastRuns.{last_read}
 use Rattle.ca_replace.proofs.LooksLeft.{keeps_both, left_behind, left_end, left_learnt, left_stays}
+use Rattle.ca_replace.proofs.Misses.{again_then, missed_behind}
 use Rattle.ca_replace.proofs.Ready.{stays_both, stays_then_read}
 use Rattle.ca_replace.proofs.Runs.{finds_below, last_inside, learnt_done, learnt_unanswered, ready_entered}
 use Rattle.ca_replace.proofs.lasts.BelowCallLook.look.Goals.{else-bounded-via-then-bounded+else-not-found, else-bounded-via-else-bounded}
@@ -34,7 +38,7 @@ returns-then-near-clause-tried c = let z = c.args.tree.now.space.table.shared.ke
     let event = below_event (bound_of hi) true object in
     let done = learnt_done z m.0.upper n c.enter_last.new.pass.seat.me event c.requires.at_pin
     (walked_learnt z (spot_at hi) m n c.look_near-near.result.0 c.look_near-near.ensures.walked) c.enter_last.ensures.entered in
-    ((event, refl, done.0), done.1)
+    ((event, refl, done.0), done.1, done.2)
 
 pub enter_last-requires-in_default-clause-answer : goal.enter_last-requires-in_default-clause-answer
 enter_last-requires-in_default-clause-answer c = let z = c.args.tree.now.space.table.shared.key in let m = c.args.pass.now.seat.me in
@@ -52,7 +56,7 @@ returns-in_default-clause-tried c = let z = c.args.tree.now.space.table.shared.k
     let done = learnt_done z m.0.upper n c.enter_last-in_default.new.pass.seat.me event c.requires.at_pin
     (walked_learnt z (spot_at hi) m n c.look_near-near.result.0 c.look_near-near.ensures.walked)
     c.enter_last-in_default.ensures.entered in
-    ((event, (refl, c.look_near-near.ensures.emptied c.if-near.false), done.0), done.1)
+    ((event, (refl, c.look_near-near.ensures.emptied c.if-near.false), done.0), done.1, done.2)
 
 pub look_left-requires-clause-from : goal.look_left-requires-clause-from
 look_left-requires-clause-from c = let z = c.args.tree.now.space.table.shared.key in let u = c.look_near-near.new.pass.seat.me.0.upper in
@@ -65,7 +69,7 @@ returns-in_default-look_left-clause-tried c = let z = c.args.tree.now.space.tabl
     let k = c.look_left.new.pass.seat.me in let a = c.args.spent.now in let b = c.look_left.new.spent in
     let learnt = left_learnt z a b m k (left_behind z a b (spot_at c.args.self.now.hi) m c.look_near-near.new.pass.seat.me k c.look_near-near.result.0
     c.look_near-near.ensures.walked c.look_left.ensures.looked) c.requires.work.known in
-    (learnt.further, learnt.known)
+    (learnt.further, learnt.known, learnt.tries)
 
 pub returns-then-not-found-clause-frame : goal.returns-then-not-found-clause-frame
 returns-then-not-found-clause-frame c = let z = c.args.tree.now.space.table.shared.key in let m = c.args.pass.now.seat.me in
@@ -81,7 +85,8 @@ returns-then-not-found-clause-tried c = let z = c.args.tree.now.space.table.shar
     let looked = left_behind z a b (spot_at c.args.self.now.hi) m c.look_near-near.new.pass.seat.me k c.look_near-near.result.0
     c.look_near-near.ensures.walked c.look_left.ensures.looked in
     let learnt = learnt_both z m.0.upper k.0.upper v.0.upper (left_learnt z a b m k looked c.requires.work.known) c.take_run.ensures.learnt in
-    subst (λ (x : MyTree). IsFurther m.0.upper x.0.upper × IsKnown z x.0.upper) (sym c.last_within-found.ensures.frame.still) (learnt.further, learnt.known)
+    subst (λ (x : MyTree). IsFurther m.0.upper x.0.upper × IsKnown z x.0.upper × (x.0.upper.tries ≡ m.0.upper.tries))
+    (sym c.last_within-found.ensures.frame.still) (learnt.further, learnt.known, learnt.tries)
 
 pub returns-then-not-found-clause-counted : goal.returns-then-not-found-clause-counted
 returns-then-not-found-clause-counted c = let z = c.args.tree.now.space.table.shared.key in let m = c.args.pass.now.seat.me in
@@ -133,6 +138,7 @@ returns-else-bounded-clause-tried c = let z = c.args.tree.now.space.table.shared
     c.enter_last-in-Ok.ensures.entered in (
       (event, finds_below (bound_of hi) found object c.last_within-found.ensures.emptied, done.0),
       done.1,
+      done.2,
     )
 
 pub returns-else-bounded-clause-counted : goal.returns-else-bounded-clause-counted
@@ -159,7 +165,7 @@ returns-in-Err-clause-tried c = let z = c.args.tree.now.space.table.shared.key i
     c.look_near-near.ensures.walked c.look_left.ensures.looked in
     let learnt = learnt_both z m.0.upper k.0.upper c.take_run.new.pass.seat.me.0.upper (left_learnt z a b m k looked c.requires.work.known)
     c.take_run.ensures.learnt in
-    (learnt.further, learnt.known)
+    (learnt.further, learnt.known, learnt.tries)
 
 pub returns-in-Err-clause-counted : goal.returns-in-Err-clause-counted
 returns-in-Err-clause-counted c = let z = c.args.tree.now.space.table.shared.key in let m = c.args.pass.now.seat.me in
@@ -167,3 +173,43 @@ returns-in-Err-clause-counted c = let z = c.args.tree.now.space.table.shared.key
     let looked = left_behind z a b (spot_at c.args.self.now.hi) m c.look_near-near.new.pass.seat.me k c.look_near-near.result.0
     c.look_near-near.ensures.walked c.look_left.ensures.looked in
     paid_both a b c.take_run.new.spent m k c.take_run.new.pass.seat.me looked.paid c.take_run.ensures.counted
+
+pub returns-then-not-found-clause-again : goal.returns-then-not-found-clause-again
+returns-then-not-found-clause-again c = let z = c.args.tree.now.space.table.shared.key in let k = c.look_left.new.pass.seat.me in
+    let hi = c.args.self.now.hi in let v = c.take_run.new.pass.seat.me in let run = c.in-Ok.run' in let low = c.look_left.new.low.items in
+    let still = sym c.last_within-found.ensures.frame.still in
+    let begins : bound_of c.edge_at-lo.result ≡ Included low = c.edge_at-lo.ensures
+    ∙ (ap (λ (x : Bool). cond x (Included c.deref.result.now) Unbounded) c.if-bounded.true ∙ ap (λ (x : List ℕ). Included x) c.deref.ensures.0) in
+    let ends = subst (λ (r : Option Bool). IsEndOfLooks c.args.budget c.look_left.new.spent r low k.0.upper)
+    (c.in-Some-look_left.is ∙ ap (λ (x : Bool). Some x) c.if-bounded.true) c.look_left.ensures.ends in
+    inr record {
+      near = c.look_near-near.new.pass.seat.me;
+      cursor = c.look_near-near.result.0;
+      walked = c.look_near-near.ensures.walked;
+      route = c.in-Some.route;
+      route_is = c.in-Some.is;
+      mid = k;
+      gone = c.look_left.ensures.gone;
+      low = low;
+      begins = ends.0;
+      some = ends.1;
+      run = run;
+      bases = subst (λ (x : Bound × MyTree). HasAllUpTo x.0 (bound_of hi) z x.1.0.upper run) (λ i. (begins i, still i)) c.in-Ok.ensures.run;
+      none = subst (λ (x : MyTree). last_object (up_to (bound_of hi) (all_of run x.0.upper)) ≡ None) still
+          (c.last_within-found.ensures.last ∙ ap (λ (x : Bool). cond x (Some c.last_within-found.new.into.items) None) c.if-not-found.true);
+    }
+
+pub returns-in-Err-clause-missed : goal.returns-in-Err-clause-missed
+returns-in-Err-clause-missed c = let z = c.args.tree.now.space.table.shared.key in let m = c.args.pass.now.seat.me in
+    let k = c.look_left.new.pass.seat.me in let a = c.args.spent.now in let b = c.look_left.new.spent in
+    let looked = left_behind z a b (spot_at c.args.self.now.hi) m c.look_near-near.new.pass.seat.me k c.look_near-near.result.0
+    c.look_near-near.ensures.walked c.look_left.ensures.looked in
+    missed_behind {T = Unit {0}} (NeedsBelow (bound_of c.args.self.now.hi)) c.args.budget a c.take_run.new.spent (Err c.in-Err.why) b m k
+    c.take_run.new.pass.seat.me (raised_met m k k.0.upper looked.raised) looked.paid c.in-Err.ensures.missed
+
+pub returns-in-Err-clause-again : goal.returns-in-Err-clause-again
+returns-in-Err-clause-again c = let z = c.args.tree.now.space.table.shared.key in let m = c.args.pass.now.seat.me in
+    let k = c.look_left.new.pass.seat.me in let a = c.args.spent.now in let b = c.look_left.new.spent in
+    let looked = left_behind z a b (spot_at c.args.self.now.hi) m c.look_near-near.new.pass.seat.me k c.look_near-near.result.0
+    c.look_near-near.ensures.walked c.look_left.ensures.looked in
+    again_then (HasVanished c.args.self.now.hi z) a b c.in-Err.why m k c.take_run.new.pass.seat.me looked.paid c.in-Err.ensures.again

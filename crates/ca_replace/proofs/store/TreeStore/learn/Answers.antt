@@ -1,4 +1,4 @@
-use Rattle.std.proofs.Common.{true, false, refl, ap, inl, ◌∙◌, ◌≡◌, None, sym, subst}
+use Rattle.std.proofs.Common.{true, false, refl, ap, inl, ◌∙◌, ◌≡◌, ◌+◌, None, sym, subst}
 use Rattle.ca_node.specs.Place.{all_keys}
 use Rattle.ca_node.specs.Told.{MyTree}
 use Rattle.ca_rows.specs.Told.{begun_of, met_of}
@@ -28,6 +28,7 @@ keep_few-requires c = let rests = rests_of (store_of c.self.inside.tree.now c.se
       record m.0 {
         pin = record m.0.pin {
           pinned = true;
+          pins = m.0.pin.pins + 1;
           told = c.pin.ensures.pinned.0;
           moment =
               c.pin.ensures.pinned.1;

@@ -7,7 +7,7 @@ use Rattle.ca_replace.specs.Causes.{IsSparing}
 use Rattle.ca_replace.specs.TreePromises.{HasRead, WasInBudget}
 use Rattle.ca_replace.specs.Resting.{StoreAndRun, known_of, knows, run_left}
 use Rattle.ca_replace.specs.Seen.{store_of}
-use Rattle.ca_replace.specs.Within.{FindsBelow}
+use Rattle.ca_replace.specs.Within.{FindsBelow, NeedsBelow}
 use Rattle.ca_replace.proofs.Alone.{first_number, lone_read}
 use Rattle.ca_replace.proofs.OpenStores.{between_rests, closed_still, knows_closed, of_both, rests_of}
 use Rattle.ca_replace.proofs.Telling.{found_below, if_then}
@@ -55,18 +55,23 @@ returns-clause-refused c = let table = c.self.inside.tree.now.space.table.shared
 
 pub returns-clause-promised : goal.returns-clause-promised
 returns-clause-promised c = let tree = c.self.inside.tree.now in let last = c.self.inside.last in let done = c.below.ensures in
-    subst (λ (s : StoreAndRun). HasRead c.args.budget s.store (store_of tree c.below.new.pass last) c.below.result
+    subst (λ (s : StoreAndRun). HasRead (NeedsBelow (bound_of c.args.hi)) c.args.budget s.store (store_of tree c.below.new.pass last) c.below.result
     × IsSparing s.store (store_of tree c.below.new.pass last)
     × WasInBudget c.args.budget s.store (store_of tree c.below.new.pass last) c.below.result) c.self.view_is (
       record {
-        unchanged = record { same = record { table = refl; sizes = refl; tuning = refl; number = done.frame.number }; last = refl };
+        unchanged = record {
+          same = record { table = refl; sizes = refl; tuning = refl; number = done.frame.number };
+          last = refl;
+          untried = done.untried;
+        };
         caused = done.caused;
         alone = λ one. let z = tree.space.table.shared.key in let pass = c.self.inside.pass in let u = pass.seat.me.0.upper in
             let before = store_of tree pass last in
             let closed : run_left u c.self.inside.run ≡ None = subst (λ (s : StoreAndRun). (knows s).run ≡ None) (sym c.self.view_is) c.requires.closed in
-            lone_read z pass.number c.args.budget c.below.result pass.seat.me c.below.new.pass.seat.me pass.kept.rows c.below.new.pass.kept.rows one
+            lone_read (NeedsBelow (bound_of c.args.hi)) z pass.number c.args.budget c.below.result pass.seat.me c.below.new.pass.seat.me pass.kept.rows c.below.new.pass.kept.rows one
             (first_number tree.space.table.shared.table_id z pass.number pass.tally pass.kept.rows pass.seat
             (rests_of before c.self.inside.run c.self.invariant closed) one) done.caused;
+        bounded = done.bounded;
       },
       (done.few, done.frame.resting.few.ever, done.lags),
       done.unspent,

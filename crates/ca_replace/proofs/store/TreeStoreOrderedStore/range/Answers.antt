@@ -6,6 +6,7 @@ use Rattle.ca_model.specs.Edges.{bound_of}
 use Rattle.ca_model.specs.Function.{MayBeAskedForAll}
 use Rattle.ca_model.specs.Known.{Declines, Known}
 use Rattle.ca_model.specs.Runs.{Opens}
+use Rattle.ca_range.specs.Looking.{IsNotEnough}
 use Rattle.ca_range.specs.declared.sought.Sought.{Sought}
 use Rattle.ca_replace.specs.Ranging.{IsRangeCaused}
 use Rattle.ca_replace.specs.Resting.{StoreAndRun, known_of, knows, run_left}
@@ -13,8 +14,10 @@ use Rattle.ca_replace.specs.Running.{left_of}
 use Rattle.ca_replace.specs.Seen.{store_of}
 use Rattle.ca_replace.specs.Causes.{IsSparing, IsUnspent}
 use Rattle.ca_replace.specs.TreePromises.{HasRead, OpensInBudget}
+use Rattle.ca_replace.specs.Within.{EndsTooSoon}
 use Rattle.ca_replace.proofs.Alone.{first_number, lone_read}
-use Rattle.ca_replace.proofs.Misses.{if_caused_by, if_not_done, if_refused_by}
+use Rattle.ca_replace.proofs.Misses.{if_caused_by, if_not_done, if_refused_by, range_needs}
+use Rattle.ca_replace.proofs.Needing.{too_soon}
 use Rattle.ca_replace.proofs.OpenStores.{knows_closed, of_both, rests_of}
 use Rattle.ca_replace.proofs.Opening.{opens}
 use Rattle.ca_replace.proofs.Turns.{if_declined}
@@ -54,19 +57,27 @@ pub returns-in-Err-clause-promised : goal.returns-in-Err-clause-promised
 returns-in-Err-clause-promised g c = let tree = c.self.inside.tree.now in let last = c.self.inside.last in
     let pass = c.self.inside.pass in let new = c.range.new.pass in let done = c.in-Err.ensures in
     let before = store_of tree pass last in let behind = store_of tree new last in
-    subst (λ (s : StoreAndRun). HasRead c.args.budget s.store behind c.outcome_by.result
+    let sought : Sought g.row.F.Denot = record { lo = c.args.lo; hi = c.args.hi; want = c.args.want; counts = c.args.counts } in
+    let caused = range_needs (IsNotEnough g.F.Fn sought) (EndsTooSoon (bound_of c.args.lo) (bound_of c.args.hi)) (λ note n. too_soon g.F.Fn sought note n)
+    tree.space.table.shared.key pass.number c.args.budget c.in-Err.why pass.seat.me new.seat.me pass.kept.rows new.kept.rows done.caused in
+    subst (λ (s : StoreAndRun). HasRead (EndsTooSoon (bound_of c.args.lo) (bound_of c.args.hi)) c.args.budget s.store behind c.outcome_by.result
     × IfRefused c.outcome_by.result (λ _. IsSparing s.store behind) × OpensInBudget c.args.budget s.store behind c.outcome_by.result) c.self.view_is (
       record {
-        unchanged = record { same = record { table = refl; sizes = refl; tuning = refl; number = done.rests.number }; last = refl };
-        caused = if_caused_by (λ why. IsRangeCaused tree.space.table.shared.key pass.number c.args.budget why pass.seat.me
-            pass.kept.rows new.seat.me new.kept.rows) c.in-Err.why c.outcome_by.result c.outcome_by.ensures done.caused;
+        unchanged = record {
+          same = record { table = refl; sizes = refl; tuning = refl; number = done.rests.number };
+          last = refl;
+          untried = c.range.ensures.untried;
+        };
+        caused = if_caused_by (λ why. IsRangeCaused (EndsTooSoon (bound_of c.args.lo) (bound_of c.args.hi)) tree.space.table.shared.key pass.number c.args.budget why pass.seat.me
+            pass.kept.rows new.seat.me new.kept.rows) c.in-Err.why c.outcome_by.result c.outcome_by.ensures caused;
         alone = λ one. let z = tree.space.table.shared.key in let u = pass.seat.me.0.upper in
             let closed : run_left u c.self.inside.run ≡ None = subst (λ (s : StoreAndRun). (knows s).run ≡ None) (sym c.self.view_is) c.requires.closed in
-            lone_read z pass.number c.args.budget c.outcome_by.result pass.seat.me new.seat.me pass.kept.rows new.kept.rows one
+            lone_read (EndsTooSoon (bound_of c.args.lo) (bound_of c.args.hi)) z pass.number c.args.budget c.outcome_by.result pass.seat.me new.seat.me pass.kept.rows new.kept.rows one
             (first_number tree.space.table.shared.table_id z pass.number pass.tally pass.kept.rows pass.seat
             (rests_of before c.self.inside.run c.self.invariant closed) one)
-            (if_caused_by (λ why. IsRangeCaused z pass.number c.args.budget why pass.seat.me pass.kept.rows new.seat.me new.kept.rows) c.in-Err.why
-            c.outcome_by.result c.outcome_by.ensures done.caused);
+            (if_caused_by (λ why. IsRangeCaused (EndsTooSoon (bound_of c.args.lo) (bound_of c.args.hi)) z pass.number c.args.budget why pass.seat.me pass.kept.rows new.seat.me new.kept.rows) c.in-Err.why
+            c.outcome_by.result c.outcome_by.ensures caused);
+        bounded = c.range.ensures.bounded;
       },
       if_refused_by (λ _. IsSparing before behind) c.in-Err.why c.outcome_by.result c.outcome_by.ensures
           (done.few, done.rests.resting.few.ever, c.range.ensures.lags),
@@ -76,12 +87,17 @@ returns-in-Err-clause-promised g c = let tree = c.self.inside.tree.now in let la
 pub returns-in-Ok-clause-promised : goal.returns-in-Ok-clause-promised
 returns-in-Ok-clause-promised g c = let tree = c.self.inside.tree.now in let last = c.self.inside.last in let done = c.in-Ok.ensures in
     let behind = store_of tree c.range.new.pass last in let o = outcome.Done c.in-Ok.whole in
-    subst (λ (s : StoreAndRun). HasRead c.args.budget s.store behind o × IfRefused o (λ _. IsSparing s.store behind)
+    subst (λ (s : StoreAndRun). HasRead (EndsTooSoon (bound_of c.args.lo) (bound_of c.args.hi)) c.args.budget s.store behind o × IfRefused o (λ _. IsSparing s.store behind)
     × OpensInBudget c.args.budget s.store behind o) c.self.view_is (
       record {
-        unchanged = record { same = record { table = refl; sizes = refl; tuning = refl; number = done.works.number }; last = refl };
+        unchanged = record {
+          same = record { table = refl; sizes = refl; tuning = refl; number = done.works.number };
+          last = refl;
+          untried = c.range.ensures.untried;
+        };
         caused = tt;
         alone = λ one. tt;
+        bounded = c.range.ensures.bounded;
       },
       tt,
       done.unspent,

@@ -1,6 +1,8 @@
-use Rattle.std.proofs.Common.{refl}
+use Rattle.std.proofs.Common.{rules, refl}
 use Rattle.ca_model.specs.Edges.{bound_of}
-use Rattle.ca_replace.specs.Within.{above_event}
+use Rattle.ca_replace.specs.Within.{NeedsAbove, above_event}
+use Rattle.ca_replace.proofs.Misses.{missed_needs}
+use Rattle.ca_replace.proofs.Needing.{needs_above}
 use Rattle.ca_replace.proofs.Runs.{finds_above, first_read, learnt_done, learnt_unanswered, run_ordered}
 use Rattle.ca_replace.proofs.within.AboveCallLook.look.Goals as goal
 
@@ -19,4 +21,9 @@ returns-in-Ok-clause-tried c = let lo = bound_of c.args.self.now.lo in
     c.read_first.new.pass.seat.me event c.requires.at_pin c.in-Ok.ensures.learnt c.read_first.ensures.entered in (
       (event, finds_above lo c.read_first.result c.read_first.new.into.items c.read_first.ensures.emptied, done.0),
       done.1,
+      done.2,
     )
+
+pub returns-in-Err-clause-missed : goal.returns-in-Err-clause-missed
+returns-in-Err-clause-missed c = missed_needs _ (NeedsAbove (bound_of c.args.self.now.lo)) (λ note n. needs_above _ _ note n refl refl (λ o says. search rules)) c.args.budget
+    c.snap.new.spent c.in-Err.why c.args.pass.now.seat.me c.snap.new.pass.seat.me c.in-Err.ensures.missed

@@ -47,7 +47,8 @@ returns-in-Ok-clause-tried g c = let z = c.args.tree.now.space.table.shared.key 
     (λ (x : MyTree). left_of v opened ≡ objects_of (within lo (bound_of c.end_of-end.result) (all_of run x.0.upper))) e.now
     c.open_run.ensures.left
     ∙ (ap (λ (b : Bound). objects_of (within lo b (all_of run u))) c.end_of-end.ensures ∙ ap objects_of (run_end _ _ h)) in
-    subst (λ (x : MyTree). HasDoneSuch (HasOpened g.F.Fn sought z run.whole opened x.0.upper) before x.0.upper × IsKnown z x.0.upper)
+    subst (λ (x : MyTree). HasDoneSuch (HasOpened g.F.Fn sought z run.whole opened x.0.upper) before x.0.upper × IsKnown z x.0.upper
+    × (x.0.upper.tries ≡ before.tries))
     (sym (c.warm.ensures.frame.still ∙ c.open_run.ensures.frame.still)) (
       (
         event,
@@ -60,4 +61,5 @@ returns-in-Ok-clause-tried g c = let z = c.args.tree.now.space.table.shared.key 
         done.0,
       ),
       done.1,
+      done.2,
     )

@@ -1,0 +1,161 @@
+use Rattle.std.proofs.Common.{Option, List, false, sym, ap, subst, ◌∙◌}
+use Rattle.ca_base.specs.Counting.{HasMet}
+use Rattle.ca_base.specs.Putting.{first_note}
+use Rattle.ca_model.specs.Edges.{bound_of}
+use Rattle.ca_node.specs.Told.{MyTree, IsSettled}
+use Rattle.ca_node.specs.TreeView.{Note}
+use Rattle.ca_range.specs.Attempts.{CountsJoin}
+use Rattle.ca_range.specs.Clearing.{HasGone}
+use Rattle.ca_range.specs.Filling.{IsUseOf}
+use Rattle.ca_range.specs.Looking.{HasLooked, IsFirst, IsNotEnough}
+use Rattle.ca_range.specs.Snapping.{snapped_so}
+use Rattle.ca_range.specs.Snapshots.{HasRun, HasSnapped, IsInBudget}
+use Rattle.ca_range.specs.Using.{HasFoundOf}
+use Rattle.ca_range.specs.declared.account.Range.{Range}
+use Rattle.ca_range.specs.declared.looking.Looked.TheVariants as looked
+use Rattle.ca_range.specs.declared.sought.Snapped.{Snapped}
+use Rattle.ca_range.proofs.Filled.{last_shown, raised_met}
+use Rattle.ca_range.proofs.FirstBases.{first_still}
+use Rattle.ca_range.proofs.FirstRuns.{first_run}
+use Rattle.ca_range.proofs.GoingOn.{begun_after, goes_steps}
+use Rattle.ca_range.proofs.OwnSteps.{goes_reads, pinned_both}
+use Rattle.ca_range.proofs.Readied.{ready_reads, ready_still}
+use Rattle.ca_range.proofs.SnapshotSteps.{budget_refused, budget_so, gone_snaps, met_on, more_turns, no_less_both, ranges_both, ranges_by_steps, refused_after, refused_so, snapped_after, spent_on, steps_on, walked_still}
+use Rattle.ca_range.proofs.Spends.{on_both}
+use Rattle.ca_range.proofs.snapping.begin_snapshot.Goals as goal
+
+pub returns-in-Done-clause-begun : goal.returns-in-Done-clause-begun
+returns-in-Done-clause-begun g c = let z = c.args.space.now.table.shared.key in let m = c.args.pass.now.seat.me in
+    let k = c.walk_to_first-first.new.pass.seat.me in let e = c.walk_to_first-first.ensures in
+    subst (λ (x : MyTree). HasMet 0 0 m x × HasRun g.F.Fn c.args.search.now.sought.now z x.0.upper
+    (record { last = c.walk_to_first-first.result.base; chained = false; whole = c.in-Done.whole })) (sym c.look.ensures.frame.still) (
+      raised_met m k k.0.upper e.raised,
+      first_run g.F.Fn c.args.search.now.sought.now z k.0.upper c.walk_to_first-first.result c.in-Done.whole _ e.first e.has c.in-Done.ensures.looked,
+    )
+
+pub returns-in-Ok-Some-clause-steps : goal.returns-in-Ok-Some-clause-steps
+returns-in-Ok-Some-clause-steps g c = let z = c.args.space.now.table.shared.key in let m = c.args.pass.now.seat.me in
+    let k = c.walk_to_first-first.new.pass.seat.me in let l = c.look.new.pass.seat.me in let n = c.range_in_use.new.pass.seat.me in
+    let e = c.walk_to_first-first.ensures in
+    ranges_both m.0.upper n.0.upper c.help_first.new.pass.seat.me.0.upper (ranges_by_steps m.0.upper n.0.upper
+    (steps_on z m k l n e.raised e.steps e.turns c.look.ensures.frame.still c.in-Ok-Some.ensures.in_use.0.steps)) c.help_first.ensures.steps
+
+pub returns-in-Ok-Some-clause-counted : goal.returns-in-Ok-Some-clause-counted
+returns-in-Ok-Some-clause-counted g c = let z = c.args.space.now.table.shared.key in let m = c.args.pass.now.seat.me in
+    let k = c.walk_to_first-first.new.pass.seat.me in let l = c.look.new.pass.seat.me in let n = c.range_in_use.new.pass.seat.me in
+    let e = c.walk_to_first-first.ensures in
+    on_both c.args.account.now.spent c.range_in_use.new.account.spent c.help_first.new.account.spent m n c.help_first.new.pass.seat.me
+    (spent_on z m k l n e.raised e.steps e.turns c.look.ensures.frame.still c.args.account.now.spent c.range_in_use.new.account.spent
+    c.range_in_use.ensures.counted) c.help_first.ensures.counted
+
+pub returns-in-Ok-Some-clause-begun : goal.returns-in-Ok-Some-clause-begun
+returns-in-Ok-Some-clause-begun g c = let z = c.args.space.now.table.shared.key in let m = c.args.pass.now.seat.me in
+    let k = c.walk_to_first-first.new.pass.seat.me in let l = c.look.new.pass.seat.me in let n = c.range_in_use.new.pass.seat.me in
+    let e = c.walk_to_first-first.ensures in let still = c.look.ensures.frame.still in
+    let last = c.help_first.new.pass.seat.me in let spent = c.help_first.new.account.spent in
+    let less = more_turns c.args.account.now.spent c.range_in_use.new.account.spent m n
+    (spent_on z m k l n e.raised e.steps e.turns still c.args.account.now.spent c.range_in_use.new.account.spent
+    c.range_in_use.ensures.counted) in
+    refused_so g.F.Fn c.args.search.now.sought.now z c.args.search.now.budget spent c.help_first.result m last
+    (no_less_both m n last less (more_turns c.range_in_use.new.account.spent spent n last c.help_first.ensures.counted))
+    (refused_after c.args.search.now.budget spent c.help_first.result m n last
+    (met_on z m k l n e.raised e.steps e.turns still c.in-Ok-Some.ensures.in_use.0.raised) less c.help_first.ensures.refused)
+
+pub begin_range-requires-clause-first : goal.begin_range-requires-clause-first
+begin_range-requires-clause-first g c = let z = c.args.space.now.table.shared.key in let e = c.walk_to_first-first.ensures in
+    let cursor = c.walk_to_first-first.result in
+    let lo = bound_of c.args.search.now.sought.now.lo in
+    first_still z lo c.look.new.pass.seat.me.0.upper c.range_in_use.new.pass.seat.me.0.upper cursor c.in-Ok-None.ensures.in_use.0.all
+    c.in-Ok-None.ensures.in_use.0.steps.known (subst (λ (x : MyTree). IsFirst z lo x.0.upper cursor) (sym c.look.ensures.frame.still) e.first)
+
+pub begin_range-requires-clause-settled : goal.begin_range-requires-clause-settled
+begin_range-requires-clause-settled g c = let z = c.args.space.now.table.shared.key in let l = c.look.new.pass.seat.me in
+    let cursor = c.walk_to_first-first.result in
+    let first = subst (λ (x : MyTree). IsFirst z (bound_of c.args.search.now.sought.now.lo) x.0.upper cursor) (sym c.look.ensures.frame.still)
+    c.walk_to_first-first.ensures.first in
+    let h = subst (λ (r : Option Range). HasFoundOf c.args.space.now cursor.base (λ w note. IsUseOf w note r) c.look.new.pass c.range_in_use.new.pass)
+    c.in-Ok-None.field-0-is c.in-Ok-None.ensures.in_use in
+    subst (λ (ns : List Note). IsSettled c.range_in_use.new.pass.seat.me.0.upper (first_note ns).its) (sym h.0.all.notes)
+    (h.1 (first_note l.0.upper.notes) (last_shown z l.0.upper cursor first.gone.at))
+
+pub begin_range-requires-clause-needed : goal.begin_range-requires-clause-needed
+begin_range-requires-clause-needed g c = let e = c.walk_to_first-first.ensures in
+    let last = c.in-Ok-None.ensures.in_use.0.last ∙ ap (λ (x : MyTree). x.0.upper.last) c.look.ensures.frame.still in
+    subst (λ (n : Note). IsNotEnough g.F.Fn c.args.search.now.sought.now n) (sym last) record {
+      holds = e.holds;
+      counted = c.in-On.field-0;
+      key = c.look.new.key.items;
+      looked = subst (λ (n : Note). HasLooked g.F.Fn c.args.search.now.sought.now 0 (looked.On c.in-On.field-0) c.look.new.key.items n) (sym e.last) c.in-On.ensures.looked;
+    }
+
+pub returns-clause-steps : goal.returns-clause-steps
+returns-clause-steps g c = let z = c.args.space.now.table.shared.key in let m = c.args.pass.now.seat.me in
+    let k = c.walk_to_first-first.new.pass.seat.me in let l = c.look.new.pass.seat.me in let n = c.range_in_use.new.pass.seat.me in
+    let e = c.walk_to_first-first.ensures in
+    ranges_both m.0.upper n.0.upper c.begin_range.new.pass.seat.me.0.upper (ranges_by_steps m.0.upper n.0.upper
+    (steps_on z m k l n e.raised e.steps e.turns c.look.ensures.frame.still c.in-Ok-None.ensures.in_use.0.steps)) c.begin_range.ensures.steps
+
+pub returns-clause-counted : goal.returns-clause-counted
+returns-clause-counted g c = let z = c.args.space.now.table.shared.key in let m = c.args.pass.now.seat.me in
+    let k = c.walk_to_first-first.new.pass.seat.me in let l = c.look.new.pass.seat.me in let n = c.range_in_use.new.pass.seat.me in
+    let e = c.walk_to_first-first.ensures in
+    on_both c.args.account.now.spent c.range_in_use.new.account.spent c.begin_range.new.account.spent m n c.begin_range.new.pass.seat.me
+    (spent_on z m k l n e.raised e.steps e.turns c.look.ensures.frame.still c.args.account.now.spent c.range_in_use.new.account.spent
+    c.range_in_use.ensures.counted) c.begin_range.ensures.counted
+
+pub returns-clause-begun : goal.returns-clause-begun
+returns-clause-begun g c = let z = c.args.space.now.table.shared.key in let m = c.args.pass.now.seat.me in
+    let k = c.walk_to_first-first.new.pass.seat.me in let l = c.look.new.pass.seat.me in let n = c.range_in_use.new.pass.seat.me in
+    let e = c.walk_to_first-first.ensures in let still = c.look.ensures.frame.still in
+    let last = c.begin_range.new.pass.seat.me in let spent = c.begin_range.new.account.spent in
+    begun_after g.F.Fn c.args.search.now.sought.now z c.args.search.now.budget spent c.begin_range.result m n last
+    (met_on z m k l n e.raised e.steps e.turns still c.in-Ok-None.ensures.in_use.0.raised)
+    (more_turns c.args.account.now.spent c.range_in_use.new.account.spent m n
+    (spent_on z m k l n e.raised e.steps e.turns still c.args.account.now.spent c.range_in_use.new.account.spent
+    c.range_in_use.ensures.counted)) c.begin_range.ensures.begun
+
+pub returns-clause-frame : goal.returns-clause-frame
+returns-clause-frame g c = let space = c.args.space.now in let z = space.table.shared.key in let p = c.args.pass.now in
+    let q = c.walk_to_first-first.new.pass in let r = c.look.new.pass in let t = c.range_in_use.new.pass in let e = c.walk_to_first-first.ensures in
+    let a = c.args.account.now.spent in let b = c.range_in_use.new.account.spent in let learns = c.in-Ok-None.ensures.in_use.0 in
+    let ready = ready_still space p q c.requires.ready e.frame e.raised e.steps in
+    let walked = walked_still z p.seat.me q.seat.me r.seat.me t.seat.me e.raised e.steps e.turns c.look.ensures.frame.still a in
+    pinned_both space p t c.begin_range.new.pass
+    (pinned_both space p r t
+    (pinned_both space p q r (goes_steps space a a p q c.requires.ready e.frame e.raised e.no_join e.steps walked).frame
+    (goes_reads space a q r ready c.look.ensures.frame).frame)
+    (goes_steps space a b r t (ready_reads space q r ready c.look.ensures.frame) learns.frame learns.raised learns.no_join learns.steps
+    c.range_in_use.ensures.counted).frame) c.begin_range.ensures.frame
+
+pub returns-in-Err-clause-steps : goal.returns-in-Err-clause-steps
+returns-in-Err-clause-steps g c = let z = c.args.space.now.table.shared.key in let m = c.args.pass.now.seat.me in
+    let k = c.walk_to_first-first.new.pass.seat.me in let l = c.look.new.pass.seat.me in let n = c.range_in_use.new.pass.seat.me in
+    let e = c.walk_to_first-first.ensures in
+    ranges_by_steps m.0.upper n.0.upper (steps_on z m k l n e.raised e.steps e.turns c.look.ensures.frame.still c.in-Err.ensures.in_use.steps)
+
+pub returns-in-Err-clause-counted : goal.returns-in-Err-clause-counted
+returns-in-Err-clause-counted g c = let z = c.args.space.now.table.shared.key in let m = c.args.pass.now.seat.me in
+    let k = c.walk_to_first-first.new.pass.seat.me in let l = c.look.new.pass.seat.me in let n = c.range_in_use.new.pass.seat.me in
+    let e = c.walk_to_first-first.ensures in
+    spent_on z m k l n e.raised e.steps e.turns c.look.ensures.frame.still c.args.account.now.spent c.range_in_use.new.account.spent
+    c.range_in_use.ensures.counted
+
+pub returns-in-Err-clause-begun : goal.returns-in-Err-clause-begun
+returns-in-Err-clause-begun g c = let z = c.args.space.now.table.shared.key in let m = c.args.pass.now.seat.me in
+    let k = c.walk_to_first-first.new.pass.seat.me in let l = c.look.new.pass.seat.me in let n = c.range_in_use.new.pass.seat.me in
+    let e = c.walk_to_first-first.ensures in let f = c.in-Err.ensures.in_use in let still = c.look.ensures.frame.still in
+    let spent = c.range_in_use.new.account.spent in
+    subst (λ (s : Snapped). HasSnapped g.F.Fn c.args.search.now.sought.now z c.args.search.now.budget spent s m n) (sym c.after_help.ensures)
+    (snapped_after g.F.Fn c.args.search.now.sought.now z c.args.search.now.budget spent (snapped_so c.in-Err.helped) m k n
+    (raised_met m k k.0.upper e.raised)
+    (more_turns c.args.account.now.spent c.args.account.now.spent m k (walked_still z m k l n e.raised e.steps e.turns still c.args.account.now.spent))
+    (gone_snaps g.F.Fn c.args.search.now.sought.now z c.args.search.now.budget spent c.in-Err.helped k n
+    (subst (λ (x : MyTree). HasGone c.in-Err.helped x n) still f.gone) (subst (λ (x : MyTree). CountsJoin c.in-Err.helped x n) still f.counts)))
+
+pub returns-in-Ok-Some-clause-in_budget : goal.returns-in-Ok-Some-clause-in_budget
+returns-in-Ok-Some-clause-in_budget g c = budget_refused c.args.search.now.budget c.help_first.new.account.spent c.help_first.result
+    c.range_in_use.new.pass.seat.me c.help_first.new.pass.seat.me c.help_first.ensures.refused
+
+pub returns-in-Err-clause-in_budget : goal.returns-in-Err-clause-in_budget
+returns-in-Err-clause-in_budget g c = subst (λ (s : Snapped). IsInBudget c.args.search.now.budget c.range_in_use.new.account.spent s) (sym c.after_help.ensures)
+    (budget_so c.args.search.now.budget c.range_in_use.new.account.spent c.in-Err.helped)
