@@ -8,7 +8,7 @@ use Rattle.ca_base.specs.Readiness.{IsReady}
 use Rattle.ca_node.specs.JoinSteps.{attempt_of, HasLoadedJoin}
 use Rattle.ca_node.specs.Links.{IsIn}
 use Rattle.ca_node.specs.Told.{MyTree, with_upper}
-use Rattle.ca_node.specs.TreeView.{Attempt, Joining, Quiet, Ranging, Secured, TreeView}
+use Rattle.ca_node.specs.TreeView.{Attempt, Joining, Quiet, Secured, TreeView}
 use Rattle.ca_node.specs.Walking.{IsWalked}
 use Rattle.ca_node.specs.declared.cursor.Cursor.{Cursor}
 use Rattle.ca_node.specs.declared.cursor.Spot.{Spot}

@@ -1,5 +1,5 @@
 -- A pass that pinned and walked to a base that nothing marked has looked at it.
-use Rattle.std.proofs.Common.{◌≡◌, [], ◌∷◌, Option, None, false, refl, sym, ap, ◌∙◌, subst, inl, arith}
+use Rattle.std.proofs.Common.{◌≡◌, [], None, false, refl, sym, ◌∙◌, subst, inl, arith}
 use Rattle.ca_base.specs.Finding.{IsAtCursor, IsBaseShown}
 use Rattle.ca_base.specs.Putting.{first_note}
 use Rattle.ca_node.specs.Row.{mark}

@@ -11,12 +11,13 @@ ghost use Rattle.ca_replace.specs.Resting.{IsAtRest, knows};
 ghost use Rattle.ca_rows.specs.Passes.{OnlyReads, sizes};
 
 use crate::calls::{has, put, put_all, remove_all};
+use crate::halts::has_in;
 use crate::objects::{key_code, object};
 use crate::steps::{NOTHING, join, look};
 use crate::trees::{ZERO, tree_of, tuning_of};
 use ca_adapt::{Adapted, Tuning};
-use ca_base::{Insertion, Keyed, Putting, Target, copy_object, count, item, put_at, search};
-use ca_model::{Code, Outcome};
+use ca_base::{Insertion, Keyed, Putting, Target, count, put_at, search};
+use ca_model::Outcome;
 use ca_node::{Cursor, Spot, TreePass, TreeSpace, load_word, walk};
 use ca_replace::{Tree, TreeStore};
 
@@ -50,13 +51,7 @@ fn has_at(space: &TreeSpace, pass: &mut TreePass, cursor: Cursor, key: u32, valu
     requires below { IsBelow space.now pass.old (number_code key) cursor }
     ensures reads { OnlyReads pass.old pass.new }
 {
-    let Ok(place) = search(space, pass, cursor.base, &key_code(key)) else {
-        return false;
-    };
-    let row = item(space, pass, cursor.base, place);
-    let mut code = Code::new();
-    copy_object(space, pass, row, &mut code);
-    code.as_slice() == object(key, value).as_slice()
+    has_in(space, pass, cursor.base, key, value)
 }
 
 // Puts the key's object with this value in the place of the one that the base under the cursor has: whether that was done, and how many exchanges were lost.

@@ -13,12 +13,17 @@ mod drawing;
 mod given_up;
 #[cfg(test)]
 mod growing;
+mod halted;
+#[cfg(test)]
+mod halts;
 #[cfg(test)]
 mod joins;
 #[cfg(test)]
 mod meeting;
 #[cfg(test)]
 mod objects;
+#[cfg(test)]
+mod ranges;
 #[cfg(test)]
 mod steps;
 #[cfg(test)]

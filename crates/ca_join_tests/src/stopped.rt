@@ -11,9 +11,9 @@ use ca_model::{Code, Edge, OrderedStore, Outcome, Spent};
 use ca_node::{TreePass, adapted};
 use ca_replace::{Tree, TreeStore};
 
-// A call of a store.
+/// A call of a store.
 #[derive(Clone, Copy)]
-enum Call {
+pub(crate) enum Call {
     /// A put of this key.
     Put(u32),
     /// A remove of this key.
@@ -30,8 +30,8 @@ enum Call {
     Below(u32),
 }
 
-// What the call comes to with this budget.
-fn come_to(store: &mut TreeStore<'_>, call: Call, budget: u32) -> Outcome<bool>
+/// What the call comes to with this budget.
+pub(crate) fn come_to(store: &mut TreeStore<'_>, call: Call, budget: u32) -> Outcome<bool>
     requires sizes { (store.old.store.z.keypos ≡ 1) × (1 ≤ budget) }
     requires closed { (knows store.old).run ≡ None }
     ensures closed { (knows store.new).run ≡ None }
@@ -92,8 +92,8 @@ const CASES: [(u8, Call, u32, Result<bool, (u32, u32)>, bool, u8); 19] = [
     (1, Call::Below(2), 1, Ok(true), false, 0b1111_0110),
 ];
 
-// The outcome that is told so.
-fn outcome_of(comes: Result<bool, (u32, u32)>) -> Outcome<bool> {
+/// The outcome that is told so.
+pub(crate) fn outcome_of(comes: Result<bool, (u32, u32)>) -> Outcome<bool> {
     match comes {
         Ok(answer) => Outcome::Done(answer),
         Err((helped, passed)) => Outcome::Busy(Spent {

@@ -1,32 +1,5 @@
-use Rattle.std.proofs.Common.{ℕ, List, [], map, get_or, sym, subst}
-use Rattle.std.specs.Prelude.{Result}
-use Rattle.ca_model.specs.Places.{IsPlace}
-use Rattle.ca_node.specs.Row.{pair}
-use Rattle.ca_node.specs.Told.{MyTree}
-use Rattle.ca_base.specs.Finding.{IsObjectShown, IsReadable}
 use Rattle.ca_base.specs.Putting.{first_note}
-use Rattle.ca_base.proofs.Searching.{place_inside}
 use Rattle.ca_join_tests.proofs.below.has_at.Goals as goal
 
-pub search-requires-clause-readable : goal.search-requires-clause-readable
-search-requires-clause-readable c = (first_note c.args.pass.now.seat.me.0.upper.notes, c.requires.below.looking.readable)
-
-pub item-row-requires-clause-readable : goal.item-row-requires-clause-readable
-item-row-requires-clause-readable c = let z = c.args.space.now.table.shared.key in let note = first_note c.args.pass.now.seat.me.0.upper.notes in
-    let r = c.requires.below.looking.readable in
-    let at = subst (λ (p : Result ℕ ℕ). IsPlace (map pair note.objects) c.key_code.result p) c.in-Ok.is (c.search.ensures.place note r) in (
-      note,
-      subst (λ (m : MyTree). IsReadable z m.0.upper c.args.cursor.base note) (sym c.search.ensures.frame.still) r,
-      place_inside note c.key_code.result c.in-Ok.place at,
-    )
-
-pub copy_object-requires-clause-shown : goal.copy_object-requires-clause-shown
-copy_object-requires-clause-shown c = let z = c.args.space.now.table.shared.key in let note = first_note c.args.pass.now.seat.me.0.upper.notes in
-    let r = c.requires.below.looking.readable in
-    let at = subst (λ (p : Result ℕ ℕ). IsPlace (map pair note.objects) c.key_code.result p) c.in-Ok.is (c.search.ensures.place note r) in
-    let its : List ℕ = get_or note.objects c.in-Ok.place [] in (
-      its,
-      subst (λ (m : MyTree). IsObjectShown m.0.upper c.item-row.result its) (sym c.item-row.ensures.frame.still)
-          (c.item-row.ensures.item note (subst (λ (m : MyTree). IsReadable z m.0.upper c.args.cursor.base note) (sym c.search.ensures.frame.still) r)
-          (place_inside note c.key_code.result c.in-Ok.place at)).1,
-    )
+pub has_in-requires-clause-readable : goal.has_in-requires-clause-readable
+has_in-requires-clause-readable c = (first_note c.args.pass.now.seat.me.0.upper.notes, c.requires.below.looking.readable)

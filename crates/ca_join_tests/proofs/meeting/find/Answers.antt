@@ -1,6 +1,5 @@
 use Rattle.std.proofs.Common.{◌≡◌, [], refl, subst}
 use Rattle.ca_adapt.specs.declared.joining.Attempt.{Attempt}
-use Rattle.ca_adapt.specs.Finishing.{IsHungBy}
 use Rattle.ca_adapt.proofs.Securing.{inside_by, remembered_by}
 use Rattle.ca_replace.proofs.Between.{may_first}
 use Rattle.ca_replace.proofs.DueJoins.{hung_under}

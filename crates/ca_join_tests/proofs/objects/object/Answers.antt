@@ -1,4 +1,4 @@
-use Rattle.std.proofs.Common.{◌/◌, ◌%◌, [], ◌∷◌, refl, arith}
+use Rattle.std.proofs.Common.{◌/◌, ◌%◌, refl, arith}
 use Rattle.ca_join_tests.proofs.SampleObjects.{sample}
 use Rattle.ca_join_tests.proofs.objects.object.Goals as goal
 

@@ -1,6 +1,5 @@
-use Rattle.std.proofs.Common.{◌≡◌, ℕ, List, Some, refl, sym, ap, ◌∙◌, subst}
+use Rattle.std.proofs.Common.{◌≡◌, sym, subst}
 use Rattle.ca_base.specs.Finding.{IsBaseShown}
-use Rattle.ca_node.specs.declared.cursor.Cursor.{Cursor}
 use Rattle.ca_node.specs.Told.{MyTree, link_word}
 use Rattle.ca_adapt.specs.Joins.{last_on}
 use Rattle.ca_adapt.specs.Trying.{FindsSibling, OnlyLooks}

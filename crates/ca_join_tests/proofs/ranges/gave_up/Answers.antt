@@ -1,0 +1,4 @@
+use Rattle.ca_join_tests.proofs.ranges.gave_up.Goals as goal
+
+pub begin-requires-clause-function : goal.begin-requires-clause-function
+begin-requires-clause-function g c = c.requires.function _
