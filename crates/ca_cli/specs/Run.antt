@@ -13,7 +13,7 @@ use Rattle.ca_client.specs.declared.running.Ran.{Ran}
 -- these bytes tell of the run: of its answers and its table, and of the shape that it left, where that is asked for
 abbrev pub text_of_ran : Request → TreeOptions → List (List Numbered) → Ran → List ℕ
 text_of_ran request options lines ran =
-    text_of request lines (all_answers_of ran.answers.items) ran.objects.items ++ shape_text options ran.splits ran.joins
+    text_of request lines (all_answers_of ran.answers.items) ran.table ++ shape_text options ran.splits ran.joins
 
 -- Clients with these lines played on a tree that was made for them as these options ask, and this is their run.
 pub record IsRunOf (request : Request) (options : TreeOptions) (lines : List (List Numbered)) (ran : Ran) : Type 0 where

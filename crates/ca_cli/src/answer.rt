@@ -1,13 +1,13 @@
-//! The answers of clients, as text. Each client's is made on a thread of its own.
-ghost use Rattle.std.specs.Prelude.{◌≡◌, ◌<◌, ◌++◌, length, map, min, IfOk, OnOk, vec_len};
+//! The answers of clients and the final table, as text. Each client's is made on a thread of its own.
+ghost use Rattle.std.specs.Prelude.{◌≡◌, ◌<◌, ◌++◌, flat_map, length, map, min, IfOk, OnOk, vec_len};
 ghost use Rattle.ca_cmd.specs.Answers.{answers_of};
 ghost use Rattle.ca_cmd.specs.Lines.{numbered};
-ghost use Rattle.ca_cmd.specs.Output.{answer_lines, client_lines, text_of_run};
+ghost use Rattle.ca_cmd.specs.Output.{answer_lines, client_lines, object_line, table_text, text_of_run};
 ghost use Rattle.ca_client.specs.Ran.{all_answers_of};
 ghost use Rattle.ca_cli.specs.Texts.{AreTexts, text_at, text_of_client};
 
-use ca_cmd::{Answer, Answers, Lines, show_answer, show_client, show_table};
-use ca_term::Term;
+use ca_client::ClosedTable;
+use ca_cmd::{Answer, Answers, Lines, show_answer, show_client, show_end, show_object, show_start};
 use ca_text::put;
 use std::alloc::{AllocError, Global};
 use std::thread::{Threads, map_indices};
@@ -95,6 +95,26 @@ fn put_clients<R: Threads + Sync>(
     Ok(())
 }
 
+// Appends the objects of a table, a line each. One of them at a time is a term.
+fn put_objects(alloc: Global, table: &ClosedTable, into: &mut Vec<u8>) -> Result<(), AllocError>
+    ensures { OnOk result (into.new.items ≡ into.old.items ++ flat_map object_line table.now) }
+{
+    for at in 0..table.len() {
+        let object = table.object(alloc, at)?;
+        show_object(&object, into)?;
+    }
+    Ok(())
+}
+
+// Appends a table.
+fn put_table(alloc: Global, table: &ClosedTable, into: &mut Vec<u8>) -> Result<(), AllocError>
+    ensures { OnOk result (into.new.items ≡ into.old.items ++ table_text table.now) }
+{
+    show_start(into)?;
+    put_objects(alloc, table, into)?;
+    show_end(table.len() as u64, into)
+}
+
 /// Appends what is printed of clients' answers to their lines, and of a table. Each client's answers become text on a thread of its own, as far as threads
 /// can be made.
 pub fn put_run<R: Threads + Sync>(
@@ -102,11 +122,11 @@ pub fn put_run<R: Threads + Sync>(
     alloc: Global,
     files: &[Lines],
     all: &[Answers],
-    table: &[Term],
+    table: &ClosedTable,
     into: &mut Vec<u8>,
 ) -> Result<(), AllocError>
     ensures { OnOk result (into.new.items ≡ into.old.items ++ text_of_run (map numbered files.now) (all_answers_of all.now) table.now) }
 {
     put_clients(rt, alloc, files, all, into)?;
-    show_table(table, into)
+    put_table(alloc, table, into)
 }

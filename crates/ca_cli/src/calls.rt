@@ -104,7 +104,7 @@ fn the_run_is_kept_where_the_output_fails(rt: HostRuntime) -> Result<(), Fail> {
     assert_eq!(rt; status, Status::SinkFault);
     assert_eq!(rt; sink.taken(), b"client 1\n".as_slice());
     let kept = match &ran {
-        Some(ran) => (ran.answers.len(), ran.objects.len()),
+        Some(ran) => (ran.answers.len(), ran.table.len()),
         None => (0, 0),
     };
     assert_eq!(rt; kept, (1, 1));

@@ -14,15 +14,17 @@ ghost use Rattle.ca_cli.specs.Complete.{AreHeld};
 ghost use Rattle.ca_cli.specs.Reading.{wanted_of, IsRead, IsFault};
 
 use crate::status::Status;
-use ca_cmd::{FileFault, Lines, read_file};
+use ca_cmd::{FileFault, Lines, read_on_threads};
 use ca_outside::{FetchFault, Shelf};
 use std::alloc::Global;
+use std::thread::Threads;
 
 // The most bytes that all files have together.
 pub(crate) const MOST_BYTES: usize = 16_777_216;
 
-// The lines of the file of this name, for which there is room, and how many bytes it has. The bytes aren't kept.
-fn read_one<F: Shelf>(
+// The lines of the file of this name, for which there is room, and how many bytes it has. A large file is read on threads.
+fn read_one<R: Threads + Sync, F: Shelf>(
+    rt: &R,
     alloc: Global,
     shelf: &mut F,
     name: &str,
@@ -51,8 +53,9 @@ fn read_one<F: Shelf>(
         Err(FetchFault::TooLong) => return Err(Status::TooLong { file: number }),
         Err(FetchFault::NoMemory) => return Err(Status::NoMemory),
     }
-    match read_file(alloc, file.as_slice()) {
-        Ok(lines) => Ok((lines, file.len())),
+    let count = file.len();
+    match read_on_threads(rt, alloc, file) {
+        Ok(lines) => Ok((lines, count)),
         Err(FileFault::BadLine { line, at, .. }) => Err(Status::BadLine {
             file: number,
             line,
@@ -64,7 +67,8 @@ fn read_one<F: Shelf>(
 
 /// The lines of the files of these names, each file fetched and read before the next one is fetched. The first file that
 /// is not accepted ends it. Each file has the room that the files before it left.
-pub fn read_all<F: Shelf>(
+pub fn read_all<R: Threads + Sync, F: Shelf>(
+    rt: &R,
     alloc: Global,
     shelf: &mut F,
     names: &[String],
@@ -92,7 +96,7 @@ pub fn read_all<F: Shelf>(
     let mut number = 0;
     for name in names {
         number += 1;
-        let (lines, count) = read_one(alloc, shelf, name.as_str(), number, room)?;
+        let (lines, count) = read_one(rt, alloc, shelf, name.as_str(), number, room)?;
         room -= count;
         all.push_reserved(lines);
     }

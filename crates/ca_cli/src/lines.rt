@@ -17,6 +17,7 @@ use ca_cmd::{Lines, generate};
 use ca_outside::Shelf;
 use ca_words::Request;
 use std::alloc::{AllocError, Global};
+use std::thread::Threads;
 
 // So many lines for each of so many clients, made from a seed.
 fn make_all(alloc: Global, seed: u32, clients: u32, count: u32) -> Result<Vec<Lines>, AllocError>
@@ -32,7 +33,8 @@ fn make_all(alloc: Global, seed: u32, clients: u32, count: u32) -> Result<Vec<Li
 
 /// The lines that are asked for, a list a client: those of the files, each of which is fetched and read before the next one is fetched, up to the first one
 /// that is not accepted; or those that are made from the seed.
-pub fn lines_of<F: Shelf>(
+pub fn lines_of<R: Threads + Sync, F: Shelf>(
+    rt: &R,
     alloc: Global,
     request: Request<'_>,
     shelf: &mut F,
@@ -50,7 +52,7 @@ pub fn lines_of<F: Shelf>(
     ensures later { F.faults shelf.old ≤ F.faults shelf.new }
 {
     match request {
-        Request::Files { keypos: _, names } => read_all(alloc, shelf, names),
+        Request::Files { keypos: _, names } => read_all(rt, alloc, shelf, names),
         Request::Generated {
             seed,
             clients,

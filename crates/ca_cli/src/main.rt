@@ -24,6 +24,7 @@ use crate::progress::Progress;
 use crate::status::{Status, finish};
 use crate::top::run;
 use ca_outside::{DirShelf, OutSink};
+use std::mem::forget;
 use std::process::ExitCode;
 use std::{env, io};
 
@@ -63,6 +64,8 @@ fn main(rt: HostRuntime) -> ExitCode {
                 &mut ran,
             );
             tell(&rt, words.as_slice(), status);
+            // The process ends, and its memory with it: answers aren't let go one by one.
+            forget(ran);
             status
         }
         Err(status) => {

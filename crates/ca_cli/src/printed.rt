@@ -42,10 +42,10 @@ fn put_text<R: Threads + Sync>(
     into: &mut Vec<u8>,
 ) -> Result<(), AllocError>
     ensures { OnOk result (into.new.items ≡ into.old.items
-        ++ text_of (request_in request.entry) (map numbered files.now) (all_answers_of ran.now.answers.items) ran.now.objects.items) }
+        ++ text_of (request_in request.entry) (map numbered files.now) (all_answers_of ran.now.answers.items) ran.now.table) }
 {
     let answers = ran.answers.as_slice();
-    let table = ran.objects.as_slice();
+    let table = &ran.table;
     match request {
         Request::Files {
             keypos: _,
@@ -55,7 +55,7 @@ fn put_text<R: Threads + Sync>(
             seed: _,
             clients,
             lines,
-        } => put_summary(clients, lines, answers, table, into),
+        } => put_summary(alloc, clients, lines, answers, table, into),
     }
 }
 

@@ -1,14 +1,15 @@
 //! What is printed of runs of lines that are made from a seed.
-ghost use Rattle.std.specs.Prelude.{◌≡◌, [], ◌∷◌, ◌++◌, codes, sum_by, OnOk};
+ghost use Rattle.std.specs.Prelude.{◌≡◌, [], ◌∷◌, ◌++◌, codes, sum_by, IfOk, OnOk};
 ghost use Rattle.ca_cmd.specs.Answers.{answer_of, answers_of};
 ghost use Rattle.ca_client.specs.Ran.{all_answers_of};
 ghost use Rattle.ca_cli.specs.Summary.{generated_line, integer_of, number_line, refusals, second_in, second_of, sum_line, sum_of, summary_text};
 
+use ca_client::ClosedTable;
 use ca_cmd::{Answer, Answers};
 use ca_term::{Kind, Term};
 use ca_text::{put, put_number};
 use itoa::Buffer;
-use std::alloc::AllocError;
+use std::alloc::{AllocError, Global};
 
 // The integer that a term is, else 0.
 fn integer(term: &Term) -> i64
@@ -40,14 +41,15 @@ fn second(object: &Term) -> i64
 }
 
 // The sum of the second elements of objects. Each is of 64 bits, and there are fewer than 2^63 of them.
-fn sum(table: &[Term]) -> i128
-    ensures { result ≡ sum_of table.now }
+fn sum(alloc: Global, table: &ClosedTable) -> Result<i128, AllocError>
+    ensures { IfOk result (λ sum. sum ≡ sum_of table.now) }
 {
     let mut sum = 0;
-    for object in table {
-        sum += i128::from(second(object));
+    for at in 0..table.len() {
+        let object = table.object(alloc, at)?;
+        sum += i128::from(second(&object));
     }
-    sum
+    Ok(sum)
 }
 
 // 1 where a command was refused, else 0.
@@ -118,10 +120,11 @@ fn put_sum(sum: i128, into: &mut Vec<u8>) -> Result<(), AllocError>
 /// Appends the summary of clients' answers and of a table, where so many clients had so many lines each: how many commands were refused, how many objects
 /// there are, and the sum of their second elements.
 pub fn put_summary(
+    alloc: Global,
     clients: u32,
     lines: u32,
     all: &[Answers],
-    table: &[Term],
+    table: &ClosedTable,
     into: &mut Vec<u8>,
 ) -> Result<(), AllocError>
     ensures { OnOk result (into.new.items
@@ -130,5 +133,5 @@ pub fn put_summary(
     put_generated(clients, lines, into)?;
     put_refused(all, into)?;
     put_number_line(b"end ", table.len() as u64, into)?;
-    put_sum(sum(table), into)
+    put_sum(sum(alloc, table)?, into)
 }

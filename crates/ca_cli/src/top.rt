@@ -102,7 +102,7 @@ fn played<R: Threads + Wait + Sync, F: Shelf, G: Gate + Sync>(
     let Some(line) = line else {
         return Err(Status::Usage);
     };
-    let files = lines_of(alloc, line.request, shelf)?;
+    let files = lines_of(rt, alloc, line.request, shelf)?;
     let Ok(report) = play(rt, alloc, line, files.as_slice(), gate) else {
         return Err(Status::NoMemory);
     };

@@ -1,3 +1,4 @@
+pub mod Codes
 pub mod Commands
 pub mod Crossing
 pub mod Logs

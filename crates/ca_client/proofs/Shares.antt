@@ -205,7 +205,7 @@ have_logs keypos past clients objects table closed e played plays stands = let h
 -- Clients that shared a tree have run, once it is closed.
 module _ {R : Type 0} (table : TableId) (z : Sizes) (files : List (List Line)) (passes : List (Pass R TreeView)) (objects : StoreMap) (ran : Ran)
     (shares : AreShares table z 1 files ran.answers.items passes) (left : ran.past.passes ≡ map left_by passes) (made : ran.past.made ≡ length files)
-    (closed : IsClosed ran.past objects) (stands : Stands z.keypos objects ran.objects.items) where
+    (closed : IsClosed ran.past objects) (stands : Stands z.keypos objects ran.table) where
   players_are : ArePlayers z.keypos 1 files ran.answers.items ran.past.passes
   players_are = subst (λ (xs : List Ended). ArePlayers z.keypos 1 files ran.answers.items xs) (sym left)
       (players table z 1 files ran.answers.items passes shares)
@@ -214,9 +214,9 @@ module _ {R : Type 0} (table : TableId) (z : Sizes) (files : List (List Line)) (
       → HasRun z.keypos (map commands_in (map numbered files)) ran
   has_run splits joins =
       let p = players_are in
-      let logs = have_logs z.keypos ran.past p.clients objects ran.objects.items closed (made ∙ sym p.count) p.played p.plays stands in
+      let logs = have_logs z.keypos ran.past p.clients objects ran.table closed (made ∙ sym p.count) p.played p.plays stands in
       let merge = merge_of closed.history p.clients in
-      let terms = ran.objects.items in
+      let terms = ran.table in
       record {
         made = made ∙ sym p.count ∙ sym (length-map p.clients (λ (c : Player). c.commands)) ∙ ap (λ (cs : List (List Command)). length cs) p.commands_are;
         history = closed.history;

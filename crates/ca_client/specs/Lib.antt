@@ -3,3 +3,4 @@ pub mod Tries
 pub mod Played
 pub mod Ran
 pub mod Sharing
+pub mod Table

@@ -52,11 +52,11 @@ pub record HasRun (keypos : ℕ) (commands : List (List Command)) (ran : Ran) : 
   pub clients : List Client
   pub commands_are : map (λ client. client.commands) clients ≡ commands
   pub answers_are : map (λ client. client.answers) clients ≡ all_answers_of ran.answers.items
-  pub logs : HaveLogs keypos history clients ran.objects.items
+  pub logs : HaveLogs keypos history clients ran.table
   pub played : ArePlayedBy 1 clients ran.past.passes
   pub splits_are : ran.splits ≡ splits_of ran.past.passes
   pub joins_are : ran.joins ≡ joins_of ran.past.passes
-  pub explained : ExplainedBy keypos commands (all_answers_of ran.answers.items) (merge_of history clients) ran.objects.items
+  pub explained : ExplainedBy keypos commands (all_answers_of ran.answers.items) (merge_of history clients) ran.table
 
 -- The history of a run is told by the logs of its passes: there is no other one.
 abbrev pub HaveOneHistory : Type 0

@@ -10,12 +10,11 @@ ghost use Rattle.ca_client.specs.Sharing.{AreLeft, AreNew, AreReady, IsNew, IsPa
 use crate::clients::{Client, play_all};
 use crate::gate::Gate;
 use crate::giving::GivesRowsBack;
-use crate::listing::terms_of;
+use crate::table::ClosedTable;
 use ca_cmd::{Answers, Lines};
 use ca_node::{TreePass, adapted};
 use ca_replace::{Past, Tree, TreeStore};
 use ca_table::Table;
-use ca_term::Terms;
 use std::alloc::{AllocError, Global};
 use std::sync::Wait;
 use std::thread::Threads;
@@ -25,8 +24,8 @@ use std::thread::Threads;
 pub struct Ran {
     /// The answers to each client's commands.
     pub answers: Vec<Answers>,
-    /// The objects of the final table, in the order of their keys.
-    pub objects: Terms,
+    /// The final table.
+    pub table: ClosedTable,
     /// How many splits and how many joins the passes carried out, each up to the last number that 64 bits hold.
     pub splits: u64,
     pub joins: u64,
@@ -175,10 +174,9 @@ pub fn run_clients<R: Threads + Wait + Sync, G: Gate + Sync>(
     let Ok(closed) = tree.close(alloc, parts.passes) else {
         return Err(AllocError);
     };
-    let objects = terms_of(alloc, &closed.objects)?;
     Ok(Ran {
         answers: parts.answers,
-        objects,
+        table: ClosedTable::of(closed.objects),
         splits: parts.splits,
         joins: parts.joins,
         past: closed.past,

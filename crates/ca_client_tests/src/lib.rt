@@ -9,6 +9,8 @@ mod files;
 #[cfg(test)]
 mod gates;
 #[cfg(test)]
+mod reading;
+#[cfg(test)]
 mod refusals;
 #[cfg(test)]
 mod sharing;

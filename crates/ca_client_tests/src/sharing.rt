@@ -4,7 +4,7 @@ ghost use Rattle.std.specs.Prelude.{◌≡◌, IfOk};
 use crate::files::{lines_of, text_of};
 use ca_adapt::Tuning;
 use ca_client::{Gate, OpenGate, Ran, Rendezvous, run_clients};
-use ca_cmd::show_table;
+use ca_cmd::{show_end, show_object, show_start};
 use ca_replace::Tree;
 use ca_rows::Starts;
 use ca_text::put;
@@ -62,7 +62,12 @@ fn ran_of<R: Threads + Wait + Sync, G: Gate + Sync>(
 // The text of the final table.
 fn table_of(alloc: Global, ran: &Ran) -> Result<Vec<u8>, AllocError> {
     let mut text = Vec::new(alloc);
-    show_table(ran.objects.as_slice(), &mut text)?;
+    show_start(&mut text)?;
+    for at in 0..ran.table.len() {
+        let object = ran.table.object(alloc, at)?;
+        show_object(&object, &mut text)?;
+    }
+    show_end(ran.table.len() as u64, &mut text)?;
     Ok(text)
 }
 
@@ -76,7 +81,7 @@ fn one_client_splits_bases_until_no_level_is_left(rt: HostRuntime) -> Result<(),
         assert_eq!(rt; text.as_slice(), ELEVEN_ANSWERS);
     }
     assert_eq!(rt; (ran.splits, ran.joins), (8, 0));
-    assert_eq!(rt; ran.objects.len(), 10);
+    assert_eq!(rt; ran.table.len(), 10);
     Ok(())
 }
 

@@ -1,11 +1,12 @@
 -- The lines of a file: they are determined, a file isn't both read and refused, and one line after the other is taken.
-use Rattle.std.proofs.Common.{◌≡◌, ℕ, suc, ◌+◌, List, [], ◌∷◌, ◌++◌, length, Option, Ok, Err, refl, sym, ◌∙◌, ap, subst, arith, append_assoc, length-append}
+use Rattle.std.proofs.Common.{◌≡◌, ℕ, suc, ◌+◌, List, [], ◌∷◌, ◌++◌, length, drop, Option, Ok, Err, refl, sym, ◌∙◌, ap, subst, arith, append_assoc, length-append}
 use Rattle.std.proofs.lemmas.List.{append-nil}
 use Rattle.ca_ets.specs.Command.{Command}
 use Rattle.ca_cmd.specs.Argument.{Refused}
 use Rattle.ca_cmd.specs.Content.{IsLine}
-use Rattle.ca_cmd.specs.File.{Numbered, cut_lines, lines_of, held_at, AreLines, IsFileOf, IsRefusedAt}
+use Rattle.ca_cmd.specs.File.{Numbered, lines_of, held_at, AreLines, IsFileOf, IsRefusedAt}
 use Rattle.ca_cmd.specs.Lines.{numbered}
+use Rattle.ca_cmd.specs.Parts.{IsRefusedFrom, IsFaultFrom}
 use Rattle.ca_cmd.specs.Refusal.{IsCauseIn, IsCauseAt}
 use Rattle.ca_cmd.specs.declared.fault.FileFault.{FileFault}
 use Rattle.ca_cmd.specs.declared.fault.FileFault.TheVariants.{BadLine, NoMemory}
@@ -89,12 +90,12 @@ pub not_both : (file : List ℕ) (line at : ℕ) (why : LineWhy) (lines : List N
 not_both file line at why lines a f =
     good_or_bad 1 (lines_of file) a.before a.commands lines a.line _ a.good (record { after = a.after; whole = a.whole; bad = a.bad }) f
 
--- So many lines were read, with these commands, and this is left.
-pub record AreReadLines (file : List ℕ) (lines : List Line) (count : ℕ) (rest : List ℕ) : Type 0 where
+-- From these bytes on, before which so many lines stand, lines were read, with these commands; so many stand before what is left.
+pub record AreReadLines (skipped : ℕ) (origin : List ℕ) (lines : List Line) (count : ℕ) (rest : List ℕ) : Type 0 where
   pub before : List (List ℕ)
-  pub good : AreLines 1 before (numbered lines)
-  pub whole : lines_of file ≡ before ++ lines_of rest
-  pub count_is : count ≡ length before
+  pub good : AreLines (skipped + 1) before (numbered lines)
+  pub whole : lines_of origin ≡ before ++ lines_of rest
+  pub count_is : count ≡ skipped + length before
 
 -- One more line that is not refused adds what it holds.
 pub lines_push : (n : ℕ) (before : List (List ℕ)) (commands : List Numbered) (line : List ℕ) (held : Option Command)
@@ -116,25 +117,27 @@ abbrev pub Adds : ℕ → List ℕ → List Line → List Line → Type 0
 Adds number text before after = (content : Option Command) × IsLine text (Ok content) × (numbered after ≡ numbered before ++ held_at number content)
 
 -- One more line is read.
-pub lines_more : (file rest line others : List ℕ) (lines after : List Line) (count : ℕ) → AreReadLines file lines count rest
+pub lines_more : (skipped : ℕ) (origin rest line others : List ℕ) (lines after : List Line) (count : ℕ) → AreReadLines skipped origin lines count rest
     → lines_of rest ≡ line ∷ lines_of others → Adds (count + 1) line lines after
-    → AreReadLines file after (count + 1) others
-lines_more file rest line others lines after count r e t =
-    let here : 1 + length r.before ≡ count + 1 = omega (arith, r.count_is) in
-    let all : numbered lines ++ held_at (1 + length r.before) t.0 ≡ numbered after = ap (λ k. numbered lines ++ held_at k t.0) here ∙ sym t.2 in
+    → AreReadLines skipped origin after (count + 1) others
+lines_more skipped origin rest line others lines after count r e t =
+    let here : skipped + 1 + length r.before ≡ count + 1 = omega (arith, r.count_is) in
+    let all : numbered lines ++ held_at (skipped + 1 + length r.before) t.0 ≡ numbered after =
+    ap (λ k. numbered lines ++ held_at k t.0) here ∙ sym t.2 in
     record {
       before = r.before ++ line ∷ [];
-      good = subst (λ z. AreLines 1 (r.before ++ line ∷ []) z) all (lines_push 1 r.before (numbered lines) line t.0 r.good t.1);
+      good = subst (λ z. AreLines (skipped + 1) (r.before ++ line ∷ []) z) all
+          (lines_push (skipped + 1) r.before (numbered lines) line t.0 r.good t.1);
       whole = r.whole ∙ ap (λ z. r.before ++ z) e ∙ sym (append_assoc r.before (line ∷ []) (lines_of others));
       count_is = simp length-append (omega (arith, r.count_is));
     }
 
--- A refused line behind lines that were read is where the file is refused.
-pub line_refused : (file rest line others : List ℕ) (lines : List Line) (count at : ℕ) (why : LineWhy) → AreReadLines file lines count rest
-    → lines_of rest ≡ line ∷ lines_of others
-    → IsLine line (Err (record { at = at; why = why })) → IsRefusedAt file (count + 1) at why
-line_refused file rest line others lines count at why r e l = record {
-  before = r.before;
+-- A refused line behind lines that were read is the first one that is refused.
+line_refused : (file : List ℕ) (from skipped : ℕ) (rest line others : List ℕ) (lines : List Line) (count at : ℕ) (why : LineWhy)
+    → AreReadLines skipped (drop from file) lines count rest → lines_of rest ≡ line ∷ lines_of others
+    → IsLine line (Err (record { at = at; why = why })) → IsRefusedFrom file from skipped (count + 1) at why
+line_refused file from skipped rest line others lines count at why r e l = record {
+  texts = r.before;
   commands = numbered lines;
   line = line;
   after = lines_of others;
@@ -144,26 +147,15 @@ line_refused file rest line others lines count at why r e l = record {
   place = omega (arith, r.count_is);
 }
 
-no_lines : cut_lines [] ≡ []
-unfolding cut_lines
-no_lines = refl
-
--- Where nothing is left the file is read.
-pub lines_done : (file rest : List ℕ) (lines : List Line) (count : ℕ) → AreReadLines file lines count rest → length rest ≡ 0 → IsFileOf file (numbered lines)
-lines_done file [] lines count r e =
-    let all : r.before ≡ lines_of file = sym (append-nil r.before) ∙ sym (rw (no_lines) at r.whole) in
-    subst (λ z. AreLines 1 z (numbered lines)) all r.good
-lines_done file (b ∷ rest) lines count r e = absurd (omega arith)
+-- What a line fails for the lines from there on fail for.
+pub line_cause : (file : List ℕ) (from skipped : ℕ) (rest line others : List ℕ) (lines : List Line) (count : ℕ) (e : FileFault)
+    → AreReadLines skipped (drop from file) lines count rest → lines_of rest ≡ line ∷ lines_of others → IsCauseAt (count + 1) line e
+    → IsFaultFrom file from skipped e
+line_cause file from skipped rest line others lines count (BadLine number at why) r e c =
+    subst (λ n. IsRefusedFrom file from skipped n at why) (sym c.0) (line_refused file from skipped rest line others lines count at why r e c.1)
+line_cause file from skipped rest line others lines count NoMemory r e c = tt
 
 -- A file that is read fails for want of memory alone.
 pub only_memory : (file : List ℕ) (commands : List Numbered) (e : FileFault) → IsFileOf file commands → IsCauseIn file e → e ≡ NoMemory
 only_memory file commands (BadLine line at why) f c = absurd (not_both file line at why commands c f)
 only_memory file commands NoMemory f c = refl
-
--- What a line fails for the file fails for.
-pub line_cause : (file rest line others : List ℕ) (lines : List Line) (count : ℕ) (e : FileFault) → AreReadLines file lines count rest
-    → lines_of rest ≡ line ∷ lines_of others → IsCauseAt (count + 1) line e
-    → IsCauseIn file e
-line_cause file rest line others lines count (BadLine number at why) r e c =
-    subst (λ n. IsRefusedAt file n at why) (sym c.0) (line_refused file rest line others lines count at why r e c.1)
-line_cause file rest line others lines count NoMemory r e c = tt

@@ -6,6 +6,7 @@ mod Files
 mod Generating
 pub mod Keeping
 mod Listing
+pub mod Parts
 pub mod Same
 mod TermTexts
 mod Words

@@ -8,6 +8,7 @@ pub mod Generator
 pub mod Kept
 pub mod Lines
 pub mod Output
+pub mod Parts
 pub mod Refusal
 pub mod Sole
 pub mod Word

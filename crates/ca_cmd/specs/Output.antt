@@ -53,6 +53,10 @@ client_lines client [] answers = []
 client_lines client (lines ∷ files) [] = []
 client_lines client (lines ∷ files) (own ∷ answers) = client_line client ++ answer_lines lines own ++ client_lines (client + 1) files answers
 
+-- what the table begins with
+abbrev pub table_line : List ℕ
+table_line = codes "table\n"
+
 -- an object of the table
 abbrev pub object_line : Tree → List ℕ
 object_line o = text_of o ++ codes ".\n"
@@ -63,7 +67,7 @@ end_line count = codes "end " ++ decimal count ++ codes "\n"
 
 -- the table's objects in key order
 abbrev pub table_text : List Tree → List ℕ
-table_text table = codes "table\n" ++ flat_map object_line table ++ end_line (length table)
+table_text table = table_line ++ flat_map object_line table ++ end_line (length table)
 
 -- the whole output: each client's answers, and the table
 abbrev pub text_of_run : List (List Numbered) → List (List Answer) → List Tree → List ℕ

@@ -4,6 +4,7 @@
 mod answer;
 mod answers;
 mod argument;
+mod at_once;
 mod command;
 mod cut;
 mod fault;
@@ -12,6 +13,7 @@ mod kept;
 mod laws;
 mod line;
 mod output;
+mod part;
 mod reading;
 mod word;
 
@@ -21,5 +23,5 @@ pub use fault::{FileFault, LineWhy};
 pub use generator::generate;
 pub use laws::{file_laws, lines_cross};
 pub use line::{Line, Lines, MOST_LINE_BYTES};
-pub use output::{show_answer, show_client, show_table};
-pub use reading::read_file;
+pub use output::{show_answer, show_client, show_end, show_object, show_start, show_table};
+pub use reading::{read_file, read_on_threads};

@@ -3,7 +3,7 @@
 ghost use Rattle.std.specs.Prelude.{◌≡◌, ◌++◌, flat_map, OnOk, OnErr};
 ghost use Rattle.ca_text.specs.Written.{BeginsWith};
 ghost use Rattle.ca_cmd.specs.Answers.{answer_of};
-ghost use Rattle.ca_cmd.specs.Output.{answer_line, client_line, end_line, object_line, table_text};
+ghost use Rattle.ca_cmd.specs.Output.{answer_line, client_line, end_line, object_line, table_line, table_text};
 
 use crate::answer::{Answer, put_answer, put_term};
 use ca_term::Term;
@@ -53,6 +53,45 @@ fn put_answer_line(number: u32, answer: &Answer, into: &mut Vec<u8>) -> Result<(
     put(b" ", into)?;
     put_answer(answer, into)?;
     put(b"\n", into)
+}
+
+/// Appends the line that stands before a table's objects.
+pub fn show_start(into: &mut Vec<u8>) -> Result<(), AllocError>
+    ensures ok { OnOk result (into.new.items ≡ into.old.items ++ table_line) }
+    ensures err { OnErr result (into.new.items ≡ into.old.items) }
+{
+    let before = into.len();
+    let outcome = put(b"table\n", into);
+    if outcome.is_err() {
+        into.truncate(before);
+    }
+    outcome
+}
+
+/// Appends the line of an object of a table.
+pub fn show_object(object: &Term, into: &mut Vec<u8>) -> Result<(), AllocError>
+    ensures ok { OnOk result (into.new.items ≡ into.old.items ++ object_line object.now) }
+    ensures err { OnErr result (into.new.items ≡ into.old.items) }
+{
+    let before = into.len();
+    let outcome = put_object(object, into);
+    if outcome.is_err() {
+        into.truncate(before);
+    }
+    outcome
+}
+
+/// Appends the last line, which stands behind a table's objects: how many they are.
+pub fn show_end(count: u64, into: &mut Vec<u8>) -> Result<(), AllocError>
+    ensures ok { OnOk result (into.new.items ≡ into.old.items ++ end_line count) }
+    ensures err { OnErr result (into.new.items ≡ into.old.items) }
+{
+    let before = into.len();
+    let outcome = put_end(count, into);
+    if outcome.is_err() {
+        into.truncate(before);
+    }
+    outcome
 }
 
 /// Appends the objects of a table, a line each, and how many they are.

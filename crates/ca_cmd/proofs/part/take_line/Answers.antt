@@ -1,7 +1,7 @@
 use Rattle.std.proofs.Common.{Some, Ok, Bool, subst}
 use Rattle.ca_cmd.specs.Content.{IsLine}
 use Rattle.ca_cmd.specs.Kept.{IsAdded}
-use Rattle.ca_cmd.proofs.reading.take_line.Goals as goal
+use Rattle.ca_cmd.proofs.part.take_line.Goals as goal
 
 pub returns-in_ok-add-in-Ok-Some-clause-taken : goal.returns-in_ok-add-in-Ok-Some-clause-taken
 returns-in_ok-add-in-Ok-Some-clause-taken c = (
