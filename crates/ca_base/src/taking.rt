@@ -1,12 +1,13 @@
 //! Rows are taken for a call, and put back.
-ghost use Rattle.std.specs.Prelude.{◌≢◌, Err, ◌<◌, ℕ, List, [], ◌∷◌, length};
+ghost use Rattle.std.specs.Prelude.{◌≡◌, ◌≢◌, Err, ◌<◌, ℕ, List, [], ◌∷◌, length};
 ghost use Rattle.ca_node.specs.Links.{IsIn};
-ghost use Rattle.ca_base.specs.Counting.{IsSpent, HasFound, HasMet, HasPutBack, KeepsLost, PutsBack};
+ghost use Rattle.ca_base.specs.Counting.{IsSpent, HasFound, HasMet, HasPutBack, KeepsLost, PutsBack, losses};
 ghost use Rattle.ca_base.specs.declared.stop.Exchange.TheVariants.{Link as IsLink};
 ghost use Rattle.ca_base.specs.declared.stop.Stop.TheVariants.{Lost as IsLost};
 ghost use Rattle.ca_base.specs.Taking.{AreHeld, HasTaken, HasTakenTwo, MayTake, TakesOldest, TakesTwo};
 ghost use Rattle.ca_rows.specs.Kept.{AreKept, AreYoung};
 ghost use Rattle.ca_rows.specs.Passes.{IsOn, IsStillPass, StillKeepsList, sizes, known, view};
+ghost use Rattle.ca_rows.specs.Told.{IsOnly};
 
 use crate::spending::lose;
 use crate::stop::{Exchange, Stop};
@@ -15,7 +16,7 @@ use ca_node::{TreePass, TreeSpace};
 use ca_rows::Taken;
 
 /// Takes a row: of those that the pass keeps, and on which nobody can have a note any more, the oldest one of this form, or else the oldest one; where it
-/// keeps no such row, a free one.
+/// keeps no such row, a free one. A pass that is the only one which the space is for loses no exchange by it.
 pub fn take(
     space: &TreeSpace,
     pass: &mut TreePass,
@@ -27,6 +28,7 @@ pub fn take(
     ensures taken { (held : List ℕ) → length held < 8 → AreHeld (sizes space.now).rows pass.old.kept.rows (view pass.old) held
         → HasTaken result held (AreHeld (sizes space.now).rows pass.new.kept.rows (view pass.new)) }
     ensures counted { IsSpent spent.old spent.new (known pass.old) (known pass.new) }
+    ensures only { IsOnly (known pass.old) → losses (known pass.new) ≡ losses (known pass.old) }
     ensures found { HasFound result (known pass.old) (known pass.new) }
     ensures head { result ≢ Err (IsLost IsLink) }
     ensures back { HasPutBack (like ∷ []) result (known pass.old) (known pass.new) pass.old.kept pass.new.kept }
@@ -47,6 +49,7 @@ fn take_free(space: &TreeSpace, pass: &mut TreePass, spent: &mut Spent) -> Resul
     ensures taken { (held : List ℕ) → length held < 8 → AreHeld (sizes space.now).rows pass.old.kept.rows (view pass.old) held
         → HasTaken result held (AreHeld (sizes space.now).rows pass.new.kept.rows (view pass.new)) }
     ensures counted { IsSpent spent.old spent.new (known pass.old) (known pass.new) }
+    ensures only { IsOnly (known pass.old) → losses (known pass.new) ≡ losses (known pass.old) }
     ensures found { HasFound result (known pass.old) (known pass.new) }
     ensures head { result ≢ Err (IsLost IsLink) }
     ensures back { HasPutBack [] result (known pass.old) (known pass.new) pass.old.kept pass.new.kept }
@@ -74,6 +77,7 @@ pub fn take_two(
     ensures frame { IsStillPass pass.old pass.new }
     ensures taken { HasTakenTwo result (AreHeld (sizes space.now).rows pass.new.kept.rows (view pass.new)) }
     ensures counted { IsSpent spent.old spent.new (known pass.old) (known pass.new) }
+    ensures only { IsOnly (known pass.old) → losses (known pass.new) ≡ losses (known pass.old) }
     ensures found { HasFound result (known pass.old) (known pass.new) }
     ensures head { result ≢ Err (IsLost IsLink) }
     ensures back { HasPutBack (likes.0 ∷ likes.1 ∷ []) result (known pass.old) (known pass.new) pass.old.kept pass.new.kept }
@@ -97,6 +101,7 @@ pub fn give_back(space: &TreeSpace, pass: &mut TreePass, row: u32, form: u32, sp
     ensures given { (rest : List ℕ) → ¬ IsIn row rest → AreHeld (sizes space.now).rows pass.old.kept.rows (view pass.old) (row ∷ rest)
         → AreHeld (sizes space.now).rows pass.new.kept.rows (view pass.new) rest }
     ensures counted { IsSpent spent.old spent.new (known pass.old) (known pass.new) }
+    ensures only { IsOnly (known pass.old) → losses (known pass.new) ≡ losses (known pass.old) }
     ensures met { HasMet 0 0 (known pass.old) (known pass.new) }
     ensures back { PutsBack [] 0 (known pass.old) (known pass.new) pass.old.kept pass.new.kept }
     ensures kept { KeepsLost form row (known pass.old) (known pass.new) pass.old.kept.rows.items pass.new.kept.rows.items }

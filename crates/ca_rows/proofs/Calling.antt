@@ -1,16 +1,26 @@
 -- What the steps of one call come to together.
-use Rattle.std.proofs.Common.{◌≡◌, ◌≢◌, ℕ, eqb, Bool, List, length, sym, ap, ◌∙◌, subst, eq-eqb, ne_eqb}
+use Rattle.std.proofs.Common.{◌≡◌, ◌≢◌, ℕ, ◌<◌, eqb, Bool, List, length, sym, ap, ◌∙◌, subst, eq-eqb, ne_eqb}
 use mathlib.Core.Logic.{dite}
 use mathlib.Core.Option.{none}
 use native.Mathlib.Decide.{ℕ_discrete}
 use Rattle.ca_rows.specs.declared.view.Claim.TheVariants.{Holds}
 use Rattle.ca_rows.specs.declared.view.Claimed.{Claimed}
+use Rattle.ca_rows.specs.declared.view.Pin.{Pin}
 use Rattle.ca_rows.specs.declared.view.Stage.{Stage}
-use Rattle.ca_rows.specs.Calls.{PutsRow}
+use Rattle.ca_rows.specs.Calls.{IsNumbered, PutsRow}
 use Rattle.ca_rows.specs.Claims.{claim_of, claimed, dropped}
 use Rattle.ca_rows.specs.Told.{Mine, with_stage, with_claims, with_most, missed}
 use Rattle.ca_rows.proofs.Claiming.{dropped_claimed}
 use Rattle.ca_rows.specs.Layout.{row_words}
+
+-- A seat whose pin has a pass's number is a pass's.
+pub is_pass : (number : ℕ) (e : Pin) → IsNumbered number e → 0 < e.number
+is_pass number e n = subst (λ (x : ℕ). 0 < x) (sym n.0) n.1
+
+-- It has the number still.
+pub numbered_still : (number number' : ℕ) (e e' : Pin) → number' ≡ number → e' ≡ e → IsNumbered number e → IsNumbered number' e'
+numbered_still number number' e e' same pin n =
+    subst (λ (x : ℕ × Pin). IsNumbered x.0 x.1) (λ i. (sym same i, sym pin i)) n
 
 module _ {U : Type 0} (a b c d : Mine U) (one two : Stage) (looked : b ≡ with_stage a one) where
   peeked_too : c ≡ with_stage b two → c ≡ with_stage a two

@@ -277,6 +277,7 @@ module _ {U : Type 0} (linked lent : List ℕ → ℕ → Type 0) (noted : List 
             sizes_are = mine.sizes_are;
             made_are = λ e. mine.made_are (sym is ∙ e);
             stage_is = stages v.stage mine.stage_is;
+            head_is = mine.head_is;
             in_range = λ c x f. by_claims c x f (claim_of v.claims c) refl;
             noted_pinned = λ c n. absurd (joined_unnoted c n);
           })
@@ -286,6 +287,7 @@ module _ {U : Type 0} (linked lent : List ℕ → ℕ → Type 0) (noted : List 
             made_are = λ f. let first : seat ≡ 0 = sym is ∙ f in
                 sym (none_made first) ∙ (r.seat seat w was_there).made_are first;
             stage_is = tt;
+            head_is = tt;
             in_range = λ c x f. absurd (some-ne-none x (sym f));
             noted_pinned = λ c n. absurd (law.spent_notes s.words c n);
           })
@@ -293,6 +295,7 @@ module _ {U : Type 0} (linked lent : List ℕ → ℕ → Type 0) (noted : List 
             sizes_are = k.sizes_are;
             made_are = k.made_are;
             stage_is = stages d.stage k.stage_is;
+            head_is = k.head_is;
             in_range = k.in_range;
             noted_pinned = k.noted_pinned;
           });

@@ -103,6 +103,7 @@ module _ {U : Type 0} (linked lent : List ℕ → ℕ → Type 0) (noted : List 
           sizes_are = inl refl;
           made_are = λ f. no_seats (sym t.0 ∙ f);
           stage_is = tt;
+          head_is = tt;
           in_range = λ c x f. absurd (some-ne-none x (sym f));
           noted_pinned = λ c n. absurd (unnoted c n);
         })

@@ -5,6 +5,7 @@ pub mod Claiming
 pub mod Closing
 pub mod Forking
 mod GivingBack
+pub mod Heads
 pub mod HeldCount
 pub mod Keeping
 pub mod Listing

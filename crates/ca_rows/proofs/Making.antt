@@ -14,6 +14,7 @@ use Rattle.ca_rows.specs.Claims.{claim_of, claim_at}
 use Rattle.ca_rows.specs.Laws.{Making}
 use Rattle.ca_rows.specs.Pins.{ArePins, IsPin, unpinned}
 use Rattle.ca_rows.specs.Rule.{fresh, upper_of, pin_of, NotedAt, Knows, Ruled}
+use Rattle.ca_rows.proofs.Heads.{head_grows}
 use Rattle.ca_rows.proofs.Accounts.{row_stays}
 use Rattle.ca_rows.proofs.Claiming.{claim_mine, claim_others, claim_there}
 use Rattle.ca_rows.proofs.Rules.{all_seats}
@@ -162,6 +163,9 @@ module _ {U : Type 0} (linked lent : List ℕ → ℕ → Type 0) (noted : List 
         (λ (d : View U). noted s.words d.upper c) (sym t.1) n.note)))
         (at_place (set s.views 0 (made_one v)) (new_pass v) n.d n.seat n.here)
 
+    numbered : (j : ℕ) (d : View U) → get_elem? s.views j ≡ some d → d.pin.number ≤ r.made
+    numbered j d here = (r.pins.each j d.pin (at_map pin_of s.views j d here)).in_range
+
     knows : (j : ℕ) (d : View U) → get_elem? grown j ≡ some d
         → Knows noted z (r.made + 1) r.owner s.words j d
     knows j d here = let mine = r.seat 0 v at in ⊎_elim
@@ -171,6 +175,7 @@ module _ {U : Type 0} (linked lent : List ℕ → ℕ → Type 0) (noted : List 
           made_are = λ e. ap (λ n. n + 1)
               (mine.made_are e);
           stage_is = mine.stage_is;
+          head_is = head_grows r.made s.words v.pin.number v.stage (numbered 0 v at) mine.head_is;
           in_range = mine.in_range;
           noted_pinned = mine.noted_pinned;
         }
@@ -179,8 +184,8 @@ module _ {U : Type 0} (linked lent : List ℕ → ℕ → Type 0) (noted : List 
           sizes_are = k.sizes_are;
           made_are = λ f.
               absurd (n f);
-          stage_is =
-              k.stage_is;
+          stage_is = k.stage_is;
+          head_is = head_grows r.made s.words x.pin.number x.stage (numbered i x e) k.head_is;
           in_range = k.in_range;
           noted_pinned = k.noted_pinned;
         }) j d)
@@ -190,6 +195,7 @@ module _ {U : Type 0} (linked lent : List ℕ → ℕ → Type 0) (noted : List 
           made_are = λ e. let long = some_long s.views 0 v at in
               let same = length-set s.views 0 (made_one v) in let is = t.0 in absurd (omega arith);
           stage_is = tt;
+          head_is = tt;
           in_range = λ c x e. absurd (some-ne-none x (sym e));
           noted_pinned = λ c n. absurd (law.making_notes s.words (v.made + 1) c n);
         })

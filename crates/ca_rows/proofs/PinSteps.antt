@@ -109,6 +109,7 @@ module _ {U : Type 0} (linked lent : List ℕ → ℕ → Type 0) (noted : List 
             same_sizes = refl;
             same_made = refl;
             same_stage = refl;
+            same_number = refl;
             same_claims = refl;
             head = refl;
             rows_are = λ i _ _. refl;
@@ -169,6 +170,7 @@ module _ {U : Type 0} (linked lent : List ℕ → ℕ → Type 0) (noted : List 
             same_sizes = refl;
             same_made = refl;
             same_stage = refl;
+            same_number = pin.number_is;
             same_claims = refl;
             head = let w = r.wide in else_word 0 (λ e. omega arith);
             rows_are = λ i _ l. let w = r.wide in else_word i (λ e. omega arith);

@@ -11,7 +11,7 @@ use Rattle.ca_rows.specs.declared.sizes.Sizes.{Sizes}
 use Rattle.ca_rows.specs.declared.view.Pin.{Pin}
 use Rattle.ca_rows.specs.declared.view.Stage.{Stage}
 use Rattle.ca_rows.specs.declared.view.View.{View}
-use Rattle.ca_rows.specs.Chain.{IsStage}
+use Rattle.ca_rows.specs.Chain.{IsHead, IsStage}
 use Rattle.ca_rows.specs.Claims.{claim_of, claim_at}
 use Rattle.ca_rows.specs.Laws.{Agrees, Framed, Frames}
 use Rattle.ca_rows.specs.Pins.{IsPin, ArePins}
@@ -19,6 +19,7 @@ use Rattle.ca_rows.specs.Rule.{upper_of, pin_of, NotedAt, Knows, Ruled}
 use Rattle.ca_rows.specs.Words.{epoch, announced, head_tag, first_of}
 use Rattle.ca_rows.proofs.Accounts.{row_stays}
 use Rattle.ca_rows.proofs.Chains.{chain_stays, stage_stays}
+use Rattle.ca_rows.proofs.Heads.{head_stays}
 use Rattle.ca_rows.proofs.Claiming.{claim_mine, claim_others, claim_there}
 use Rattle.ca_rows.proofs.Rules.{all_seats}
 use Rattle.ca_rows.specs.Layout.{row_words, row_limit}
@@ -127,6 +128,7 @@ module _ {U : Type 0} (linked lent : List ℕ → ℕ → Type 0) (noted : List 
     pub same_sizes : d'.sizes ≡ d.sizes
     pub same_made : d'.made ≡ d.made
     pub same_stage : d'.stage ≡ d.stage
+    pub same_number : d'.pin.number ≡ d.pin.number
     pub same_claims : d'.claims ≡ d.claims
     pub head : get_or words' 0 0 ≡ get_or s.words 0 0
     pub rows_are : (i : ℕ) → row_words ≤ i → i < row_words * z.rows + row_words → get_or words' i 0 ≡ get_or s.words i 0
@@ -173,12 +175,16 @@ module _ {U : Type 0} (linked lent : List ℕ → ℕ → Type 0) (noted : List 
           made_are = λ e. n.same_made ∙ mine.made_are e;
           stage_is =
               subst (IsStage z.rows r.owner words') (sym n.same_stage) (stages d.stage mine.stage_is);
+          head_is = subst (λ (x : ℕ × Stage). IsHead r.made words' x.0 x.1)
+              (λ i. (sym n.same_number i, sym n.same_stage i))
+              (head_stays r.made s.words words' n.head d.pin.number d.stage mine.head_is);
           in_range = λ c x e. mine.in_range c x (ap (λ xs. claim_of xs c) (sym n.same_claims) ∙ e);
           noted_pinned = λ c x. (n.notes c x).2;
         } (λ j x ne e. let k = r.seat j x e in record {
           sizes_are = k.sizes_are;
           made_are = k.made_are;
           stage_is = stages x.stage k.stage_is;
+          head_is = head_stays r.made s.words words' n.head x.pin.number x.stage k.head_is;
           in_range = k.in_range;
           noted_pinned =
               λ c m. k.noted_pinned c (framed.notes j x.upper (at_map upper_of s.views j x e) c m);

@@ -16,7 +16,7 @@ use Rattle.ca_rows.specs.declared.view.Pin.{Pin}
 use Rattle.ca_rows.specs.declared.view.Stage.{Stage}
 use Rattle.ca_rows.specs.declared.view.View.{View}
 use Rattle.ca_rows.specs.Account.{IsOut, IsClaim, IsRow}
-use Rattle.ca_rows.specs.Chain.{Owner, Free, Linked, Of, IsStage}
+use Rattle.ca_rows.specs.Chain.{Owner, Free, Linked, Of, IsHead, IsStage}
 use Rattle.ca_rows.specs.Claims.{claim_of, claim_at}
 use Rattle.ca_rows.specs.Laws.{Lends as LendsLaw}
 use Rattle.ca_rows.specs.Pins.{ArePins}
@@ -24,6 +24,7 @@ use Rattle.ca_rows.specs.Rule.{upper_of, pin_of, NotedAt, Knows, Ruled}
 use Rattle.ca_rows.specs.Words.{epoch, announced, head_tag, first_of}
 use Rattle.ca_rows.proofs.Accounts.{row_stays}
 use Rattle.ca_rows.proofs.Chains.{chain_stays, stage_stays}
+use Rattle.ca_rows.proofs.Heads.{head_stays}
 use Rattle.ca_rows.proofs.Claiming.{claim_mine, claim_others, claim_there}
 use Rattle.ca_rows.proofs.Rules.{all_seats, pins_stay}
 use Rattle.ca_rows.specs.Layout.{row_words, row_limit}
@@ -324,6 +325,9 @@ module _ {U : Type 0} (linked lent : List ℕ → ℕ → Type 0) (noted : List 
             stage_is =
                 subst (IsStage z.rows owner' words') (sym m.same_stage)
                 (stages d.stage own.stage_is);
+            head_is = subst (λ (x : ℕ × Stage). IsHead r.made words' x.0 x.1)
+                (λ i. (ap (λ (e : Pin). e.number) (sym m.same_pin) i, sym m.same_stage i))
+                (head_stays r.made s.words words' head d.pin.number d.stage own.head_is);
             in_range = m.in_range;
             noted_pinned = pinned_now id d' here';
           })
@@ -331,6 +335,7 @@ module _ {U : Type 0} (linked lent : List ℕ → ℕ → Type 0) (noted : List 
             sizes_are = k.sizes_are;
             made_are = k.made_are;
             stage_is = stages y.stage k.stage_is;
+            head_is = head_stays r.made s.words words' head y.pin.number y.stage k.head_is;
             in_range = k.in_range;
             noted_pinned = pinned_now i y here';
           })

@@ -13,7 +13,7 @@ use Rattle.ca_rows.specs.declared.view.Pin.{Pin}
 use Rattle.ca_rows.specs.declared.view.Stage.{Stage}
 use Rattle.ca_rows.specs.declared.view.View.{View}
 use Rattle.ca_rows.specs.Account.{IsAlone, IsRow}
-use Rattle.ca_rows.specs.Chain.{Owner, IsChain, IsStage}
+use Rattle.ca_rows.specs.Chain.{Owner, IsChain, IsHead, IsStage}
 use Rattle.ca_rows.specs.Claims.{claim_of, claim_at}
 use Rattle.ca_rows.specs.Laws.{Agrees, Framed, Frames}
 use Rattle.ca_rows.specs.Pins.{ArePins}
@@ -144,9 +144,12 @@ module _ {U : Type 0} (linked lent : List ℕ → ℕ → Type 0) (noted : List 
           → ((c : Claim) → claim_of d'.claims q ≡ some c → (0 < q) × (q ≤ z.rows))
           → ((c : ℕ) → c ≢ q → claim_of d'.claims c ≡ claim_of d.claims c)
           → ((st : Stage) → IsStage z.rows r.owner s.words st → IsStage z.rows owner' words' st)
-          → IsStage z.rows owner' words' d'.stage → Rule after
+          → IsStage z.rows owner' words' d'.stage
+          → ((j : ℕ) (x : View U) → j ≢ id → get_elem? s.views j ≡ some x
+          → IsHead r.made s.words x.pin.number x.stage → IsHead r.made words' x.pin.number x.stage)
+          → IsHead r.made words' d.pin.number d'.stage → Rule after
       keeps_rule owner' count' chain
-          else here in_range claims stages stage = let mine = r.seat id d at in record {
+          else here in_range claims stages stage heads head = let mine = r.seat id d at in record {
             owner = owner';
             count = count';
             made = r.made;
@@ -163,6 +166,7 @@ module _ {U : Type 0} (linked lent : List ℕ → ℕ → Type 0) (noted : List 
               sizes_are = subst (λ (x : Sizes). (x.rows ≡ 0) ⊎ (x ≡ z)) (sym same_sizes) mine.sizes_are;
               made_are = λ e. same_made ∙ mine.made_are e;
               stage_is = stage;
+              head_is = subst (λ (e : Pin). IsHead r.made words' e.number d'.stage) (sym same_pin) head;
               in_range = λ c x e. dite (ℕ_discrete c q)
                   (λ (f : c ≡ q). subst (λ y. (0 < y) × (y ≤ z.rows)) (sym f)
                   (in_range x (subst (λ y. claim_of d'.claims y ≡ some x) f e)))
@@ -174,6 +178,7 @@ module _ {U : Type 0} (linked lent : List ℕ → ℕ → Type 0) (noted : List 
               sizes_are = k.sizes_are;
               made_are = k.made_are;
               stage_is = stages x.stage k.stage_is;
+              head_is = heads j x n e k.head_is;
               in_range = k.in_range;
               noted_pinned = λ c m. k.noted_pinned c (note_back j x e c m);
             });

@@ -98,7 +98,7 @@ module _ {U : Type 0} (linked lent : List ℕ → ℕ → Type 0) (noted : List 
 
     -- A load after which the seat has this pin, or counts a loss.
     loaded : (i : ℕ) (e' : Pin) (lost : ℕ) → ArePins r.made s.words (set (map pin_of s.views) id e')
-        → e'.moment ≡ d.pin.moment → e'.pinned ≡ d.pin.pinned
+        → e'.number ≡ d.pin.number → e'.moment ≡ d.pin.moment → e'.pinned ≡ d.pin.pinned
         → R record {
           words =
               set s.words i (get_or s.words i 0);
@@ -106,7 +106,7 @@ module _ {U : Type 0} (linked lent : List ℕ → ℕ → Type 0) (noted : List 
               s.homes;
           views = set s.views id (record d { pin = e'; lost = lost });
         }
-    loaded i e' lost pins moment pinned = let w : View U = record d { pin = e'; lost = lost } in
+    loaded i e' lost pins number moment pinned = let w : View U = record d { pin = e'; lost = lost } in
         subst (λ (ws : List ℕ). R record { words = ws; homes = s.homes; views = set s.views id w })
         (sym (set-get_or s.words i 0))
         (repinned linked lent noted fact frames z s r id d w at s.words
@@ -114,6 +114,7 @@ module _ {U : Type 0} (linked lent : List ℕ → ℕ → Type 0) (noted : List 
           same_sizes = refl;
           same_made = refl;
           same_stage = refl;
+          same_number = number;
           same_claims = refl;
           head = refl;
           rows_are = λ i _ _. refl;
@@ -142,7 +143,7 @@ module _ {U : Type 0} (linked lent : List ℕ → ℕ → Type 0) (noted : List 
         let e' : Pin =
         record d.pin { scan = scan; upto = upto; lag = lag; looks = looks; lags = lags } in
         loaded i e' d.lost (pins_step r.made s.words s.words (map pin_of s.views) r.pins id d.pin e'
-        here (may_see scan upto lag looks lags past ok)) refl refl
+        here (may_see scan upto lag looks lags past ok)) refl refl refl
 
     -- Nobody is looked at yet.
     nobody : {A : Type 0} (i : ℕ) (x : Pin) → get_elem? (map pin_of s.views) i ≡ some x
@@ -183,6 +184,7 @@ module _ {U : Type 0} (linked lent : List ℕ → ℕ → Type 0) (noted : List 
             same_sizes = refl;
             same_made = refl;
             same_stage = refl;
+            same_number = refl;
             same_claims = refl;
             head = else_word 0 (λ e. omega arith);
             rows_are = λ i l _. else_word i (λ e. omega arith);
@@ -318,7 +320,7 @@ module _ {U : Type 0} (linked lent : List ℕ → ℕ → Type 0) (noted : List 
             (loaded s r id d at 1 e0 (d.lost + 1)
             (pins_step r.made s.words s.words (map pin_of s.views) r.pins id d.pin e0 (here s r id d at)
             (may_see s r id d at d.pin.scan 0 d.pin.lag d.pin.looks d.pin.lags k.scan_past (λ _ i x there low p. nobody s r id d at i x there low p)))
-            refl refl),
+            refl refl refl),
         (sym is, (λ hit. absurd (miss hit)), λ _. refl),
       ))
 
@@ -332,7 +334,7 @@ module _ {U : Type 0} (linked lent : List ℕ → ℕ → Type 0) (noted : List 
     keeps,
     tt,
     loaded s r id d at i d.pin d.lost (subst (ArePins r.made s.words)
-        (sym (set_again (map pin_of s.views) id d.pin (here s r id d at))) r.pins) refl refl,
+        (sym (set_again (map pin_of s.views) id d.pin (here s r id d at))) r.pins) refl refl refl,
     (
       refl,
       λ pinned. ap (λ (j : ℕ). get_or s.words j 0)

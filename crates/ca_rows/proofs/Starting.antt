@@ -140,6 +140,7 @@ module _ {U : Type 0} (linked lent : List ℕ → ℕ → Type 0) (noted : List 
           sizes_are = inr refl;
           made_are = λ _. refl;
           stage_is = tt;
+          head_is = tt;
           in_range = λ r c e. absurd (some-ne-none c (sym e));
           noted_pinned = λ r n. absurd (opened.notes r n);
         };

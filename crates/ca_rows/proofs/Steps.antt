@@ -7,6 +7,7 @@ use native.Mathlib.Decide.{ℕ_discrete}
 use lib.ListN.{get_elem?}
 use prog.Atomic.{either}
 use Rattle.atomic_table.specs.Table.{step, keeps, stepped, Allows}
+use Rattle.atomic_table.proofs.Lists.{at_map}
 use Rattle.ca_rows.specs.declared.sizes.Sizes.{Sizes}
 use Rattle.ca_rows.specs.declared.view.Claim.{Claim}
 use Rattle.ca_rows.specs.declared.view.Claim.TheVariants.{Holds}
@@ -14,14 +15,15 @@ use Rattle.ca_rows.specs.declared.view.Stage.{Stage}
 use Rattle.ca_rows.specs.declared.view.Stage.TheVariants.{Idle, Saw, Knew}
 use Rattle.ca_rows.specs.declared.view.View.{View}
 use Rattle.ca_rows.specs.Account.{IsClaim, IsRow}
-use Rattle.ca_rows.specs.Chain.{Owner, Free, Linked, Of, IsTop, IsStage}
+use Rattle.ca_rows.specs.Chain.{Owner, Free, Linked, Of, IsTop, IsHead, IsStage}
 use Rattle.ca_rows.specs.Claims.{claim_of, claimed, dropped, held_count, claim_at, none_old}
 use Rattle.ca_rows.specs.Laws.{IsNoted, Agrees, Frames}
-use Rattle.ca_rows.specs.Rule.{upper_of, NotedAt}
-use Rattle.ca_rows.specs.Told.{Expects, Mine, with_stage, with_claims, with_most, Looked, Glanced, Peeked, Took, Recalled, Wrote, Gave}
+use Rattle.ca_rows.specs.Rule.{upper_of, pin_of, NotedAt}
+use Rattle.ca_rows.specs.Told.{Expects, IsOnly, Mine, with_stage, with_claims, with_most, Looked, Glanced, Peeked, Took, Recalled, Wrote, Gave}
 use Rattle.ca_rows.specs.Words.{IsWide, Spells, announced, head_tag, head_row, first_of, next_below}
 use Rattle.ca_rows.proofs.Chains.{put, put_here, put_else, in_head, next_number, top_free, top_in_range, chain_stays, chain_takes, chain_gives, stage_stays}
 use Rattle.ca_rows.proofs.Claiming.{claim_mine, claim_others, claim_there, claimed_here, claimed_else, dropped_here, dropped_else}
+use Rattle.ca_rows.proofs.Heads.{head_stays, head_word, head_else as others_head}
 use Rattle.ca_rows.proofs.OwnWords.{announced_else, result_else}
 use Rattle.ca_rows.proofs.Rules.{St, Rule, uppers, Is, alone_now, keeps_rule}
 use Rattle.ca_rows.specs.Layout.{row_words, row_limit, last_tag}
@@ -67,12 +69,13 @@ module _ {U : Type 0} (linked lent : List ℕ → ℕ → Type 0) (noted : List 
   -- or a worn one.
   loaded : (s : S) (r : R s) (i id : ℕ) (d : View U) (st : Stage) (lost empty worn : ℕ)
       → get_elem? s.views id ≡ some d → IsStage z.rows r.owner s.words st
+      → IsHead r.made s.words d.pin.number st
       → R record {
         words = set s.words i (get_or s.words i 0);
         homes = s.homes;
         views = set s.views id (record d { stage = st; lost = lost; empty = empty; worn = worn });
       }
-  loaded s r i id d st lost empty worn at ok =
+  loaded s r i id d st lost empty worn at ok head =
       let w : View U = record d { stage = st; lost = lost; empty = empty; worn = worn } in
       subst (λ (ws : List ℕ). R record { words = ws; homes = s.homes; views = set s.views id w })
       (sym (set-get_or s.words i 0))
@@ -83,7 +86,7 @@ module _ {U : Type 0} (linked lent : List ℕ → ℕ → Type 0) (noted : List 
       (λ c _ _ _. record { owner_is = refl; claim_is = refl; words_are = λ _ _ _. refl })
       (λ lo _. absurd (omega arith))
       (λ c e. absurd (let x = (r.seat id d at).in_range 0 c e in let y = x.0 in omega arith))
-      (λ _ _. refl) (λ _ k. k) ok)
+      (λ _ _. refl) (λ _ k. k) ok (λ _ _ _ _ k. k) head)
 
   -- The row at the head is one of those that the seat knows of.
   row_inside : (s : S) (r : R s) (id : ℕ) (d : View U) → get_elem? s.views id ≡ some d
@@ -103,27 +106,28 @@ module _ {U : Type 0} (linked lent : List ℕ → ℕ → Type 0) (noted : List 
         (t.0, lo, t.2, t.3),
   )
 
-  pub glances : (slots id : ℕ) (me : Mine U)
+  pub glances : (slots id : ℕ) (me : Mine U) → 0 < me.0.pin.number
       → Allows R slots id me 0 (λ x. x) (Glanced (step slots 0 0 0 none) me)
-  glances slots id me s r _ at small = (
+  glances slots id me is_pass s r _ at small = (
     record me.0 { stage = Saw (head_tag s.words) (head_row s.words) },
     keeps,
     tt,
     loaded s r 0 id me.0 (Saw (head_tag s.words) (head_row s.words)) me.0.lost me.0.empty me.0.worn
-        at (saw_head s r),
+        at (saw_head s r) (is_pass, λ _. (refl, refl)),
     (row_inside s r id me.0 at, refl),
   )
 
-  pub looks : (slots id : ℕ) (me : Mine U)
+  pub looks : (slots id : ℕ) (me : Mine U) → 0 < me.0.pin.number
       → Allows R slots id me 0 (λ x. x) (Looked (step slots 0 0 0 none) me)
-  looks slots id me s r _ at small = let t : ℕ = head_tag s.words in let q : ℕ = head_row s.words in
+  looks slots id me is_pass s r _ at small = let t : ℕ = head_tag s.words in let q : ℕ = head_row s.words in
       let d = me.0 in dite (ℕ_discrete q 0)
       (λ (none_free : q ≡ 0). (
         record d { stage = Saw t 0; empty = d.empty + none_old d.claims d.claims d.pin.told },
         keeps,
         tt,
-        loaded s r 0 id d (Saw t 0) d.lost (d.empty + none_old d.claims d.claims d.pin.told) d.worn at (subst
-            (λ (y : ℕ). IsStage z.rows r.owner s.words (Saw t y)) none_free (saw_head s r)),
+        loaded s r 0 id d (Saw t 0) d.lost (d.empty + none_old d.claims d.claims d.pin.told) d.worn at
+            (subst (λ (y : ℕ). IsStage z.rows r.owner s.words (Saw t y)) none_free (saw_head s r))
+            (is_pass, λ _. (refl, none_free)),
         (
           row_inside s r id d at,
           (λ _. refl),
@@ -137,14 +141,15 @@ module _ {U : Type 0} (linked lent : List ℕ → ℕ → Type 0) (noted : List 
         keeps,
         tt,
         loaded s r 0 id d (Saw last_tag q) d.lost d.empty (d.worn + 1) at
-            (subst (λ (y : ℕ). IsStage z.rows r.owner s.words (Saw y q)) last (saw_head s r)),
+            (subst (λ (y : ℕ). IsStage z.rows r.owner s.words (Saw y q)) last (saw_head s r))
+            (is_pass, λ _. (last, refl)),
         (row_inside s r id d at, (λ e. absurd (free e)), (λ _ _. refl), λ _ n. absurd (n last)),
       ))
       (λ young. (
         record d { stage = Saw t q },
         keeps,
         tt,
-        loaded s r 0 id d (Saw t q) d.lost d.empty d.worn at (saw_head s r),
+        loaded s r 0 id d (Saw t q) d.lost d.empty d.worn at (saw_head s r) (is_pass, λ _. (refl, refl)),
         (row_inside s r id d at, (λ e. absurd (free e)), (λ _ e. absurd (young e)), λ _ _. refl),
       )))
 
@@ -163,7 +168,7 @@ module _ {U : Type 0} (linked lent : List ℕ → ℕ → Type 0) (noted : List 
         loaded s r (row_words * q) id me.0 (Knew t q x) me.0.lost me.0.empty me.0.worn at (
           k.0,
           λ e. (k.1 e lo, refl),
-        ),
+        ) (subst (IsHead r.made s.words me.0.pin.number) is (r.seat id me.0 at).head_is),
         λ t' q' is'. ap
             (λ (y : ℕ × ℕ × ℕ). with_stage me (Knew y.0 y.1 x)) (ap seen_in (sym is ∙ is')),
       )
@@ -177,7 +182,7 @@ module _ {U : Type 0} (linked lent : List ℕ → ℕ → Type 0) (noted : List 
             s.homes;
         views = set s.views id (record d { stage = Idle; lost = d.lost + 1 });
       }
-  misses s r id d at = loaded s r 0 id d Idle (d.lost + 1) d.empty d.worn at tt
+  misses s r id d at = loaded s r 0 id d Idle (d.lost + 1) d.empty d.worn at tt tt
 
   head_agrees : (us : List U) (words : List ℕ) (x : ℕ)
       → Agrees linked lent noted fact us words (set words 0 x)
@@ -198,6 +203,24 @@ module _ {U : Type 0} (linked lent : List ℕ → ℕ → Type 0) (noted : List 
 
   head_is : (s : S) (r : R s) (x : ℕ) → get_or (set s.words 0 x) 0 0 ≡ x
   head_is s r x = let w = r.wide in get_or-set_same s.words 0 x 0 (omega arith)
+
+  -- What other seats saw of the head, where a pass exchanges it.
+  heads_else : (s : S) (r : R s) (id : ℕ) (d : View U) → get_elem? s.views id ≡ some d → 0 < d.pin.number
+      → (words' : List ℕ) (j : ℕ) (x : View U) → j ≢ id → get_elem? s.views j ≡ some x
+      → IsHead r.made s.words x.pin.number x.stage → IsHead r.made words' x.pin.number x.stage
+  heads_else s r id d at is_pass words' j x apart here = others_head r.made s.words words'
+      (map pin_of s.views) j id x.pin d.pin r.pins (at_map pin_of s.views j x here)
+      (at_map pin_of s.views id d at) apart is_pass x.stage
+
+  -- The head is what the only pass saw of it.
+  only_head : (s : S) (r : R s) (id : ℕ) (me : Mine U) → get_elem? s.views id ≡ some me.0 → IsOnly me
+      → (t q : ℕ) → (made_few : (0 < me.0.pin.number) × (r.made ≤ 1 → (head_tag s.words ≡ t) × (head_row s.words ≡ q)))
+      → get_or s.words 0 0 ≡ t * row_limit + q
+  only_head s r id me at only t q head = let some_rows = only.0 in let within = r.within in
+      ⊎_elim (λ (e : me.0.sizes.rows ≡ 0). absurd (omega arith))
+      (λ (e : me.0.sizes ≡ z). let one : z.passes ≡ 1 = subst (λ (y : Sizes). y.passes ≡ 1) e only.1 in
+      head_word s.words t q (head.1 (omega arith)))
+      (r.seat id me.0 at).sizes_are
 
   -- Nobody's row but a free one has no claim: the account of a row that is free.
   module _ (s : S) (r : R s) (id : ℕ) (d : View U) (at : get_elem? s.views id ≡ some d) where
@@ -258,7 +281,8 @@ module _ {U : Type 0} (linked lent : List ℕ → ℕ → Type 0) (noted : List 
 
     module _ (t q y m : ℕ) (found : get_or s.words 0 0 ≡ t * row_limit + q) (small : q < row_limit)
         (lo : 0 < q) (hi : q ≤ z.rows) (count : r.count ≡ suc m)
-        (is : r.owner q ≡ Free m) (next : next_below z.rows q (first_of s.words q) ≡ y) where
+        (is : r.owner q ≡ Free m) (next : next_below z.rows q (first_of s.words q) ≡ y)
+        (is_pass : 0 < d.pin.number) where
       abbrev taken : View U
       taken = let xs = claimed q (Holds (row_of s.words q)) d.claims in
           record d { stage = Idle; claims = xs; most = max d.most (held_count xs) }
@@ -307,7 +331,7 @@ module _ {U : Type 0} (linked lent : List ℕ → ℕ → Type 0) (noted : List 
           ))
           (λ _ _. (lo, hi)) (λ c n. claimed_else d.claims q c _ n)
           (stage_stays z.rows r.owner s.words new_head r.count r.chain (put r.owner q (Of id))
-          (omega arith) (λ e. absurd (omega arith))) tt
+          (omega arith) (λ e. absurd (omega arith))) tt (heads_else s r id d at is_pass new_head) tt
 
     -- A row that the seat holds is written.
     module _ (q k v : ℕ) (its : List ℕ) (held : claim_of d.claims q ≡ some (Holds its))
@@ -399,6 +423,9 @@ module _ {U : Type 0} (linked lent : List ℕ → ℕ → Type 0) (noted : List 
           (λ x. head_tag s.words ≤ x) (sym same_tag)
           (le_refl (head_tag s.words))) (λ _ c j lo hi e. ((j, lo, hi, e), free_next c j e))
           d.stage (r.seat id d at).stage_is)
+          (λ j x _ _. head_stays r.made s.words new_words (low_word 0 (omega arith)) x.pin.number x.stage)
+          (head_stays r.made s.words new_words (low_word 0 (omega arith)) d.pin.number d.stage
+          (r.seat id d at).head_is)
         where
           same_tag : head_tag new_words ≡ head_tag s.words
           same_tag = ap (λ n. n / row_limit) (low_word 0 (omega arith))
@@ -406,7 +433,8 @@ module _ {U : Type 0} (linked lent : List ℕ → ℕ → Type 0) (noted : List 
     -- A row that the seat holds, whose first word says that the free row at the head is below it, is put on top.
     module _ (t h q : ℕ) (its : List ℕ) (found : get_or s.words 0 0 ≡ t * row_limit + h)
         (small : h < row_limit) (held : claim_of d.claims q ≡ some (Holds its))
-        (next : get_or its 0 0 ≡ h + 1) where
+        (next : get_or its 0 0 ≡ h + 1)
+        (is_pass : 0 < d.pin.number) where
       abbrev given : View U
       given = record d { stage = Idle; claims = dropped q d.claims }
 
@@ -463,7 +491,7 @@ module _ {U : Type 0} (linked lent : List ℕ → ℕ → Type 0) (noted : List 
                   (λ f. not_free j (ap r.owner (sym f) ∙ e)) ∙ e,
             ),
             head_else s.words _ (row_words * c) (omega arith),
-          ))) tt
+          ))) tt (heads_else s r id d at is_pass head_with) tt
 
   at_hit : (n old new : ℕ) → n ≡ old → either (eqb n old) new n ≡ new
   at_hit n old new e = ap (λ b. either b new n) (eq-eqb n old e)
@@ -480,6 +508,7 @@ module _ {U : Type 0} (linked lent : List ℕ → ℕ → Type 0) (noted : List 
       let new : ℕ = (t + 1) * row_limit + y % row_limit in let d = me.0 in
       let w0 : View U = record d { stage = Idle; lost = d.lost + 1 } in
       let expected : Expects d.stage old = subst (λ (e : Stage). Expects e old) (sym is) refl in
+      let who = subst (IsHead r.made s.words d.pin.number) is (r.seat id d at).head_is in
       dite (ℕ_discrete head old)
       (λ hit.
       let tag : head_tag s.words ≡ t = ap (λ n. n / row_limit) hit ∙ (in_head t q small).0 in
@@ -488,17 +517,17 @@ module _ {U : Type 0} (linked lent : List ℕ → ℕ → Type 0) (noted : List 
       let next = ap (λ (first : ℕ). next_below z.rows q first) (k.1 (sym tag)).1 ∙ below in
       let top = top_free z.rows r.owner r.count q lo
       (subst (IsTop z.rows r.owner r.count) row r.chain.top) in (
-        taken s r id d at t q y top.0 hit small lo top.2 top.1 top.3 next,
+        taken s r id d at t q y top.0 hit small lo top.2 top.1 top.3 next who.0,
         keeps,
         tt,
         subst (λ (n : ℕ).
             R (stepped s 0 n id me.1
-            (taken s r id d at t q y top.0 hit small lo top.2 top.1 top.3 next) keeps))
+            (taken s r id d at t q y top.0 hit small lo top.2 top.1 top.3 next who.0) keeps))
             (sym (at_hit head old new hit))
-            (take_step s r id d at t q y top.0 hit small lo top.2 top.1 top.3 next),
+            (take_step s r id d at t q y top.0 hit small lo top.2 top.1 top.3 next who.0),
         (
           expected,
-          λ t' q' x' is'. let same : q ≡ q' = ap
+          (λ t' q' x' is'. let same : q ≡ q' = ap
               (λ (y : ℕ × ℕ × ℕ). y.1) (ap seen_in (sym is ∙ is')) in (
                 (λ _. (
                   ap (claim_of d.claims) (sym same)
@@ -512,7 +541,8 @@ module _ {U : Type 0} (linked lent : List ℕ → ℕ → Type 0) (noted : List 
                   ),
                 )),
                 λ not. absurd (not hit),
-              ),
+              )),
+          λ _. hit,
         ),
       ))
       (λ miss. (
@@ -521,7 +551,11 @@ module _ {U : Type 0} (linked lent : List ℕ → ℕ → Type 0) (noted : List 
         tt,
         subst (λ (n : ℕ). R (stepped s 0 n id me.1 w0 keeps)) (sym (at_miss head old new miss))
             (misses s r id d at),
-        (expected, λ t' q' x' is'. ((λ hit. absurd (miss hit)), λ _. refl)),
+        (
+          expected,
+          (λ t' q' x' is'. ((λ hit. absurd (miss hit)), λ _. refl)),
+          λ only. absurd (miss (only_head s r id me at only t q who)),
+        ),
       ))
 
   pub recalls : (slots id : ℕ) (me : Mine U) (i : ℕ)
@@ -530,7 +564,8 @@ module _ {U : Type 0} (linked lent : List ℕ → ℕ → Type 0) (noted : List 
     me.0,
     keeps,
     tt,
-    loaded s r i id me.0 me.0.stage me.0.lost me.0.empty me.0.worn at (r.seat id me.0 at).stage_is,
+    loaded s r i id me.0 me.0.stage me.0.lost me.0.empty me.0.worn at (r.seat id me.0 at).stage_is
+        (r.seat id me.0 at).head_is,
     (
       refl,
       λ q k its is inside held. let o = owned s r id me.0 at q (Holds its) held in
@@ -573,19 +608,21 @@ module _ {U : Type 0} (linked lent : List ℕ → ℕ → Type 0) (noted : List 
       let new : ℕ = t * row_limit + q in let d = me.0 in
       let w0 : View U = record d { stage = Idle; lost = d.lost + 1 } in
       let expected : Expects d.stage old = subst (λ (y : Stage). Expects y old) (sym is) refl in
+      let who = subst (IsHead r.made s.words d.pin.number) is (r.seat id d at).head_is in
       dite (ℕ_discrete head old)
       (λ hit. (
-        given s r id d at t h q its hit small held next,
+        given s r id d at t h q its hit small held next who.0,
         keeps,
         tt,
         subst (λ (n : ℕ).
-            R (stepped s 0 n id me.1 (given s r id d at t h q its hit small held next) keeps))
+            R (stepped s 0 n id me.1 (given s r id d at t h q its hit small held next who.0) keeps))
             (sym (at_hit head old new hit))
-            (give_step s r id d at t h q its hit small held next),
+            (give_step s r id d at t h q its hit small held next who.0),
         (
           expected,
           (λ _. ap (λ y. with_claims me (dropped y d.claims)) (sym (in_head t q small_q).1)),
-          λ not. absurd (not hit),
+          (λ not. absurd (not hit)),
+          λ _. hit,
         ),
       ))
       (λ miss. (
@@ -594,5 +631,10 @@ module _ {U : Type 0} (linked lent : List ℕ → ℕ → Type 0) (noted : List 
         tt,
         subst (λ (n : ℕ). R (stepped s 0 n id me.1 w0 keeps)) (sym (at_miss head old new miss))
             (misses s r id d at),
-        (expected, (λ hit. absurd (miss hit)), λ _. refl),
+        (
+          expected,
+          (λ hit. absurd (miss hit)),
+          (λ _. refl),
+          λ only. absurd (miss (only_head s r id me at only t h who)),
+        ),
       ))

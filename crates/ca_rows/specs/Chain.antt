@@ -5,6 +5,13 @@ use Rattle.ca_rows.specs.declared.view.Stage.{Stage}
 use Rattle.ca_rows.specs.declared.view.Stage.TheVariants.{Idle, Saw, Knew}
 use Rattle.ca_rows.specs.Words.{head_tag, head_row, first_of, next_below}
 
+-- What a seat with this number, where so many passes were made, saw of the head: only a pass looks at it, and where that is the only one the head is still
+-- as it saw it last.
+abbrev pub IsHead : ℕ → List ℕ → ℕ → Stage → Type 0
+IsHead made words number Idle = Unit {0}
+IsHead made words number (Saw t r) = (0 < number) × (made ≤ 1 → (head_tag words ≡ t) × (head_row words ≡ r))
+IsHead made words number (Knew t r x) = (0 < number) × (made ≤ 1 → (head_tag words ≡ t) × (head_row words ≡ r))
+
 -- whose a row is
 pub data Owner : Type 0 where
   -- nobody's, with so many free rows below it

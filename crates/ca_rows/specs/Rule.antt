@@ -9,7 +9,7 @@ use Rattle.ca_rows.specs.declared.view.Pin.{Pin}
 use Rattle.ca_rows.specs.declared.view.View.{View}
 use Rattle.ca_rows.specs.declared.view.Stage.TheVariants.{Idle}
 use Rattle.ca_rows.specs.Account.{IsRow}
-use Rattle.ca_rows.specs.Chain.{Owner, IsChain, IsStage}
+use Rattle.ca_rows.specs.Chain.{Owner, IsChain, IsHead, IsStage}
 use Rattle.ca_rows.specs.Claims.{claim_of, claim_at}
 use Rattle.ca_rows.specs.Pins.{ArePins, unpinned}
 use Rattle.ca_rows.specs.Words.{IsWide}
@@ -56,6 +56,7 @@ module _ {U : Type 0} (noted : List ℕ → U → ℕ → Type 0) (z : Sizes) (m
     pub sizes_are : d.sizes.rows ≡ 0 ⊎ d.sizes ≡ z
     pub made_are : j ≡ 0 → d.made ≡ made
     pub stage_is : IsStage z.rows owner words d.stage
+    pub head_is : IsHead made words d.pin.number d.stage
     pub in_range : (r : ℕ) (c : Claim) → claim_of d.claims r ≡ some c → (0 < r) × (r ≤ z.rows)
     -- Only a pinned pass has notes.
     pub noted_pinned : (r : ℕ) → noted words d.upper r → d.pin.pinned ≡ true

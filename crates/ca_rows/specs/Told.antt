@@ -15,6 +15,10 @@ use Rattle.ca_rows.specs.Layout.{row_words, row_limit, last_tag}
 abbrev pub Mine : Type 0 → Type 0
 Mine U = Me (Unit {0}) (View U)
 
+-- The seat knows the sizes of a space that is for one pass.
+abbrev pub IsOnly : {U : Type 0} → Mine U → Type 0
+IsOnly m = (0 < m.0.sizes.rows) × (m.0.sizes.passes ≡ 1)
+
 -- An exchange that expects this value expects the head as the seat saw it last, and the seat has tried none since.
 abbrev pub Expects : Stage → ℕ → Type 0
 Expects Idle old = ⊥
@@ -63,12 +67,12 @@ module _ {U : Type 0} where
   abbrev pub Peeked : Step (Unit {0}) → Mine U → ℕ → Mine U → Type 0
   Peeked st m n m' = (t q : ℕ) → m.0.stage ≡ Saw t q → m' ≡ with_stage m (Knew t q n)
 
-  -- The row was taken, or the exchange lost. It expected the head that was seen last.
+  -- The row was taken, or the exchange lost, which that of an only pass never is. It expected the head that was seen last.
   abbrev pub Took : Step (Unit {0}) → Mine U → ℕ → Mine U → Type 0
   Took st m n m' = Expects m.0.stage st.first × ((t q x : ℕ) → m.0.stage ≡ Knew t q x →
       (n ≡ st.first → (claim_of m.0.claims q ≡ none) × ((its : List ℕ) × (length its ≡ row_words)
       × (m' ≡ with_most (with_claims m (claimed q (Holds its) m.0.claims)))))
-      × (n ≢ st.first → m' ≡ missed m))
+      × (n ≢ st.first → m' ≡ missed m)) × (IsOnly m → n ≡ st.first)
 
   -- A word of a held row was loaded: it is the one that the seat knows.
   abbrev pub Recalled : Step (Unit {0}) → Mine U → ℕ → Mine U → Type 0
@@ -80,9 +84,10 @@ module _ {U : Type 0} where
   Wrote st m n m' = (q k : ℕ) (its : List ℕ) → st.word ≡ row_words * q + k → k < row_words → claim_of m.0.claims q ≡ some (Holds its)
       → m' ≡ (record m.0 { claims = claimed q (Holds (slice_set its k n)) m.0.claims }, m.1)
 
-  -- A held row was put back, or the exchange lost. It expected the head that was seen last.
+  -- A held row was put back, or the exchange lost, which that of an only pass never is. It expected the head that was seen last.
   abbrev pub Gave : Step (Unit {0}) → Mine U → ℕ → Mine U → Type 0
   Gave st m n m' = Expects m.0.stage st.first × (n ≡ st.first → m' ≡ with_claims m (dropped (st.second % row_limit) m.0.claims)) × (n ≢ st.first → m' ≡ missed m)
+      × (IsOnly m → n ≡ st.first)
 
 module _ {U : Type 0} where
   abbrev pub with_pin : Mine U → Pin → Mine U

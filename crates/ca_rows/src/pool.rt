@@ -1,10 +1,12 @@
 //! Rows are taken from the pool of free rows, read and written while a pass holds them, and put back.
 ghost use Rattle.ca_rows.specs.Layout.{row_words};
-ghost use Rattle.std.specs.Prelude.{◌≡◌, ℕ, ◌<◌, ◌≤◌, List, length, slice_index};
+ghost use Rattle.std.specs.Prelude.{◌≡◌, ◌≢◌, ℕ, ◌<◌, ◌≤◌, true, List, length, slice_index};
 ghost use mathlib.Core.Option.{some};
 ghost use Rattle.ca_rows.specs.declared.view.Claim.TheVariants.{Holds as IsHeld};
 ghost use Rattle.ca_rows.specs.Claims.{claim_of};
 ghost use Rattle.ca_rows.specs.Calls.{TakesRow, PutsRow, WritesWord};
+ghost use Rattle.ca_rows.specs.Told.{IsOnly};
+ghost use Rattle.ca_rows.specs.declared.taken.Taken.TheVariants.{Lost as IsLost};
 ghost use Rattle.ca_rows.specs.Words.{next_below};
 ghost use Rattle.ca_rows.specs.Passes.{OnlyReads, IsOn, StillKeepsList, sizes, known, view};
 
@@ -15,11 +17,12 @@ use crate::space::{Pass, Space};
 use crate::taken::Taken;
 
 impl<R: RowRule> Space<R> {
-    /// Takes a free row.
+    /// Takes a free row. The exchange of a pass that is the only one which the space is for is never lost.
     pub fn take_row(&self, pass: &mut Pass<R>) -> Taken
         requires own { IsOn self.now pass.old }
         ensures frame { StillKeepsList pass.old pass.new }
         ensures row { TakesRow result (known pass.old) (known pass.new) }
+        ensures only { IsOnly (known pass.old) → result ≢ IsLost }
     {
         let head = self.table.shared.load::<Look>(&mut pass.seat, 0);
         let tag = head / ROW_LIMIT;
@@ -76,13 +79,14 @@ impl<R: RowRule> Space<R> {
         );
     }
 
-    /// Puts a row back that the pass holds. False exactly where the exchange lost: the pass holds the row still.
+    /// Puts a row back that the pass holds. False exactly where the exchange lost: the pass holds the row still. That of the only pass isn't lost.
     pub fn put_row(&self, pass: &mut Pass<R>, row: u32) -> bool
         requires own { IsOn self.now pass.old }
         requires held { (its : List ℕ) × (length its ≡ row_words) × (claim_of (view pass.old).claims row ≡ some (IsHeld its)) }
         requires inside { row ≤ (sizes self.now).rows }
         ensures frame { StillKeepsList pass.old pass.new }
         ensures given { PutsRow result row (known pass.old) (known pass.new) }
+        ensures only { IsOnly (known pass.old) → result ≡ true }
     {
         let head = self.table.shared.load::<Glance>(&mut pass.seat, 0);
         let tag = head / ROW_LIMIT;

@@ -2,6 +2,7 @@
 ghost use Rattle.ca_rows.specs.Layout.{row_words, passes_words, row_limit};
 ghost use Rattle.std.specs.Prelude.{◌≡◌, ◌+◌, ◌*◌, ◌<◌, ◌≤◌, IsSome};
 ghost use Rattle.std.specs.Option.{ForSome};
+ghost use Rattle.ca_rows.specs.Calls.{IsNumbered};
 ghost use Rattle.ca_rows.specs.Owned.{HasNoSlot, IsOwnSeat};
 
 use crate::kept::KeptRows;
@@ -29,7 +30,7 @@ pub struct Space<R: RowRule> {
     pub ghost mine: { ForSome own (λ rest. IsOwnSeat table.shared.table_id sizes made rest.seat) },
 }
 
-/// A pass: the right to take steps on a space. It carries what it knows, and holds no slot.
+/// A pass: the right to take steps on a space. It carries what it knows, holds no slot, and its seat has its number, from 1 on.
 pub struct Pass<R: RowRule> {
     pub(crate) seat: Seat<(), View<R::Upper>>,
     pub(crate) number: u32,
@@ -38,6 +39,7 @@ pub struct Pass<R: RowRule> {
     // Its steps are those of a table under this rule.
     pub(crate) table: PhantomData<Table<(), View<R::Upper>, Sizes, Rows<R>, Global>>,
     pub ghost hands: { HasNoSlot seat },
+    pub ghost numbered: { IsNumbered number seat.me.0.pin },
 }
 
 /// What a pass knew when it was split off.

@@ -1,5 +1,5 @@
 use Rattle.ca_node.proofs.Members.{in_first}
-use Rattle.std.proofs.Common.{◌≡◌, ◌++◌, ◌∷◌, [], ap, inl, inr, subst, arith}
+use Rattle.std.proofs.Common.{◌≡◌, true, false, ◌++◌, ◌∷◌, [], ap, inl, inr, subst, arith}
 use Rattle.ca_base.specs.Counting.{losses}
 use Rattle.ca_base.proofs.Counts.{none_spent}
 use Rattle.ca_base.proofs.Held.{kept_row, gone_row, retired_row}
@@ -67,3 +67,9 @@ returns-else-not-put_row-clause-kept c = inl (
   ap losses c.if-not-put_row.ensures.given,
   ap (λ (k : KeptRows). k.rows.items) c.put_row.ensures.frame.kept,
 )
+
+pub returns-then-not-put_row-clause-only : goal.returns-then-not-put_row-clause-only
+returns-then-not-put_row-clause-only c = λ only. let lost : false ≡ true = c.if-not-put_row.ensures.only only in absurd cc
+
+pub returns-else-not-put_row-clause-only : goal.returns-else-not-put_row-clause-only
+returns-else-not-put_row-clause-only c = λ _. ap losses c.if-not-put_row.ensures.given

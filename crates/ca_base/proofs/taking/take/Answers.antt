@@ -2,6 +2,7 @@ use Rattle.std.proofs.Common.{[], inl, inr, ap, refl, sym, ◌∙◌, subst}
 use Rattle.ca_node.specs.Told.{MyTree}
 use Rattle.ca_base.specs.Counting.{HasPutBack, losses}
 use Rattle.ca_rows.specs.Kept.{AreYoung}
+use Rattle.ca_rows.specs.Told.{IsOnly}
 use Rattle.ca_base.proofs.Counts.{none_spent, young_put}
 use Rattle.ca_base.proofs.Held.{reused_row}
 use Rattle.ca_rows.specs.declared.kept.KeptRows.{KeptRows}
@@ -42,3 +43,10 @@ take_free-requires-clause-young c = let none = c.in-None.ensures.reused in
 
 pub take_free-requires-clause-list : goal.take_free-requires-clause-list
 take_free-requires-clause-list c = c.reuse_row.ensures.list
+
+pub returns-in-Some-clause-only : goal.returns-in-Some-clause-only
+returns-in-Some-clause-only c = λ _. ap losses c.in-Some.ensures.reused.0.2
+
+pub returns-in-None-clause-only : goal.returns-in-None-clause-only
+returns-in-None-clause-only c = λ only. let none = c.in-None.ensures.reused in
+    c.take_free.ensures.only (subst (λ (m : MyTree). IsOnly m) (sym none.0) only) ∙ ap losses none.0

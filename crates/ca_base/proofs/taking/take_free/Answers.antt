@@ -1,4 +1,4 @@
-use Rattle.std.proofs.Common.{ℕ, ap, arith}
+use Rattle.std.proofs.Common.{ℕ, refl, ap, arith}
 use Rattle.ca_base.specs.declared.stop.Exchange.TheVariants as exchange
 use Rattle.ca_base.specs.declared.stop.Stop.TheVariants as stop
 use Rattle.ca_rows.specs.Kept.{nobody}
@@ -60,3 +60,15 @@ returns-in-Empty-clause-found c = let told = c.in-Empty.ensures.row.1 in
     epoch nobody c.requires.list.are c.requires.young) in
     let empty = ap (λ (m : MyTree). m.0.empty) told in
     let worn = ap (λ (m : MyTree). m.0.worn) told in (omega arith, omega arith)
+
+pub returns-in-Row-clause-only : goal.returns-in-Row-clause-only
+returns-in-Row-clause-only c = λ _. ap losses c.in-Row.ensures.row.3.2
+
+pub returns-in-Empty-clause-only : goal.returns-in-Empty-clause-only
+returns-in-Empty-clause-only c = λ _. ap losses c.in-Empty.ensures.row.1
+
+pub returns-in-Lost-clause-only : goal.returns-in-Lost-clause-only
+returns-in-Lost-clause-only c = λ only. absurd (c.in-Lost.ensures.only only refl)
+
+pub returns-in-Worn-clause-only : goal.returns-in-Worn-clause-only
+returns-in-Worn-clause-only c = λ _. ap losses c.in-Worn.ensures.row.2

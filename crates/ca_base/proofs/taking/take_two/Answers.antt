@@ -1,5 +1,6 @@
 use Rattle.std.proofs.Common.{ℕ, [], ◌∷◌, Ok, ap, refl, sym, ◌∙◌, subst, arith}
 use Rattle.ca_rows.specs.Calls.{IsNumbered}
+use Rattle.ca_rows.proofs.Heads.{is_only}
 use Rattle.ca_base.specs.Taking.{TakesOldest}
 use Rattle.ca_rows.specs.declared.view.Pin.{Pin}
 use Rattle.ca_base.specs.Counting.{TakesKept}
@@ -76,3 +77,16 @@ take-requires-2 c = let f = c.take.ensures.frame in let may = c.requires.may in 
     list = (c.in_ok-first.ensures.taken [] (omega arith) c.requires.none).1.0.are_kept;
   };
 }
+
+pub returns-in_err-first-clause-only : goal.returns-in_err-first-clause-only
+returns-in_err-first-clause-only c = c.in_err-first.ensures.only
+
+pub returns-in-Ok-clause-only : goal.returns-in-Ok-clause-only
+returns-in-Ok-clause-only c = λ only. c.in-Ok.ensures.only (is_only c.args.pass.now.seat.me c.take.new.pass.seat.me
+    c.take.ensures.frame.same.2 only) ∙ c.in_ok-first.ensures.only only
+
+pub returns-in-Err-clause-only : goal.returns-in-Err-clause-only
+returns-in-Err-clause-only c = λ only. let m = c.args.pass.now.seat.me in
+    let first = is_only m c.take.new.pass.seat.me c.take.ensures.frame.same.2 only in
+    let second = is_only c.take.new.pass.seat.me c.take-2.new.pass.seat.me c.take-2.ensures.frame.same.2 first in
+    c.give_back.ensures.only second ∙ (c.in-Err.ensures.only first ∙ c.in_ok-first.ensures.only only)

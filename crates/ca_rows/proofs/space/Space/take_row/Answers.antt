@@ -1,9 +1,11 @@
-use Rattle.std.proofs.Common.{rules, ℕ, ◌*◌, ◌+◌, ◌/◌, ◌%◌, ◌∙◌, sym, arith, ap}
+use Rattle.std.proofs.Common.{rules, ℕ, ◌*◌, ◌+◌, ◌/◌, ◌%◌, ◌∙◌, sym, refl, arith, ap}
 use mathlib.Core.Logic.{dite}
 use native.Mathlib.Decide.{ℕ_discrete}
 use Rattle.ca_rows.specs.declared.sizes.Sizes.{Sizes}
 use Rattle.ca_rows.specs.Told.{Mine}
 use Rattle.ca_rows.proofs.Calling.{row_taken, row_missed, still}
+use Rattle.ca_rows.proofs.Calling.{is_pass, numbered_still}
+use Rattle.ca_rows.proofs.Heads.{is_only}
 use Rattle.ca_rows.proofs.Steps.{looks, peeks, takes}
 use Rattle.ca_rows.proofs.space.Space.take_row.Goals as goal
 use Rattle.ca_rows.specs.Layout.{row_limit}
@@ -15,7 +17,7 @@ load-head-requires g c = let sized = c.args.self.now.sized in (
   omega arith,
   looks g.R.RowRule.linked g.R.RowRule.lent g.R.RowRule.noted g.R.RowRule.fact
       g.met.R.RowRule.frames
-      c.args.self.now.table.shared.key _ _ _,
+      c.args.self.now.table.shared.key _ _ _ (is_pass c.args.pass.now.number c.args.pass.now.seat.me.0.pin c.args.pass.now.numbered),
 )
 
 pub load-first-requires : goal.load-first-requires
@@ -129,4 +131,25 @@ invariant_of-pass-2 g c =
       hands = dite (ℕ_discrete c.compare_exchange-found.result (t' * row_limit + q))
           (λ hit. ap (λ (m : Mine g.row.R-Upper.Denot). m.1) (took.0 hit).1.2 ∙ before)
           (λ miss. ap (λ (m : Mine g.row.R-Upper.Denot). m.1) (took.1 miss) ∙ before);
+      numbered = let pin = ap (λ (m : Mine g.row.R-Upper.Denot). m.0.pin) next
+          ∙ ap (λ (m : Mine g.row.R-Upper.Denot). m.0.pin) saw in
+          numbered_still c.args.pass.now.number c.args.pass.now.number c.args.pass.now.seat.me.0.pin
+          c.compare_exchange-found.new.seat.me.0.pin refl
+          (dite (ℕ_discrete c.compare_exchange-found.result (t' * row_limit + q))
+          (λ hit. ap (λ (m : Mine g.row.R-Upper.Denot). m.0.pin) (took.0 hit).1.2 ∙ pin)
+          (λ miss. ap (λ (m : Mine g.row.R-Upper.Denot). m.0.pin) (took.1 miss) ∙ pin))
+          c.args.pass.now.numbered;
     }
+
+pub returns-then-found-old-clause-only : goal.returns-then-found-old-clause-only
+returns-then-found-old-clause-only g c = λ _ e. cc
+
+pub returns-else-found-old-clause-only : goal.returns-else-found-old-clause-only
+returns-else-found-old-clause-only g c = λ only _. let p = c.args.pass.now.seat.me in
+    let some_free = c.if-row-eq0.false in
+    let saw = c.load-head.ensures.2.3 (omega arith) c.if-tag-eq-LAST_TAG.false in
+    let next = c.load-first.ensures.2 (c.load-head.result / row_limit) (c.load-head.result % row_limit)
+    (ap (λ (m : Mine g.row.R-Upper.Denot). m.0.stage) saw) in
+    c.if-found-old.false (c.compare_exchange-found.ensures.2.2 (is_only p c.load-first.new.seat.me
+    (ap (λ (m : Mine g.row.R-Upper.Denot). m.0.sizes) next
+    ∙ ap (λ (m : Mine g.row.R-Upper.Denot). m.0.sizes) saw) only))

@@ -1,6 +1,6 @@
 use Rattle.std.proofs.Common.{rules, arith, refl, ap, ◌∙◌}
 use Rattle.ca_rows.specs.Told.{Mine}
-use Rattle.ca_rows.proofs.Calling.{still}
+use Rattle.ca_rows.proofs.Calling.{numbered_still, still}
 use Rattle.ca_rows.proofs.Steps.{writes}
 use Rattle.ca_rows.proofs.space.Space.write_word.Goals as goal
 
@@ -30,4 +30,9 @@ invariant_of-pass g c =
     let wrote =
     c.store.ensures.2 c.args.row c.args.index c.requires.held.0 refl c.requires.inside.1
     c.requires.held.1 in
-    record { hands = ap (λ (m : Mine g.row.R-Upper.Denot). m.1) wrote ∙ c.args.pass.now.hands }
+    record {
+      hands = ap (λ (m : Mine g.row.R-Upper.Denot). m.1) wrote ∙ c.args.pass.now.hands;
+      numbered = numbered_still c.args.pass.now.number c.args.pass.now.number c.args.pass.now.seat.me.0.pin
+          c.store.new.seat.me.0.pin refl (ap (λ (m : Mine g.row.R-Upper.Denot). m.0.pin) wrote)
+          c.args.pass.now.numbered;
+    }
