@@ -19,16 +19,25 @@ pub own_steps : (z : Sizes) (u : TreeView) (own : Ranging) (joins : KnownJoins) 
 own_steps z u own joins tries = record {
   only = refl;
   seen = (no_steps z u).seen;
-  known = λ k. record { lawful = k.lawful; past = k.past; edits = k.edits; enrolled = k.enrolled; by_passes = k.by_passes };
+  known = λ k. record {
+    lawful = k.lawful;
+    past = k.past;
+    edits = k.edits;
+    enrolled =
+        k.enrolled;
+    by_passes = k.by_passes;
+  };
 }
 
 module _ (x : Attempt) (m n l : MyTree) where
   -- Another pass had given the attempt up.
-  pub concluded_late : n ≡ with_upper m (own_too_late (attempt_of x.route x.number) m.0.upper) → l.0.upper ≡ n.0.upper → HasMet 0 0 n l
+  pub concluded_late : n ≡ with_upper m (own_too_late (attempt_of x.route x.number) m.0.upper)
+      → l.0.upper ≡ n.0.upper → HasMet 0 0 n l
       → HasConcluded x (Err why.Lost) m l
   concluded_late e same met = let view = same ∙ ap (λ (y : MyTree). y.0.upper) e in
       let empty = ap (λ (y : MyTree). y.0.empty) e in let worn = ap (λ (y : MyTree). y.0.worn) e in
-      let passed = ap (λ (u : TreeView). u.turns.passed) view in let joins = ap (λ (u : TreeView). u.joins) view in (
+      let passed = ap (λ (u : TreeView). u.turns.passed) view in let joins =
+      ap (λ (u : TreeView). u.joins) view in (
         refl,
         met_both 0 0 0 0 m n l (omega arith, omega arith) met,
         record {
@@ -50,15 +59,19 @@ module _ (x : Attempt) (m n l : MyTree) where
     lost_so = ap losses e
 
     met_so : HasMet 0 0 m n
-    met_so = let empty = ap (λ (y : MyTree). y.0.empty) e in let worn = ap (λ (y : MyTree). y.0.worn) e in (omega arith, omega arith)
+    met_so = let empty = ap (λ (y : MyTree). y.0.empty) e in let worn =
+        ap (λ (y : MyTree). y.0.worn) e in (omega arith, omega arith)
 
     -- The route was unlinked.
     pub concluded_won : HasUnited true n l → HasConcluded x (Ok tt) m l
-    concluded_won h = let joins = h.0.joins in let before = ap (λ (y : MyTree). y.0.upper.joins) e in
-        let passed = ap (λ (t : Turns). t.passed) h.0.turns ∙ ap (λ (y : MyTree). y.0.upper.turns.passed) e in (
+    concluded_won h = let joins = h.0.joins in let before =
+        ap (λ (y : MyTree). y.0.upper.joins) e in
+        let passed = ap (λ (t : Turns). t.passed) h.0.turns
+        ∙ ap (λ (y : MyTree). y.0.upper.turns.passed) e in (
           record {
             passed = omega arith;
-            helped = ap (λ (t : Turns). t.helped) h.0.turns ∙ ap (λ (y : MyTree). y.0.upper.turns.helped) e;
+            helped = ap (λ (t : Turns). t.helped) h.0.turns
+                ∙ ap (λ (y : MyTree). y.0.upper.turns.helped) e;
             loads = h.3 ∙ ap (λ (y : MyTree). y.0.upper.loads) e;
             joins_are = omega arith;
             tried = ap (λ (t : Tries). t.tried) h.4 ∙ ap (λ (y : MyTree). y.0.upper.tries.tried) e;
@@ -70,13 +83,16 @@ module _ (x : Attempt) (m n l : MyTree) where
 
     -- Another pass had unlinked it.
     pub concluded_lost : HasUnited false n l → HasConcluded x (Err why.Lost) m l
-    concluded_lost h = let joins = h.0.joins in let before = ap (λ (y : MyTree). y.0.upper.joins) e in
-        let passed = ap (λ (t : Turns). t.passed) h.0.turns ∙ ap (λ (y : MyTree). y.0.upper.turns.passed) e in (
+    concluded_lost h = let joins = h.0.joins in let before =
+        ap (λ (y : MyTree). y.0.upper.joins) e in
+        let passed = ap (λ (t : Turns). t.passed) h.0.turns
+        ∙ ap (λ (y : MyTree). y.0.upper.turns.passed) e in (
           refl,
           met_both 0 0 0 0 m n l met_so h.2,
           record {
             passed = omega arith;
-            helped = ap (λ (t : Turns). t.helped) h.0.turns ∙ ap (λ (y : MyTree). y.0.upper.turns.helped) e;
+            helped = ap (λ (t : Turns). t.helped) h.0.turns
+                ∙ ap (λ (y : MyTree). y.0.upper.turns.helped) e;
             loads = h.3 ∙ ap (λ (y : MyTree). y.0.upper.loads) e;
             joins_are = omega arith;
             tried = ap (λ (t : Tries). t.tried) h.4 ∙ ap (λ (y : MyTree). y.0.upper.tries.tried) e;

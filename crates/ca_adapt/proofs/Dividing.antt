@@ -16,7 +16,8 @@ use Rattle.ca_rows.specs.declared.kept.KeptRows.{KeptRows}
 use Rattle.ca_rows.specs.declared.sizes.Sizes.{Sizes}
 
 -- It was split where the exchange won; else there is the cause.
-split_by : (z : Sizes) (note : Note) (r : Result (Unit {0}) Stop) (m m' : MyTree) → MayBeSplit z note
+split_by : (z : Sizes) (note : Note) (r : Result (Unit {0}) Stop) (m m' : MyTree)
+    → MayBeSplit z note
     → HasFound r m m'
     → HasSplit (length note.objects) (attempts_at_first z) r m.0.upper m'.0.upper
     → IsSplitOutcome z note (answer_to r) m m'
@@ -29,7 +30,8 @@ split_by z note (Err stop.Empty) m m' may ended split = (may, ended, split)
 split_by z note (Err stop.Worn) m m' may ended split = (may, ended, split)
 
 -- The same, where the objects were counted and the pass knew as much before.
-pub split_as : (z : Sizes) (note : Note) (r : Result (Unit {0}) Stop) (a : Adapted) (many attempt : ℕ)
+pub split_as : (z : Sizes) (note : Note) (r : Result (Unit {0}) Stop) (a : Adapted)
+    (many attempt : ℕ)
     (k m m' : MyTree) → m ≡ k → many ≡ length note.objects
     → attempt ≡ attempts_at_first z → a ≡ answer_to r → MayBeSplit z note → HasFound r m m'
     → HasSplit many attempt r m.0.upper m'.0.upper → IsSplitOutcome z note a k m'
@@ -40,7 +42,8 @@ split_as z note r a many attempt k m m' same are first is may ended split = subs
     (subst (λ (n : ℕ × ℕ). HasSplit n.0 n.1 r m.0.upper m'.0.upper) (λ i. (are i, first i)) split)))
 
 -- Where the exchange of the base wasn't lost, that of the pool's head was.
-pools_by : (r : Result (Unit {0}) Stop) (many attempt : ℕ) (m m' : MyTree) → r ≢ Err (stop.Lost exchange.Link)
+pools_by : (r : Result (Unit {0}) Stop) (many attempt : ℕ) (m m' : MyTree)
+    → r ≢ Err (stop.Lost exchange.Link)
     → HasSplit many attempt r m.0.upper m'.0.upper
     → IsPoolsLoss (answer_to r) m m'
 pools_by (Ok x) many attempt m m' won split e = absurd cc
@@ -67,7 +70,8 @@ pools_as z r a many attempt k m m' same is so split alone listed = subst
         × IsListed x.0.upper.inventory (first_note x.0.upper.notes)) (sym same) (alone, listed)
 
 -- A split that was carried out lost no exchange.
-one_try : (r : Result (Unit {0}) Stop) (m m' : MyTree) → HasFound r m m' → IsOneTry (answer_to r) m m'
+one_try : (r : Result (Unit {0}) Stop) (m m' : MyTree) → HasFound r m m'
+    → IsOneTry (answer_to r) m m'
 one_try (Ok x) m m' ended e = ended.1
 one_try (Err (stop.Lost x)) m m' ended e = absurd cc
 one_try (Err stop.Empty) m m' ended e = absurd cc
@@ -82,7 +86,8 @@ put_back (Err stop.Empty) base m m' kept kept' h = h
 put_back (Err stop.Worn) base m m' kept kept' h = h
 
 -- The same, where the pass knew and kept as much before.
-pub one_try_as : (r : Result (Unit {0}) Stop) (a : Adapted) (k m m' : MyTree) → m ≡ k → a ≡ answer_to r
+pub one_try_as : (r : Result (Unit {0}) Stop) (a : Adapted) (k m m' : MyTree) → m ≡ k
+    → a ≡ answer_to r
     → HasFound r m m' → IsOneTry a k m'
 one_try_as r a k m m' same is ended = subst (λ (x : Adapted). IsOneTry x k m') (sym is)
     (subst (λ (x : MyTree). IsOneTry (answer_to r) x m') same (one_try r m m' ended))

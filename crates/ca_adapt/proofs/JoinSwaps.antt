@@ -25,7 +25,8 @@ abbrev pub note_before : List Note → Note
 note_before [] = no_note
 note_before (note ∷ notes) = first_note notes
 
--- the unlinking by these rows, of a route that the seat remembers on this link, under which it was shown two bases last
+-- the unlinking by these rows, of a route that the seat remembers on this link, under which it was
+-- shown two bases last
 abbrev pub unlinking_of : MyTree → Union → Bool → ℕ → Unlinking
 unlinking_of m rows counted link = record {
   way = hung_way rows.attempt.route link m.0.upper.ways;
@@ -37,50 +38,64 @@ unlinking_of m rows counted link = record {
 }
 
 -- Both links were loaded, and then the joined base was written.
-pub record IsWrittenThen (z : Sizes) (above : Link) (counted : Bool) (m n l : MyTree) (rows : Union) (at_level : ℕ) (its : List ℕ) : Type 0 where
+pub record IsWrittenThen (z : Sizes) (above : Link) (counted : Bool) (m n l : MyTree) (rows : Union)
+    (at_level : ℕ) (its : List ℕ) : Type 0 where
   pub both : AreBoth z (attempt_of rows.attempt.route rows.attempt.number) m n rows.left rows.right
   pub hung : IsHungBy z m.0.upper rows.attempt.route above
   pub upper : l.0.upper ≡ n.0.upper
   pub pin : l.0.pin ≡ m.0.pin
   pub pinned : m.0.pin.pinned ≡ true
   pub number : 0 < m.0.upper.number
-  pub secured : IsIn (attempt_of rows.attempt.route rows.attempt.number) m.0.upper.ranges.joins.secured
-  pub decided : counted ≡ true → IsIn (attempt_of rows.attempt.route rows.attempt.number) m.0.upper.ranges.joins.decided
-  pub levels : (way : Way) → IsIn way n.0.upper.ways → way.row ≡ rows.attempt.route → at_level ≡ level way.its
+  pub secured : IsIn (attempt_of rows.attempt.route rows.attempt.number)
+      m.0.upper.ranges.joins.secured
+  pub decided : counted ≡ true → IsIn (attempt_of rows.attempt.route rows.attempt.number)
+      m.0.upper.ranges.joins.decided
+  pub levels : (way : Way) → IsIn way n.0.upper.ways → way.row ≡ rows.attempt.route
+      → at_level ≡ level way.its
   pub held : claim_of l.0.claims rows.new ≡ some (Holds its)
   pub spells : SpellsJoined both.first both.second at_level its
 
 -- So it is once a row was taken.
-pub is_written : (z : Sizes) (above : Link) (counted : Bool) (m n k l : MyTree) (rows : Union) (at_level : ℕ) (its : List ℕ)
-    → (both : AreBoth z (attempt_of rows.attempt.route rows.attempt.number) m n rows.left rows.right) → IsHungBy z m.0.upper rows.attempt.route above
-    → k.0.upper ≡ n.0.upper → k.0.pin ≡ n.0.pin → l.0.upper ≡ k.0.upper → l.0.pin ≡ k.0.pin → m.0.pin.pinned ≡ true → 0 < m.0.upper.number
+pub is_written : (z : Sizes) (above : Link) (counted : Bool) (m n k l : MyTree) (rows : Union)
+    (at_level : ℕ) (its : List ℕ)
+    → (both : AreBoth z (attempt_of rows.attempt.route rows.attempt.number) m n rows.left
+    rows.right) → IsHungBy z m.0.upper rows.attempt.route above
+    → k.0.upper ≡ n.0.upper → k.0.pin ≡ n.0.pin → l.0.upper ≡ k.0.upper → l.0.pin ≡ k.0.pin
+    → m.0.pin.pinned ≡ true → 0 < m.0.upper.number
     → IsIn (attempt_of rows.attempt.route rows.attempt.number) m.0.upper.ranges.joins.secured
-    → (counted ≡ true → IsIn (attempt_of rows.attempt.route rows.attempt.number) m.0.upper.ranges.joins.decided)
-    → ((way : Way) → IsIn way n.0.upper.ways → way.row ≡ rows.attempt.route → at_level ≡ level way.its)
-    → claim_of l.0.claims rows.new ≡ some (Holds its) → SpellsJoined both.first both.second at_level its
+    → (counted ≡ true → IsIn (attempt_of rows.attempt.route rows.attempt.number)
+    m.0.upper.ranges.joins.decided)
+    → ((way : Way) → IsIn way n.0.upper.ways → way.row ≡ rows.attempt.route
+    → at_level ≡ level way.its)
+    → claim_of l.0.claims rows.new ≡ some (Holds its)
+    → SpellsJoined both.first both.second at_level its
     → IsWrittenThen z above counted m n l rows at_level its
-is_written z above counted m n k l rows at_level its both hung upper pin upper' pin' pinned number secured decided levels held spells = record {
-  both = both;
-  hung = hung;
-  upper = upper' ∙ upper;
-  pin = pin' ∙ (pin ∙ both.pin);
-  pinned = pinned;
-  number = number;
-  secured = secured;
-  decided = decided;
-  levels = levels;
-  held = held;
-  spells = spells;
-}
+is_written z above counted m n k l rows at_level its both hung upper pin upper' pin' pinned number
+    secured decided levels held spells = record {
+      both = both;
+      hung = hung;
+      upper = upper' ∙ upper;
+      pin = pin' ∙ (pin ∙ both.pin);
+      pinned = pinned;
+      number = number;
+      secured = secured;
+      decided = decided;
+      levels = levels;
+      held = held;
+      spells = spells;
+    }
 
-module _ (z : Sizes) (above : Link) (counted : Bool) (m n l : MyTree) (rows : Union) (at_level : ℕ) (its : List ℕ)
+module _ (z : Sizes) (above : Link) (counted : Bool) (m n l : MyTree) (rows : Union) (at_level : ℕ)
+    (its : List ℕ)
     (w : IsWrittenThen z above counted m n l rows at_level its) where
   ways_same : l.0.upper.ways ≡ m.0.upper.ways
   ways_same = ap (λ (u : TreeView). u.ways) w.upper ∙ w.both.tried.ways
 
-  found : IsHungWay rows.attempt.route (link_word above) l.0.upper.ways (hung_way rows.attempt.route (link_word above) l.0.upper.ways)
+  found : IsHungWay rows.attempt.route (link_word above) l.0.upper.ways
+      (hung_way rows.attempt.route (link_word above) l.0.upper.ways)
   found = hung_found rows.attempt.route (link_word above) l.0.upper.ways w.hung.way record {
-    remembered = subst (λ (ways : List Way). IsIn w.hung.way ways) (sym ways_same) w.hung.remembered;
+    remembered = subst (λ (ways : List Way). IsIn w.hung.way ways) (sym ways_same)
+        w.hung.remembered;
     row_is = w.hung.row_is;
     link_is = w.hung.link_is;
     level_is = w.hung.is_route.level_is;
@@ -116,7 +131,9 @@ module _ (z : Sizes) (above : Link) (counted : Bool) (m n l : MyTree) (rows : Un
   }
 
   left_base : IsMarkedBase l unlinking (row_words * unlinking.way.row + 1) w.both.first
-  left_base = subst (λ (r : ℕ). IsMarkedBase l (record unlinking { way = record unlinking.way { row = r } }) (row_words * r + 1) w.both.first)
+  left_base = subst (λ (r : ℕ). IsMarkedBase l
+      (record unlinking { way = record unlinking.way { row = r } }) (row_words * r + 1)
+      w.both.first)
       (sym found.row_is) record {
         shown = subst (λ (notes : List Note). IsIn w.both.first notes) (sym last) (1, refl);
         is_base = w.both.joinable.left_shown.is_base.is_base;
@@ -125,7 +142,9 @@ module _ (z : Sizes) (above : Link) (counted : Bool) (m n l : MyTree) (rows : Un
       }
 
   right_base : IsMarkedBase l unlinking (row_words * unlinking.way.row + 2) w.both.second
-  right_base = subst (λ (r : ℕ). IsMarkedBase l (record unlinking { way = record unlinking.way { row = r } }) (row_words * r + 2) w.both.second)
+  right_base = subst (λ (r : ℕ). IsMarkedBase l
+      (record unlinking { way = record unlinking.way { row = r } }) (row_words * r + 2)
+      w.both.second)
       (sym found.row_is) record {
         shown = subst (λ (notes : List Note). IsIn w.both.second notes) (sym last) (0, refl);
         is_base = w.both.joinable.right_shown.is_base.is_base;
@@ -143,22 +162,29 @@ module _ (z : Sizes) (above : Link) (counted : Bool) (m n l : MyTree) (rows : Un
   pub unlinks : IsUnlinking z l rows.new (unlinking_of l rows counted (link_word above))
   unlinks = subst (IsUnlinking z l rows.new) (sym same) record {
     is_pinned = ap (λ (p : Pin). p.pinned) w.pin ∙ w.pinned;
-    is_pass = subst (λ (n : ℕ). 0 < n) (sym (ap (λ (u : TreeView). u.number) w.upper ∙ ap (λ (u : TreeView). u.number) w.both.steps.only)) w.number;
+    is_pass = subst (λ (n : ℕ). 0 < n)
+        (sym (ap (λ (u : TreeView). u.number) w.upper
+        ∙ ap (λ (u : TreeView). u.number) w.both.steps.only)) w.number;
     remembered = found.remembered;
-    secured = subst (λ (x : ℕ × KnownRanges). IsIn (attempt_of x.0 rows.attempt.number) x.1.joins.secured)
+    secured = subst (λ (x : ℕ × KnownRanges). IsIn (attempt_of x.0 rows.attempt.number)
+        x.1.joins.secured)
         (λ i. (sym found.row_is i, sym joins_same i)) w.secured;
     left = left_base;
     right = right_base;
     held = w.held;
     is_base = w.spells.is_base;
-    level_is = w.spells.level_is ∙ (w.levels unlinking.way (subst (λ (ways : List Way). IsIn unlinking.way ways) (ap (λ (u : TreeView). u.ways) w.upper)
+    level_is = w.spells.level_is
+        ∙ (w.levels unlinking.way
+        (subst (λ (ways : List Way). IsIn unlinking.way ways)
+        (ap (λ (u : TreeView). u.ways) w.upper)
         found.remembered) found.row_is ∙ found.level_is);
     few = let fit = w.both.fit in omega (arith, w.spells.count_is);
     unmarked = w.spells.unmarked;
     calm = w.spells.statistic_is;
     items_are = w.spells.items_are;
     headed = w.spells.headed;
-    counted = λ e. subst (λ (x : ℕ × KnownRanges). IsIn (attempt_of x.0 rows.attempt.number) x.1.joins.decided)
+    counted = λ e. subst (λ (x : ℕ × KnownRanges). IsIn (attempt_of x.0 rows.attempt.number)
+        x.1.joins.decided)
         (λ i. (sym found.row_is i, sym joins_same i)) (w.decided (was_counted counted e));
   }
 

@@ -20,7 +20,8 @@ use Rattle.ca_adapt.specs.declared.carrying.Uniting.{Uniting}
 use Rattle.ca_adapt.specs.declared.finishing.Union.{Union}
 use Rattle.ca_adapt.proofs.HungWays.{IsHungWay, hung_found, hung_way}
 
--- the unlinking by these rows, of a route that the seat remembers on this link, under which these bases were shown last
+-- the unlinking by these rows, of a route that the seat remembers on this link, under which these
+-- bases were shown last
 abbrev pub unlinking_by : MyTree → Union → ℕ → Unlinking
 unlinking_by m rows link = record {
   way = hung_way rows.attempt.route link m.0.upper.ways;
@@ -32,22 +33,28 @@ unlinking_by m rows link = record {
 }
 
 -- Both bases may be joined still, behind loads of words that were shown.
-pub joinable_then : (z : Sizes) (m n : MyTree) (x : Uniting) (left right : Note) → IsUniting z m.0.upper x left right → n ≡ m → z.leaf ≤ 120
+pub joinable_then : (z : Sizes) (m n : MyTree) (x : Uniting) (left right : Note)
+    → IsUniting z m.0.upper x left right → n ≡ m → z.leaf ≤ 120
     → AreJoinable z n.0.upper x.left x.right left right
-joinable_then z m n x left right i still leaf = subst (λ (y : MyTree). AreJoinable z y.0.upper x.left x.right left right) (sym still) record {
-  left_shown = i.left_base.shown;
-  right_shown = i.right_base.shown;
-  few = let fit = i.few in omega arith;
-}
+joinable_then z m n x left right i still leaf =
+    subst (λ (y : MyTree). AreJoinable z y.0.upper x.left x.right left right) (sym still) record {
+      left_shown = i.left_base.shown;
+      right_shown = i.right_base.shown;
+      few = let fit = i.few in omega arith;
+    }
 
-module _ (z : Sizes) (m l : MyTree) (x : Uniting) (left right : Note) (i : IsUniting z m.0.upper x left right) (upper : l.0.upper ≡ m.0.upper)
-    (pinned : l.0.pin.pinned ≡ true) (number : 0 < m.0.upper.number) (at_level : ℕ) (its : List ℕ) (held : claim_of l.0.claims x.new ≡ some (Holds its))
+module _ (z : Sizes) (m l : MyTree) (x : Uniting) (left right : Note)
+    (i : IsUniting z m.0.upper x left right) (upper : l.0.upper ≡ m.0.upper)
+    (pinned : l.0.pin.pinned ≡ true) (number : 0 < m.0.upper.number) (at_level : ℕ) (its : List ℕ)
+    (held : claim_of l.0.claims x.new ≡ some (Holds its))
     (spells : SpellsJoined left right at_level its)
-    (levels : (way : Way) → IsIn way m.0.upper.ways → way.row ≡ x.attempt.route → at_level ≡ level way.its) where
+    (levels : (way : Way) → IsIn way m.0.upper.ways → way.row ≡ x.attempt.route
+    → at_level ≡ level way.its) where
   abbrev rows : Union
   rows = record { attempt = x.attempt; left = x.left; right = x.right; new = x.new }
 
-  found : IsHungWay x.attempt.route (link_word x.above) m.0.upper.ways (hung_way x.attempt.route (link_word x.above) m.0.upper.ways)
+  found : IsHungWay x.attempt.route (link_word x.above) m.0.upper.ways
+      (hung_way x.attempt.route (link_word x.above) m.0.upper.ways)
   found = hung_found x.attempt.route (link_word x.above) m.0.upper.ways i.hung.way record {
     remembered = i.hung.remembered;
     row_is = i.hung.row_is;
@@ -69,8 +76,10 @@ module _ (z : Sizes) (m l : MyTree) (x : Uniting) (left right : Note) (i : IsUni
   same = λ k. record {
     way = hung_way x.attempt.route (link_word x.above) (upper k).ways;
     attempt = x.attempt.number;
-    left = (ap (λ (u : TreeView). last_on (row_words * x.attempt.route + 1) u.notes) upper ∙ i.left_base.last) k;
-    right = (ap (λ (u : TreeView). last_on (row_words * x.attempt.route + 2) u.notes) upper ∙ i.right_base.last) k;
+    left = (ap (λ (u : TreeView). last_on (row_words * x.attempt.route + 1) u.notes) upper
+        ∙ i.left_base.last) k;
+    right = (ap (λ (u : TreeView). last_on (row_words * x.attempt.route + 2) u.notes) upper
+        ∙ i.right_base.last) k;
     its = words_of (held k);
     counts = false;
   }
@@ -80,14 +89,18 @@ module _ (z : Sizes) (m l : MyTree) (x : Uniting) (left right : Note) (i : IsUni
     is_pinned = pinned;
     is_pass = subst (λ (u : TreeView). 0 < u.number) (sym upper) number;
     remembered = subst (λ (u : TreeView). IsIn unlinking.way u.ways) (sym upper) found.remembered;
-    secured = subst (λ (y : ℕ × TreeView). IsIn (attempt_of y.0 x.attempt.number) y.1.ranges.joins.secured) (λ k. (sym found.row_is k, sym upper k)) i.secured;
-    left = subst (λ (y : ℕ). IsMarkedBase l (record unlinking { way = record unlinking.way { row = y } }) (row_words * y + 1) left) (sym found.row_is) record {
-      shown = subst (λ (u : TreeView). IsIn left u.notes) (sym upper) i.left_base.shown.noted;
-      is_base = i.left_base.shown.is_base.is_base;
-      marked = i.left_base.marked;
-      here = i.left_base.here;
-    };
-    right = subst (λ (y : ℕ). IsMarkedBase l (record unlinking { way = record unlinking.way { row = y } }) (row_words * y + 2) right)
+    secured = subst (λ (y : ℕ × TreeView). IsIn (attempt_of y.0 x.attempt.number)
+        y.1.ranges.joins.secured) (λ k. (sym found.row_is k, sym upper k)) i.secured;
+    left = subst (λ (y : ℕ). IsMarkedBase l
+        (record unlinking { way = record unlinking.way { row = y } }) (row_words * y + 1) left)
+        (sym found.row_is) record {
+          shown = subst (λ (u : TreeView). IsIn left u.notes) (sym upper) i.left_base.shown.noted;
+          is_base = i.left_base.shown.is_base.is_base;
+          marked = i.left_base.marked;
+          here = i.left_base.here;
+        };
+    right = subst (λ (y : ℕ). IsMarkedBase l
+        (record unlinking { way = record unlinking.way { row = y } }) (row_words * y + 2) right)
         (sym found.row_is) record {
           shown = subst (λ (u : TreeView). IsIn right u.notes) (sym upper) i.right_base.shown.noted;
           is_base = i.right_base.shown.is_base.is_base;
@@ -96,13 +109,15 @@ module _ (z : Sizes) (m l : MyTree) (x : Uniting) (left right : Note) (i : IsUni
         };
     held = held;
     is_base = spells.is_base;
-    level_is = spells.level_is ∙ (levels unlinking.way found.remembered found.row_is ∙ found.level_is);
+    level_is = spells.level_is
+        ∙ (levels unlinking.way found.remembered found.row_is ∙ found.level_is);
     few = let fit = i.few in omega (arith, spells.count_is);
     unmarked = spells.unmarked;
     calm = spells.statistic_is;
     items_are = spells.items_are;
     headed = spells.headed;
-    counted = λ e. subst (λ (y : ℕ × TreeView). IsIn (attempt_of y.0 x.attempt.number) y.1.ranges.joins.decided)
+    counted = λ e. subst (λ (y : ℕ × TreeView). IsIn (attempt_of y.0 x.attempt.number)
+        y.1.ranges.joins.decided)
         (λ k. (sym found.row_is k, sym upper k)) i.decided;
   }
 

@@ -16,36 +16,61 @@ module _ (z : Sizes) (new : ℕ) (x : Unlinking) where
   steps_won u = record {
     only = refl;
     seen = (no_steps z u).seen;
-    known = λ k. record { lawful = k.lawful; past = k.past; edits = k.edits; enrolled = k.enrolled; by_passes = k.by_passes };
+    known = λ k. record {
+      lawful = k.lawful;
+      past = k.past;
+      edits = k.edits;
+      enrolled =
+          k.enrolled;
+      by_passes = k.by_passes;
+    };
   }
 
   steps_lost : (u : TreeView) → IsJoinSteps z u (one_unlinking_lost x u)
   steps_lost u = record {
     only = refl;
     seen = (no_steps z u).seen;
-    known = λ k. record { lawful = k.lawful; past = k.past; edits = k.edits; enrolled = k.enrolled; by_passes = k.by_passes };
+    known = λ k. record {
+      lawful = k.lawful;
+      past = k.past;
+      edits = k.edits;
+      enrolled =
+          k.enrolled;
+      by_passes = k.by_passes;
+    };
   }
 
   -- A base was written meanwhile, and nothing else was learnt.
   module _ (m l e : MyTree) (upper : l.0.upper ≡ m.0.upper) where
     pub put_steps : (b : Bool) → HasPutJoined b new x l e → IsJoinSteps z m.0.upper e.0.upper
-    put_steps true h = subst (λ (v : TreeView). IsJoinSteps z m.0.upper v) (sym (h.0 ∙ ap (unlinked new x) upper)) (steps_won m.0.upper)
-    put_steps false h = subst (λ (v : TreeView). IsJoinSteps z m.0.upper v) (sym (h.0 ∙ ap (one_unlinking_lost x) upper)) (steps_lost m.0.upper)
+    put_steps true h = subst (λ (v : TreeView). IsJoinSteps z m.0.upper v)
+        (sym (h.0 ∙ ap (unlinked new x) upper)) (steps_won m.0.upper)
+    put_steps false h = subst (λ (v : TreeView). IsJoinSteps z m.0.upper v)
+        (sym (h.0 ∙ ap (one_unlinking_lost x) upper)) (steps_lost m.0.upper)
 
-    put_own : (b : Bool) → HasPutJoined b new x l e → e.0.upper.ranges.own ≡ own_behind (attempt_by x) m.0.upper.ranges.own
+    put_own : (b : Bool) → HasPutJoined b new x l e
+        → e.0.upper.ranges.own ≡ own_behind (attempt_by x) m.0.upper.ranges.own
     put_own true h = ap (λ (v : TreeView). v.ranges.own) (h.0 ∙ ap (unlinked new x) upper)
     put_own false h = ap (λ (v : TreeView). v.ranges.own) (h.0 ∙ ap (one_unlinking_lost x) upper)
 
-    pub put_quiet : (b : Bool) → HasPutJoined b new x l e → m.0.upper.ranges.own ≡ Secured (attempt_by x) → e.0.upper.ranges.own ≡ Quiet
-    put_quiet b h own = put_own b h ∙ (ap (own_behind (attempt_by x)) own ∙ behind_own (attempt_by x))
+    pub put_quiet : (b : Bool) → HasPutJoined b new x l e
+        → m.0.upper.ranges.own ≡ Secured (attempt_by x) → e.0.upper.ranges.own ≡ Quiet
+    put_quiet b h own = put_own b h
+        ∙ (ap (own_behind (attempt_by x)) own ∙ behind_own (attempt_by x))
 
-    pub put_united : x.counts ≡ false → losses l ≡ losses m → HasMet 0 0 m e → (b : Bool) → HasPutJoined b new x l e → HasUnited b m e
+    pub put_united : x.counts ≡ false → losses l ≡ losses m → HasMet 0 0 m e → (b : Bool)
+        → HasPutJoined b new x l e → HasUnited b m e
     put_united counts same met true h = let v = h.0 ∙ ap (unlinked new x) upper in (
       record {
         joins = ap (λ (w : TreeView). w.joins) v;
         lost = ap (λ (w : TreeView). w.lost) v;
-        turns = ap (λ (w : TreeView). w.turns) v ∙ ap (λ (c : Bool). turns_after c m.0.upper.turns) counts;
-        forgotten = (ap (λ (w : TreeView). w.notes) v, ap (λ (w : TreeView). w.ways) v, ap (λ (w : TreeView). w.ranges.joins) v);
+        turns = ap (λ (w : TreeView). w.turns) v ∙ ap
+            (λ (c : Bool). turns_after c m.0.upper.turns) counts;
+        forgotten = (
+          ap (λ (w : TreeView). w.notes) v,
+          ap (λ (w : TreeView). w.ways) v,
+          ap (λ (w : TreeView). w.ranges.joins) v,
+        );
       },
       h.1 ∙ same,
       met,
@@ -57,7 +82,11 @@ module _ (z : Sizes) (new : ℕ) (x : Unlinking) where
         joins = ap (λ (w : TreeView). w.joins) v;
         lost = ap (λ (w : TreeView). w.lost) v;
         turns = ap (λ (w : TreeView). w.turns) v;
-        forgotten = (ap (λ (w : TreeView). w.notes) v, ap (λ (w : TreeView). w.ways) v, ap (λ (w : TreeView). w.ranges.joins) v);
+        forgotten = (
+          ap (λ (w : TreeView). w.notes) v,
+          ap (λ (w : TreeView). w.ways) v,
+          ap (λ (w : TreeView). w.ranges.joins) v,
+        );
         inventory = ap (λ (w : TreeView). w.inventory) v;
       },
       subst (λ (k : ℕ). k < losses e) same h.1,

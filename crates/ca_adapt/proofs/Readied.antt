@@ -14,17 +14,20 @@ use Rattle.ca_adapt.specs.Carrying.{StaysPinned}
 use Rattle.ca_adapt.specs.Pairs.{Marks}
 
 module _ {R : Type 0} (space : Space R TreeView) where
-  pub ready_marked : (marks : ℕ) (pass new : Pass R TreeView) → IsReady space pass → StaysReady space pass new
+  pub ready_marked : (marks : ℕ) (pass new : Pass R TreeView) → IsReady space pass
+      → StaysReady space pass new
       → Marks marks pass.seat.me.0.upper new.seat.me.0.upper → IsReady space new
   ready_marked marks pass new r s m = record {
     own = (s.same.0 ∙ r.own.0, s.pin.0 ∙ r.own.1);
-    numbered = subst (λ (p : ℕ × Pin). IsNumbered p.0 p.1) (λ i. (sym s.number i, sym s.pin.1 i)) r.numbered;
+    numbered = subst (λ (p : ℕ × Pin). IsNumbered p.0 p.1) (λ i. (sym s.number i, sym s.pin.1 i))
+        r.numbered;
     pinned = ap (λ (p : Pin). p.pinned) s.pin.1 ∙ r.pinned;
     number = subst (λ (n : ℕ). 0 < n) (sym (ap (λ (u : TreeView). u.number) m.only)) r.number;
     none = s.none;
   }
 
-  pub stays_both : (a b c : Pass R TreeView) → StaysReady space a b → StaysReady space b c → StaysReady space a c
+  pub stays_both : (a b c : Pass R TreeView) → StaysReady space a b → StaysReady space b c
+      → StaysReady space a c
   stays_both a b c x y = record {
     same = (y.same.0 ∙ x.same.0, y.same.1 ∙ x.same.1);
     number = y.number ∙ x.number;
@@ -50,32 +53,39 @@ module _ {R : Type 0} where
   pinned_still pass new s = record {
     same = (s.same.0, s.same.1);
     number = s.number;
-    tally = tallied_as pass.tally new.tally pass.seat.me.0.upper new.seat.me.0.upper s.tally s.same.4;
+    tally = tallied_as pass.tally new.tally pass.seat.me.0.upper new.seat.me.0.upper
+        s.tally s.same.4;
     pin = (s.same.2, s.same.3);
   }
 
   -- What it knows of the pool is as before, and it carried out no split and no join.
-  pub pinned_keeps : (pass new : Pass R TreeView) → KeepsList pass new → new.seat.me.0.sizes ≡ pass.seat.me.0.sizes → new.seat.me.0.pin ≡ pass.seat.me.0.pin
-      → new.seat.me.0.upper.splits ≡ pass.seat.me.0.upper.splits → new.seat.me.0.upper.joins ≡ pass.seat.me.0.upper.joins → StaysPinned pass new
+  pub pinned_keeps : (pass new : Pass R TreeView) → KeepsList pass new
+      → new.seat.me.0.sizes ≡ pass.seat.me.0.sizes → new.seat.me.0.pin ≡ pass.seat.me.0.pin
+      → new.seat.me.0.upper.splits ≡ pass.seat.me.0.upper.splits
+      → new.seat.me.0.upper.joins ≡ pass.seat.me.0.upper.joins → StaysPinned pass new
   pinned_keeps pass new k sizes pin splits joins = record {
     same = k.same;
     number = k.number;
-    tally = tallied_still pass.tally new.tally pass.seat.me.0.upper new.seat.me.0.upper k.tally splits joins;
+    tally = tallied_still pass.tally new.tally pass.seat.me.0.upper new.seat.me.0.upper k.tally
+        splits joins;
     pin = (sizes, pin);
   }
 
-  pub reading_then : (space : Space R TreeView) (pass new : Pass R TreeView) → IsReading space pass → StaysPinned pass new → IsReading space new
+  pub reading_then : (space : Space R TreeView) (pass new : Pass R TreeView) → IsReading space pass
+      → StaysPinned pass new → IsReading space new
   reading_then space pass new r s = record {
     own = (s.same.0 ∙ r.own.0, s.pin.0 ∙ r.own.1);
     pinned = ap (λ (p : Pin). p.pinned) s.pin.1 ∙ r.pinned;
   }
 
-pub may_take : {R : Type 0} (space : Space R TreeView) (pass new : Pass R TreeView) → IsReady space pass → StaysReady space pass new → MayTake space new
+pub may_take : {R : Type 0} (space : Space R TreeView) (pass new : Pass R TreeView)
+    → IsReady space pass → StaysReady space pass new → MayTake space new
 may_take space pass new r s = record {
   reading = record {
     own = (s.same.0 ∙ r.own.0, s.pin.0 ∙ r.own.1);
     pinned = ap (λ (p : Pin). p.pinned) s.pin.1 ∙ r.pinned;
   };
-  numbered = subst (λ (p : ℕ × Pin). IsNumbered p.0 p.1) (λ i. (sym s.number i, sym s.pin.1 i)) r.numbered;
+  numbered = subst (λ (p : ℕ × Pin). IsNumbered p.0 p.1) (λ i. (sym s.number i, sym s.pin.1 i))
+      r.numbered;
   list = s.none.0.are_kept;
 }

@@ -26,6 +26,7 @@ use Rattle.ca_node.specs.Scenes.{IsBase}
 use Rattle.ca_node.specs.Shape.{Role}
 use Rattle.ca_node.specs.Told.{MyTree}
 use Rattle.ca_node.specs.Tree.{Knows, IsTree}
+use Rattle.ca_node.specs.Inventory.{own_tree}
 use Rattle.ca_node.specs.TreeView.{TreeView}
 use Rattle.ca_node.proofs.Ended.{IsEnd, active_before, shape', border_lent, lent_then, lent_before, border_gone, linked_before, linked_then, runs', true_then, listed'}
 use Rattle.ca_node.proofs.Looking.{R}
@@ -52,7 +53,7 @@ module _ (z : Sizes) (s : State (Unit {0}) (View TreeView)) (r : R z s) (id : �
   module _ (u' : TreeView) (is_pinned : me.0.pin.pinned ≡ true) (is_pass : 0 < me.0.upper.number)
       (keeps_own : KeepsOwn me.0.upper.ranges.own u'.ranges.own) (same_ways : u'.ways ≡ me.0.upper.ways)
       (same_begun : u'.ranges.joins.begun ≡ me.0.upper.ranges.joins.begun)
-      (same_inventory : u'.inventory ≡ without (mark_bound (row_at s.words end.base)) me.0.upper.inventory)
+      (same_tree : own_tree u' ≡ (without (mark_bound (row_at s.words end.base)) me.0.upper.inventory, me.0.upper.splits))
       (own_notes : (row : ℕ) → IsNoted (set s.words (own_word s.words pass + 1) word') u' row
       → IsNoted s.words me.0.upper row ⊎ IsLinked (set s.words (own_word s.words pass + 1) word') row)
       (own_knows : Knows z r.made (set s.words (own_word s.words pass + 1) word') r.above.role (set (map upper_of s.views) id u') r.above.history id u')
@@ -109,7 +110,7 @@ module _ (z : Sizes) (s : State (Unit {0}) (View TreeView)) (r : R z s) (id : �
         (shape' z s r pass number word' end) f.ranged.ends
         (runs' z s r pass number word' end)
         (λ p n now. f.ranged.made_before p n (active_before z s r pass number word' end p n now).0)
-        own_knows own_ranging others (without top) (listed' z s r pass number word' end) same_inventory keeps_own same_ways same_begun
+        own_knows own_ranging others (without top) (listed' z s r pass number word' end) same_tree keeps_own same_ways same_begun
 
     pub ends_step : R z record { words = set s.words (own_word s.words pass + 1) word'; homes = s.homes; views = set s.views id (relinked me me.0.claims u').0 }
     ends_step = relinks IsLinked IsLent IsNoted IsTree tree_lends z s r id me.0 d' words' kind record {

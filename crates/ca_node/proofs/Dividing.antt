@@ -25,7 +25,7 @@ use Rattle.ca_rows.proofs.Relinking.{Change, Stays, Comes, Goes, IsChange, relin
 use Rattle.ca_rows.proofs.Rules.{all_seats}
 use Rattle.ca_node.specs.LoneStays.{same_kept, lone_still}
 use Rattle.ca_node.proofs.Lone.{lone_by_one}
-use Rattle.ca_node.specs.Inventory.{IsInventory}
+use Rattle.ca_node.specs.Inventory.{IsInventory, OwnsTree, own_tree}
 use Rattle.ca_node.specs.Attempts.{join_of, IsJoinWord, IsSecured, IsUnderWay}
 use Rattle.ca_node.specs.JoinsStay.{joining_unnoted}
 use Rattle.ca_node.specs.Laws.{noted_alike, tree_lends, in_nothing, numbered, relisted}
@@ -894,10 +894,19 @@ module _ (z : Sizes) (s : State (Unit {0}) (View TreeView)) (r : R z s) (id : �
     at_first = λ (e : r.made ≡ 0). let lo = u.is_pass in let hi = knows.made_before in
         absurd (omega arith);
     only_one =
-        known_by_one z r.made s.words role (map upper_of s.views) f.history f.each_seat id
+        known_by_one z r.made s.words role role' (map upper_of s.views) f.history f.each_seat id
         d.upper u'
         (divided_inventory x f.inventory) mine u.is_pass
-        (λ few. ap (divided_inventory x) (f.only_one id d.upper mine few u.is_pass));
+        (λ few. let was = f.only_one id d.upper mine few u.is_pass in record {
+          whole = ap (divided_inventory x) was.whole;
+          shallow = λ row p e. let old = was.shallow x.old.row place is_old in ⊎_elim
+              (λ (i : IsIn (row, p) parts). ⊎_elim
+              (λ (o : left_part ≡ (row, p)). let l = ap (λ (b : ℕ × Place). b.1.level) o in omega arith)
+              (λ (o : right_part ≡ (row, p)). let l = ap (λ (b : ℕ × Place). b.1.level) o in omega arith)
+              (which row p i))
+              (λ (o : (role row ≡ Base p) × (row ≢ x.old.row)). let l = was.shallow row p o.0 in omega arith)
+              (part_back row p e);
+        });
   }
 
   claims_in : (row : ℕ) (c : Claim) → claim_of (taken_out outs (given ins d.claims)) row ≡ some c

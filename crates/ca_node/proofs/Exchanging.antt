@@ -25,11 +25,11 @@ use Rattle.ca_rows.proofs.Relinking.{Change, Stays, Comes, Serves, Goes, IsChang
 use Rattle.ca_rows.proofs.Rules.{all_seats}
 use Rattle.ca_node.specs.LoneStays.{KeepsOwn, lone_still}
 use Rattle.ca_node.proofs.Lone.{lone_by_one}
-use Rattle.ca_node.specs.Inventory.{AreOnce, row_itself, IsInventory}
+use Rattle.ca_node.specs.Inventory.{AreOnce, row_itself, IsInventory, OwnsTree, own_tree}
 use Rattle.ca_node.specs.Attempts.{HasAttempt, IsUnderWay}
 use Rattle.ca_node.specs.Joining.{IsJoining}
 use Rattle.ca_node.specs.JoinsStay.{joining_noted}
-use Rattle.ca_node.specs.Laws.{tree_lends, in_nothing}
+use Rattle.ca_node.specs.Laws.{tree_lends, in_nothing, in_one}
 use Rattle.ca_node.specs.Links.{IsIn, IsActive, HasBegun, IsBoundOf, IsLinked, by_range, IsLent, IsOfOwnRun, IsNoted, by_note, by_item, by_way, by_link, by_link_item, by_border, by_run, by_run_item, by_shown, by_shown_item}
 use Rattle.ca_node.specs.Marks.{IsOfRange, IsOfJoin, IsMarkIn, IsBorder}
 use Rattle.ca_node.specs.Place.{part, Place}
@@ -813,7 +813,7 @@ module _ (z : Sizes) (s : State (Unit {0}) (View TreeView)) (r : R z s) (id : �
           (own : (row : ℕ) → IsNoted (set s.words x.old.place.link new) u' row
           → IsNoted (set s.words x.old.place.link new) d.upper row
           ⊎ IsLinked (set s.words x.old.place.link new) row)
-          (same_inventory : u'.inventory ≡ exchanged_inventory served new x d.upper.inventory)
+          (same_tree : own_tree u' ≡ (exchanged_inventory served new x d.upper.inventory, d.upper.splits))
           (keeps_own : KeepsOwn d.upper.ranges.own u'.ranges.own) (same_ways : u'.ways ≡ d.upper.ways)
           (same_begun : u'.ranges.joins.begun ≡ d.upper.ranges.joins.begun)
           (edits : AreEdits z.keypos next) (by_passes : AreByPasses r.made next)
@@ -940,11 +940,18 @@ module _ (z : Sizes) (s : State (Unit {0}) (View TreeView)) (r : R z s) (id : �
           at_first = λ (e : r.made ≡ 0). let lo = u.is_pass in let hi = knows.made_before in
               absurd (omega arith);
           only_one =
-              known_by_one z r.made s.words role (map upper_of s.views) f.history f.each_seat
+              known_by_one z r.made s.words role role' (map upper_of s.views) f.history f.each_seat
               id d.upper u'
               (exchanged_inventory served new x f.inventory) first u.is_pass
-              (λ few. same_inventory
-              ∙ ap (exchanged_inventory served new x) (f.only_one id d.upper first few u.is_pass));
+              (λ few. let was = f.only_one id d.upper first few u.is_pass in
+              subst (OwnsTree role' (exchanged_inventory served new x f.inventory)) (sym same_tree) record {
+                whole = ap (exchanged_inventory served new x) was.whole;
+                shallow = λ row p e. ⊎_elim
+                    (λ (i : IsIn (row, p) (coming ∷ [])). let one : coming ≡ (row, p) = in_one {A = ℕ × Place} coming (row, p) i in
+                    subst (λ (b : ℕ × Place). b.1.level ≤ d.upper.splits) one (was.shallow x.old.row place is_old))
+                    (λ (o : (role row ≡ Base p) × ¬ IsIn row (x.old.row ∷ [])). was.shallow row p o.0)
+                    (relists.base_back row p e);
+              });
         }
 
         -- Where the link names the old base, the whole rule holds again.

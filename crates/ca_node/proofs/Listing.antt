@@ -8,7 +8,7 @@ use lib.ListN.{get_elem?}
 use Rattle.atomic_table.proofs.Lists.{at_set}
 use Rattle.ca_model.specs.History.{History}
 use Rattle.ca_rows.specs.declared.sizes.Sizes.{Sizes}
-use Rattle.ca_node.specs.Inventory.{AreOnce, but, but_all, row_itself, row_of_base, IsInventory}
+use Rattle.ca_node.specs.Inventory.{AreOnce, but, but_all, row_itself, row_of_base, IsInventory, OwnsTree, own_tree}
 use Rattle.ca_node.specs.Laws.{in_nothing, in_one}
 use Rattle.ca_node.specs.Links.{IsIn, IsLinked}
 use Rattle.ca_node.specs.Place.{Place}
@@ -242,17 +242,17 @@ module _ (words words' : List ℕ) (role role' : ℕ → Role) (ins outs : List 
 
 -- Where no more than one pass was made, the one that took a step is the only one: if it knows the
 -- list then, so does each pass.
-pub known_by_one : (z : Sizes) (made : ℕ) (words : List ℕ) (role : ℕ → Role) (uppers : List TreeView)
+pub known_by_one : (z : Sizes) (made : ℕ) (words : List ℕ) (role role' : ℕ → Role) (uppers : List TreeView)
     (history : History)
     → ((j : ℕ) (v : TreeView) → get_elem? uppers j ≡ some v
     → Knows z made words role uppers history j v)
     → (id : ℕ) (u u' : TreeView) (i : Inventory) → get_elem? uppers id ≡ some u → 0 < u.number
-    → (made ≤ 1 → u'.inventory ≡ i)
+    → (made ≤ 1 → OwnsTree role' i (own_tree u'))
     → (j : ℕ) (v : TreeView) → get_elem? (set uppers id u') j ≡ some v → made ≤ 1 → 0 < v.number
-    → v.inventory ≡ i
-known_by_one z made words role uppers history each id u u' i at is_pass known j v here few pass =
+    → OwnsTree role' i (own_tree v)
+known_by_one z made words role role' uppers history each id u u' i at is_pass known j v here few pass =
     ⊎_elim
-    (λ (t : (j ≡ id) × (u' ≡ v)). ap (λ (w : TreeView). w.inventory) (sym t.1) ∙ known few)
+    (λ (t : (j ≡ id) × (u' ≡ v)). subst (λ (w : TreeView). OwnsTree role' i (own_tree w)) t.1 (known few))
     (λ (t : (j ≢ id) × (get_elem? uppers j ≡ some v)). let mine = each id u at in
     let a = mine.made_before in let b = (each j v t.1).made_before in
     absurd (t.0 (mine.alone is_pass j v t.1 (omega arith))))

@@ -732,7 +732,7 @@ module _ (z : Sizes) where
       (λ (e : me.0.sizes ≡ z). e) (r.seat id me.0 at).sizes_are in
       let one : z.passes ≡ 1 = ap (λ (y : Sizes). y.passes) (sym same) ∙ alone.0 in
       let whole =
-      f.only_one id me.0.upper (at_map upper_of s.views id me.0 at) (omega arith) alone.1 in
+      (f.only_one id me.0.upper (at_map upper_of s.views id me.0 at) (omega arith) alone.1).whole in
       let listed : IsIn (note.row, note.place) f.inventory.bases = subst
       (λ (y : Inventory). IsIn (note.row, note.place) y.bases) whole i in
       miss (base_at z s.words f.role (after f.history []) f.shape note.row note.place

@@ -42,7 +42,8 @@ use Rattle.ca_node.proofs.Runs.{run, run_trues, run_bases, run_shown, on_chain}
 use Rattle.ca_node.proofs.SameNotes.{same_notes}
 use Rattle.ca_node.proofs.ChainLength.{few_chained}
 
-module _ (z : Sizes) (s : State (Unit {0}) (View TreeView)) (r : R z s) (id : ℕ) (me : MyTree) (at : get_elem? s.views id ≡ some me.0)
+module _ (z : Sizes) (s : State (Unit {0}) (View TreeView)) (r : R z s) (id : ℕ) (me : MyTree)
+    (at : get_elem? s.views id ≡ some me.0)
     (begun : Begun) (border : Border) where
   abbrev f : IsTree z r.made s.words (map upper_of s.views)
   f = r.above
@@ -57,7 +58,8 @@ module _ (z : Sizes) (s : State (Unit {0}) (View TreeView)) (r : R z s) (id : �
   first = at_map upper_of s.views id me.0 at
 
   -- The seat decides it with this base.
-  module _ (last : Note) (k : IsOwnEnding me begun border last) (hit : result_of s.words me.0.upper.number ≡ active_word begun.number) where
+  module _ (last : Note) (k : IsOwnEnding me begun border last)
+      (hit : result_of s.words me.0.upper.number ≡ active_word begun.number) where
     last_true : IsTrue z.rows s.words r.above.role last
     last_true = (knows_upper z s r id me.0 at).notes last k.shown
 
@@ -98,16 +100,21 @@ module _ (z : Sizes) (s : State (Unit {0}) (View TreeView)) (r : R z s) (id : �
     }
 
     abbrev words' : List ℕ
-    words' = set s.words (own_word s.words me.0.upper.number + 1) (decided_word begun.number last.row)
+    words' = set s.words (own_word s.words me.0.upper.number + 1)
+        (decided_word begun.number last.row)
 
     abbrev pub the_run : List Note
-    the_run = run z r.made s.words (map upper_of s.views) r.above me.0.upper.number begun.number last.row now base_is marked
+    the_run = run z r.made s.words (map upper_of s.views) r.above me.0.upper.number begun.number
+        last.row now base_is marked
 
-    run_base : (note : Note) → IsIn note the_run → IsTrue z.rows s.words r.above.role note × (r.above.role note.row ≡ Base note.place)
-    run_base = run_trues z r.made s.words (map upper_of s.views) r.above pass begun.number last.row now base_is marked
+    run_base : (note : Note) → IsIn note the_run → IsTrue z.rows s.words r.above.role note
+        × (r.above.role note.row ≡ Base note.place)
+    run_base = run_trues z r.made s.words (map upper_of s.views) r.above pass begun.number last.row
+        now base_is marked
 
     run_true : (note : Note) → IsIn note the_run → IsTrue z.rows words' r.above.role note
-    run_true note i = true_then z s r pass begun.number (decided_word begun.number last.row) end note
+    run_true note i = true_then z s r pass begun.number
+        (decided_word begun.number last.row) end note
         (run_base note i).0
 
     -- Its run is linked.
@@ -121,9 +128,11 @@ module _ (z : Sizes) (s : State (Unit {0}) (View TreeView)) (r : R z s) (id : �
         )
 
     own_run : (row : ℕ) → IsOfOwnRun words' me.0.upper row → IsBase r.above.role row
-    own_run row o = let d = o.3 in let here = sym (result_here z s r pass (decided_word begun.number last.row) k.is_pass hi) ∙ d.4 in
+    own_run row o = let d = o.3 in let here = sym
+        (result_here z s r pass (decided_word begun.number last.row) k.is_pass hi) ∙ d.4 in
         let l = small in let l' = d.3 in let same : o.1 ≡ last.row = omega arith in
-        on_chain z r.made s.words (map upper_of s.views) r.above pass begun.number last.row now base_is marked words' run_true last_true.some_row row
+        on_chain z r.made s.words (map upper_of s.views) r.above pass begun.number last.row now
+        base_is marked words' run_true last_true.some_row row
         (subst (λ (c : ℕ). IsOnChain words' c row) same o.4)
 
     abbrev more : History
@@ -138,22 +147,30 @@ module _ (z : Sizes) (s : State (Unit {0}) (View TreeView)) (r : R z s) (id : �
         inventory = without border.row me.0.upper.inventory;
       })).0;
     }
-    decide_step = end_step z s r id me at k.is_pinned k.is_pass begun border k.own (decided_word begun.number last.row) end
-        (me.0.upper.seen ++ more) (subst (StartsWith f.history) (whole z s r id me at) (starts_whole f.history))
-        (subst (λ (h : History). StartsWith h me.0.upper.since) (whole z s r id me at) (since_whole z s r id me at))
-        (subst (λ (h : History). ArePast (length h) me.0.upper.log) (whole z s r id me at) (past_whole z s r id me at))
+    decide_step = end_step z s r id me at k.is_pinned k.is_pass begun border k.own
+        (decided_word begun.number last.row) end
+        (me.0.upper.seen ++ more)
+        (subst (StartsWith f.history) (whole z s r id me at) (starts_whole f.history))
+        (subst (λ (h : History). StartsWith h me.0.upper.since) (whole z s r id me at)
+        (since_whole z s r id me at))
+        (subst (λ (h : History). ArePast (length h) me.0.upper.log) (whole z s r id me at)
+        (past_whole z s r id me at))
         the_run run_true (λ note i. inr (run_linked note i)) (λ row o. inr (own_run row o))
 
-    run_now : (w : IsRunShown me.0.upper.since r.above.history (r.above.ranged.ends me.0.upper.number).edge last.row the_run)
+    run_now : (w : IsRunShown me.0.upper.since r.above.history
+        (r.above.ranged.ends me.0.upper.number).edge last.row the_run)
         × (w.high ≡ (span_of (r.above.role last.row)).high)
-    run_now = run_shown z r.made s.words (map upper_of s.views) r.above pass begun.number last.row now base_is marked me.0.upper.since
-        (let a = long z s r id me at in let b = starts_shorter me.0.upper.seen me.0.upper.since (knows_upper z s r id me.0 at).since_first in omega arith)
+    run_now = run_shown z r.made s.words (map upper_of s.views) r.above pass begun.number last.row
+        now base_is marked me.0.upper.since
+        (let a = long z s r id me at in let b = starts_shorter me.0.upper.seen me.0.upper.since
+        (knows_upper z s r id me.0 at).since_first in omega arith)
 
     edge_is : (r.above.ranged.ends me.0.upper.number).edge ≡ begun.edge
     edge_is = (goes z s r id me at k.is_pinned k.is_pass begun border k.own hit).0.1
 
     -- It has what the last state has.
-    abbrev shown_now : IsRunShown me.0.upper.since (me.0.upper.seen ++ (knows_upper z s r id me.0 at).seen_first.0) begun.edge last.row the_run
+    abbrev shown_now : IsRunShown me.0.upper.since
+        (me.0.upper.seen ++ (knows_upper z s r id me.0 at).seen_first.0) begun.edge last.row the_run
     shown_now = let w = run_now.0 in record {
       chained = w.chained;
       at = w.at;
@@ -163,7 +180,8 @@ module _ (z : Sizes) (s : State (Unit {0}) (View TreeView)) (r : R z s) (id : �
       high = w.high;
       before = subst (BeginsBefore w.low) edge_is w.before;
       ends = w.ends;
-      shown = subst (λ (h : History). objects_of the_run ≡ within w.low w.high (state h w.at)) (whole z s r id me at) w.shown;
+      shown = subst (λ (h : History). objects_of the_run ≡ within w.low w.high (state h w.at))
+          (whole z s r id me at) w.shown;
     }
 
     pub decided_now : IsOwnDecided me (
@@ -180,33 +198,42 @@ module _ (z : Sizes) (s : State (Unit {0}) (View TreeView)) (r : R z s) (id : �
       seen = record {
         shown = shown_now;
         bases = sized z s r id me at (λ y. (note : Note) → IsIn note the_run → IsBaseNote y note)
-            (run_bases z r.made s.words (map upper_of s.views) r.above pass begun.number last.row now base_is marked);
-        few = sized z s r id me at (λ y. length the_run ≤ y.rows) (few_chained z.rows s.words role the_run last.row shown_now.chained
+            (run_bases z r.made s.words (map upper_of s.views) r.above pass begun.number last.row
+            now base_is marked);
+        few = sized z s r id me at (λ y. length the_run ≤ y.rows)
+            (few_chained z.rows s.words role the_run last.row shown_now.chained
             (λ note i. (run_base note i).0));
         alike = λ note old i was same. same_notes z.rows s.words role note old
-            (run_bases z r.made s.words (map upper_of s.views) r.above pass begun.number last.row now base_is marked note i).is_base
+            (run_bases z r.made s.words (map upper_of s.views) r.above pass begun.number last.row
+            now base_is marked note i).is_base
             (run_base note i).0 ((knows_upper z s r id me.0 at).notes old was) same;
       };
       high_is = run_now.1 ∙ ap (λ q. (span_of q).high) stands;
       now = refl;
-      known = sized z s r id me at (λ y. IsKnown y (record me.0.upper { seen = me.0.upper.seen ++ more }))
-          (known_now z s r id me at (record me.0.upper { seen = me.0.upper.seen ++ more }) refl refl refl);
+      known = sized z s r id me at
+          (λ y. IsKnown y (record me.0.upper { seen = me.0.upper.seen ++ more }))
+          (known_now z s r id me at (record me.0.upper { seen = me.0.upper.seen ++ more }) refl
+          refl refl);
     }
 
   -- Another one had decided it, and the seat learns that.
-  pub lost_step : (k : (last : Note) × IsOwnEnding me begun border last) → result_of s.words me.0.upper.number ≢ active_word begun.number → (i : ℕ)
+  pub lost_step : (k : (last : Note) × IsOwnEnding me begun border last)
+      → result_of s.words me.0.upper.number ≢ active_word begun.number → (i : ℕ)
       → R z record {
         words = set s.words i (get_or s.words i 0);
         homes = s.homes;
         views = set s.views id (record me.0 { upper = own_over begun.number me.0.upper });
       }
-  lost_step k miss i = let known = f.ranged.each id me.0.upper first in let u' : TreeView = own_over begun.number me.0.upper in
+  lost_step k miss i = let known = f.ranged.each id me.0.upper first in let u' : TreeView =
+      own_over begun.number me.0.upper in
       knows_ranges z s r i id me.0 at u'.ranges me.0.upper.turns me.0.upper.tries
       (knows_upper z s r id me.0 at).joining
-      (λ row n. inl (noted_alike s.words me.0.upper u' (λ x m. m) (λ x m. m) (λ x m. m) (λ x m. m) (λ x m. m) row n)) (λ _ _ l. l) record {
+      (λ row n. inl (noted_alike s.words me.0.upper u' (λ x m. m) (λ x m. m) (λ x m. m) (λ x m. m)
+      (λ x m. m) row n)) (λ _ _ l. l) record {
         over = λ x m. ⊎_elim (λ (e : over_up_to pass begun.number ≡ x). subst (IsOver s.words) e
             (over_else z s r id me at k.1.is_pinned k.1.is_pass begun border k.1.own miss))
-            (λ o. known.over x o) (in_more (over_up_to pass begun.number) x me.0.upper.ranges.over m);
+            (λ o. known.over x o)
+            (in_more (over_up_to pass begun.number) x me.0.upper.ranges.over m);
         borders = known.borders;
         own = known.own;
         sequence = known.sequence;
@@ -237,15 +264,19 @@ module _ (z : Sizes) (s : State (Unit {0}) (View TreeView)) (r : R z s) (id : �
       pub abort_step : R z record {
         words = set s.words (own_word s.words me.0.upper.number + 1) (sequence_unit * begun.number);
         homes = s.homes;
-        views = set s.views id (relinked me me.0.claims (aborted begun.number border.row me.0.upper)).0;
+        views = set s.views id
+            (relinked me me.0.claims (aborted begun.number border.row me.0.upper)).0;
       }
-      abort_step = end_step z s r id me at k.is_pinned k.is_pass begun border k.own (sequence_unit * begun.number) given_end me.0.upper.seen
+      abort_step = end_step z s r id me at k.is_pinned k.is_pass begun border k.own
+          (sequence_unit * begun.number) given_end me.0.upper.seen
           (knows_upper z s r id me.0 at).seen_first (knows_upper z s r id me.0 at).since_first
           (knows_upper z s r id me.0 at).past me.0.upper.ranges.run
           (λ note i. true_then z s r pass begun.number (sequence_unit * begun.number) given_end note
           ((f.ranged.each id me.0.upper first).run note i))
           (λ note i. inl i)
-          (λ row o. let d = o.3 in let here = sym (result_here z s r pass (sequence_unit * begun.number) k.is_pass most) ∙ d.4 in let l = d.3 in
+          (λ row o. let d = o.3 in let here =
+          sym (result_here z s r pass (sequence_unit * begun.number) k.is_pass most) ∙ d.4 in
+          let l = d.3 in
           absurd (omega arith))
 
     -- Another one had decided it: it is over either way.
@@ -255,17 +286,22 @@ module _ (z : Sizes) (s : State (Unit {0}) (View TreeView)) (r : R z s) (id : �
           homes = s.homes;
           views = set s.views id (record me.0 { upper = given_up begun.number me.0.upper });
         }
-    given_step miss i = let known = f.ranged.each id me.0.upper first in let u' : TreeView = given_up begun.number me.0.upper in
+    given_step miss i = let known = f.ranged.each id me.0.upper first in let u' : TreeView =
+        given_up begun.number me.0.upper in
         knows_ranges z s r i id me.0 at u'.ranges me.0.upper.turns me.0.upper.tries
         (knows_upper z s r id me.0 at).joining
         (λ row n. inl (noted_alike s.words me.0.upper u' (λ x m. m) (λ x m. m) (λ x m. m)
         (λ c o. (let e : Quiet ≡ Marking o.2.0 o.2.1 = o.2.2 in absurd cc)) (λ x m. m) row n))
-        (λ _ _ l. lone_same s.words f.role me.0.upper.ranges.own Quiet me.0.upper.ways me.0.upper.ways me.0.upper.ranges.joins.begun
+        (λ _ _ l. lone_same s.words f.role me.0.upper.ranges.own Quiet me.0.upper.ways
+        me.0.upper.ways me.0.upper.ranges.joins.begun
         me.0.upper.ranges.joins.begun (λ w i. inl i)
-        (none_kept me.0.upper.ranges.own Quiet (none_by_marking me.0.upper.ranges.own begun border k.own) (none_by_quiet Quiet refl)) (inl refl) l) record {
+        (none_kept me.0.upper.ranges.own Quiet
+        (none_by_marking me.0.upper.ranges.own begun border k.own) (none_by_quiet Quiet refl))
+        (inl refl) l) record {
           over = λ x m. ⊎_elim (λ (e : over_up_to pass begun.number ≡ x). subst (IsOver s.words) e
               (over_else z s r id me at k.is_pinned k.is_pass begun border k.own miss))
-              (λ o. known.over x o) (in_more (over_up_to pass begun.number) x me.0.upper.ranges.over m);
+              (λ o. known.over x o)
+              (in_more (over_up_to pass begun.number) x me.0.upper.ranges.over m);
           borders = known.borders;
           own = λ _. quiet_else z s r id me at k.is_pinned k.is_pass begun border k.own miss;
           sequence = known.sequence;
@@ -274,46 +310,80 @@ module _ (z : Sizes) (s : State (Unit {0}) (View TreeView)) (r : R z s) (id : �
 
 module _ (z : Sizes) where
   -- Where the pass's word stands.
-  pub own_there : (words : List ℕ) (pass word_at : ℕ) → IsWide z.rows words → 0 < pass → word_at ≡ status_word z pass → own_word words pass + 1 ≡ word_at
-  own_there words pass word_at wide lo here = let far = own_is z.rows pass words wide lo in omega arith
+  pub own_there : (words : List ℕ) (pass word_at : ℕ) → IsWide z.rows words → 0 < pass
+      → word_at ≡ status_word z pass → own_word words pass + 1 ≡ word_at
+  own_there words pass word_at wide lo here = let far = own_is z.rows pass words wide lo in
+      omega arith
 
   -- The exchange of the word of the seat's own range, which decides it,
-  pub decides_own : (slots id : ℕ) (me : MyTree) (begun : Begun) (border : Border) (last : Note) (word_at : ℕ)
+  pub decides_own : (slots id : ℕ) (me : MyTree) (begun : Begun) (border : Border) (last : Note)
+      (word_at : ℕ)
       → word_at ≡ status_word z me.0.upper.number → IsOwnEnding me begun border last
       → Allows (R z) slots id me word_at
       (λ n. either (eqb n (active_word begun.number)) (decided_word begun.number last.row) n)
-      (Relinks MaySwap (DecidesOwn begun border last) (step slots word_at (active_word begun.number) (decided_word begun.number last.row) none) me)
-  decides_own slots id me begun border last word_at here k s r _ at _ = let n : ℕ = get_or s.words word_at 0 in
+      (Relinks MaySwap (DecidesOwn begun border last)
+      (step slots word_at (active_word begun.number) (decided_word begun.number last.row) none)
+      me)
+  decides_own slots id me begun border last word_at here k s r _ at _ = let n : ℕ =
+      get_or s.words word_at 0 in
       let there = own_there s.words me.0.upper.number word_at r.above.shape.wide k.is_pass here in
-      let same : result_of s.words me.0.upper.number ≡ n = ap (λ (i : ℕ). get_or s.words i 0) there in
+      let same : result_of s.words me.0.upper.number ≡ n =
+      ap (λ (i : ℕ). get_or s.words i 0) there in
       dite (ℕ_discrete n (active_word begun.number))
-      (λ (hit : n ≡ active_word begun.number). let won = decided_now z s r id me at begun border last k (same ∙ hit) in
+      (λ (hit : n ≡ active_word begun.number). let won =
+      decided_now z s r id me at begun border last k (same ∙ hit) in
       let d' : View TreeView = (relinked me me.0.claims (record me.0.upper {
         seen = me.0.upper.seen ++ (knows_upper z s r id me.0 at).seen_first.0;
-        ranges = ended_with_run me.0.upper.number begun.number (the_run z s r id me at begun border last k (same ∙ hit)) me.0.upper.ranges;
+        ranges = ended_with_run me.0.upper.number begun.number
+            (the_run z s r id me at begun border last k (same ∙ hit)) me.0.upper.ranges;
         inventory = without border.row me.0.upper.inventory;
       })).0 in
-      let told : DecidesOwn begun border last (step slots word_at (active_word begun.number) (decided_word begun.number last.row) none) me n (d', me.1) =
+      let told : DecidesOwn begun border last
+      (step slots word_at (active_word begun.number) (decided_word begun.number last.row) none)
+      me n (d', me.1) =
       ((λ _. won), λ miss. absurd (miss hit)) in (
         d',
         keeps,
         tt,
         subst (λ (y : ℕ). R z (stepped s word_at y id me.1 d' keeps))
-            (sym (ap (λ b. either b (decided_word begun.number last.row) n) (eq-eqb n (active_word begun.number) hit)))
-            (subst (λ (i : ℕ). R z record { words = set s.words i (decided_word begun.number last.row); homes = s.homes; views = set s.views id d' }) there
+            (sym (ap (λ b. either b (decided_word begun.number last.row) n)
+            (eq-eqb n (active_word begun.number) hit)))
+            (subst (λ (i : ℕ). R z
+            record {
+              words = set s.words i (decided_word begun.number last.row);
+              homes =
+                  s.homes;
+              views = set s.views id d';
+            }) there
             (decide_step z s r id me at begun border last k (same ∙ hit))),
-        ((λ _. refl), (λ miss. absurd (miss hit)), inr (inr (inr (inr (inl (inl (begun, border, last, told)))))), told),
+        (
+          (λ _. refl),
+          (λ miss. absurd (miss hit)),
+          inr
+              (inr (inr (inr (inl (inl (begun, border, last, told)))))),
+          told,
+        ),
       ))
-      (λ miss. let late : View TreeView = record me.0 { upper = own_over begun.number me.0.upper } in
-      let told : DecidesOwn begun border last (step slots word_at (active_word begun.number) (decided_word begun.number last.row) none) me n (late, me.1) =
+      (λ miss. let late : View TreeView = record me.0
+      { upper = own_over begun.number me.0.upper } in
+      let told : DecidesOwn begun border last
+      (step slots word_at (active_word begun.number) (decided_word begun.number last.row) none)
+      me n (late, me.1) =
       ((λ hit. absurd (miss hit)), λ _. refl) in (
         late,
         keeps,
         tt,
         subst (λ (y : ℕ). R z (stepped s word_at y id me.1 late keeps))
-            (sym (ap (λ b. either b (decided_word begun.number last.row) n) (ne_eqb n (active_word begun.number) miss)))
+            (sym (ap (λ b. either b (decided_word begun.number last.row) n)
+            (ne_eqb n (active_word begun.number) miss)))
             (lost_step z s r id me at begun border (last, k) (λ e. miss (sym same ∙ e)) word_at),
-        ((λ hit. absurd (miss hit)), (λ _. refl), inr (inr (inr (inr (inl (inl (begun, border, last, told)))))), told),
+        (
+          (λ hit. absurd (miss hit)),
+          (λ _. refl),
+          inr
+              (inr (inr (inr (inl (inl (begun, border, last, told)))))),
+          told,
+        ),
       ))
 
   -- or gives it up.
@@ -321,46 +391,80 @@ module _ (z : Sizes) where
       → word_at ≡ status_word z me.0.upper.number → IsGivingUp me begun border
       → Allows (R z) slots id me word_at
       (λ n. either (eqb n (active_word begun.number)) (sequence_unit * begun.number) n)
-      (Relinks MaySwap (Aborts begun border) (step slots word_at (active_word begun.number) (sequence_unit * begun.number) none) me)
-  aborts slots id me begun border word_at here k s r _ at _ = let n : ℕ = get_or s.words word_at 0 in
+      (Relinks MaySwap (Aborts begun border)
+      (step slots word_at (active_word begun.number) (sequence_unit * begun.number) none) me)
+  aborts slots id me begun border word_at here k s r _ at _ = let n : ℕ =
+      get_or s.words word_at 0 in
       let there = own_there s.words me.0.upper.number word_at r.above.shape.wide k.is_pass here in
-      let same : result_of s.words me.0.upper.number ≡ n = ap (λ (i : ℕ). get_or s.words i 0) there in
+      let same : result_of s.words me.0.upper.number ≡ n =
+      ap (λ (i : ℕ). get_or s.words i 0) there in
       dite (ℕ_discrete n (active_word begun.number))
-      (λ (hit : n ≡ active_word begun.number). let d' : View TreeView = (relinked me me.0.claims (aborted begun.number border.row me.0.upper)).0 in
-      let told : Aborts begun border (step slots word_at (active_word begun.number) (sequence_unit * begun.number) none) me n (d', me.1) =
+      (λ (hit : n ≡ active_word begun.number). let d' : View TreeView =
+      (relinked me me.0.claims (aborted begun.number border.row me.0.upper)).0 in
+      let told : Aborts begun border
+      (step slots word_at (active_word begun.number) (sequence_unit * begun.number) none) me n
+      (d', me.1) =
       ((λ _. refl), λ miss. absurd (miss hit)) in (
         d',
         keeps,
         tt,
         subst (λ (y : ℕ). R z (stepped s word_at y id me.1 d' keeps))
-            (sym (ap (λ b. either b (sequence_unit * begun.number) n) (eq-eqb n (active_word begun.number) hit)))
-            (subst (λ (i : ℕ). R z record { words = set s.words i (sequence_unit * begun.number); homes = s.homes; views = set s.views id d' }) there
+            (sym (ap (λ b. either b (sequence_unit * begun.number) n)
+            (eq-eqb n (active_word begun.number) hit)))
+            (subst (λ (i : ℕ). R z record {
+              words = set s.words i (sequence_unit * begun.number);
+              homes = s.homes;
+              views = set s.views id d';
+            }) there
             (abort_step z s r id me at begun border k (same ∙ hit))),
-        ((λ _. refl), (λ miss. absurd (miss hit)), inr (inr (inr (inr (inl (inr (inl (begun, border, told))))))), told),
+        (
+          (λ _. refl),
+          (λ miss. absurd (miss hit)),
+          inr
+              (inr (inr (inr (inl (inr (inl (begun, border, told))))))),
+          told,
+        ),
       ))
-      (λ miss. let late : View TreeView = record me.0 { upper = given_up begun.number me.0.upper } in
-      let told : Aborts begun border (step slots word_at (active_word begun.number) (sequence_unit * begun.number) none) me n (late, me.1) =
+      (λ miss. let late : View TreeView = record me.0
+      { upper = given_up begun.number me.0.upper } in
+      let told : Aborts begun border
+      (step slots word_at (active_word begun.number) (sequence_unit * begun.number) none) me n
+      (late, me.1) =
       ((λ hit. absurd (miss hit)), λ _. refl) in (
         late,
         keeps,
         tt,
         subst (λ (y : ℕ). R z (stepped s word_at y id me.1 late keeps))
-            (sym (ap (λ b. either b (sequence_unit * begun.number) n) (ne_eqb n (active_word begun.number) miss)))
+            (sym (ap (λ b. either b (sequence_unit * begun.number) n)
+            (ne_eqb n (active_word begun.number) miss)))
             (given_step z s r id me at begun border k (λ e. miss (sym same ∙ e)) word_at),
-        ((λ hit. absurd (miss hit)), (λ _. refl), inr (inr (inr (inr (inl (inr (inl (begun, border, told))))))), told),
+        (
+          (λ hit. absurd (miss hit)),
+          (λ _. refl),
+          inr
+              (inr (inr (inr (inl (inr (inl (begun, border, told))))))),
+          told,
+        ),
       ))
 
 -- The two ways that each goes.
-pub has_decided : (n slots word_at new : ℕ) (begun : Begun) (border : Border) (last : Note) (m m' : MyTree)
+pub has_decided : (n slots word_at new : ℕ) (begun : Begun) (border : Border) (last : Note)
+    (m m' : MyTree)
     → DecidesOwn begun border last (step slots word_at (active_word begun.number) new none) m n m'
     → HasDecidedOwn (eqb n (active_word begun.number)) begun border last m m'
-has_decided n slots word_at new begun border last m m' told = dite (ℕ_discrete n (active_word begun.number))
-    (λ hit. subst (λ (b : Bool). HasDecidedOwn b begun border last m m') (sym (eq-eqb n (active_word begun.number) hit)) (told.0 hit))
-    (λ miss. subst (λ (b : Bool). HasDecidedOwn b begun border last m m') (sym (ne_eqb n (active_word begun.number) miss)) (told.1 miss))
+has_decided n slots word_at new begun border last m m' told =
+    dite (ℕ_discrete n (active_word begun.number))
+    (λ hit. subst (λ (b : Bool). HasDecidedOwn b begun border last m m')
+    (sym (eq-eqb n (active_word begun.number) hit)) (told.0 hit))
+    (λ miss. subst (λ (b : Bool). HasDecidedOwn b begun border last m m')
+    (sym (ne_eqb n (active_word begun.number) miss)) (told.1 miss))
 
 pub has_aborted : (n slots word_at new : ℕ) (begun : Begun) (border : Border) (m m' : MyTree)
     → Aborts begun border (step slots word_at (active_word begun.number) new none) m n m'
     → HasAborted (eqb n (active_word begun.number)) begun border m m'
-has_aborted n slots word_at new begun border m m' told = dite (ℕ_discrete n (active_word begun.number))
-    (λ hit. subst (λ (b : Bool). HasAborted b begun border m m') (sym (eq-eqb n (active_word begun.number) hit)) (told.0 hit))
-    (λ miss. subst (λ (b : Bool). HasAborted b begun border m m') (sym (ne_eqb n (active_word begun.number) miss)) (told.1 miss))
+has_aborted n slots word_at new begun border m m' told =
+    dite (ℕ_discrete n (active_word begun.number))
+    (λ hit. subst (λ (b : Bool). HasAborted b begun border m m')
+    (sym (eq-eqb n (active_word begun.number) hit)) (told.0 hit))
+    (λ miss. subst (λ (b : Bool). HasAborted b begun border m m')
+    (sym (ne_eqb n (active_word begun.number) miss)) (told.1 miss))

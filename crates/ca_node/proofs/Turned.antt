@@ -19,7 +19,7 @@ use Rattle.ca_runs.specs.Runs.{Ends, AreRuns}
 use Rattle.ca_runs.specs.Scenes.{Turns}
 use Rattle.ca_node.specs.LoneStays.{KeepsOwn}
 use Rattle.ca_node.specs.Endings.{active_word}
-use Rattle.ca_node.specs.Inventory.{IsInventory}
+use Rattle.ca_node.specs.Inventory.{IsInventory, own_tree}
 use Rattle.ca_node.specs.Laws.{tree_lends}
 use Rattle.ca_node.specs.Layout.{root_word, sequence_unit}
 use Rattle.ca_node.specs.Links.{IsIn, IsActive, HasBegun, IsBoundOf, IsLinked, by_range, IsLent, IsNoted}
@@ -159,7 +159,7 @@ module _ (z : Sizes) (s : State (Unit {0}) (View TreeView)) (r : R z s) (pass wo
 
   -- The seat of that pass knows this of ranges then.
   module _ (id : ℕ) (d : View TreeView) (at : get_elem? s.views id ≡ some d) (mine : d.upper.number ≡ pass) (u' : TreeView) (most' : ℕ)
-      (same : 0 < u'.number → u'.number ≡ d.upper.number) (same_inventory : u'.inventory ≡ d.upper.inventory)
+      (same : 0 < u'.number → u'.number ≡ d.upper.number) (same_tree : own_tree u' ≡ own_tree d.upper)
       (keeps_own : KeepsOwn d.upper.ranges.own u'.ranges.own) (same_ways : u'.ways ≡ d.upper.ways)
       (same_begun : u'.ranges.joins.begun ≡ d.upper.ranges.joins.begun)
       (ends' : ℕ → Ends) (ends_else : (p : ℕ) → p ≢ pass → ends' p ≡ r.above.ranged.ends p)
@@ -184,7 +184,7 @@ module _ (z : Sizes) (s : State (Unit {0}) (View TreeView)) (r : R z s) (pass wo
               (ranging_else z s r pass word' lo hi true_then over_then (f.ranged.ends y.upper.number) y.upper (other j y ne here)
               (f.ranged.each j y.upper (at_map upper_of s.views j y here))),
         ))
-        (λ i. i) listed' same_inventory keeps_own same_ways same_begun
+        (λ i. i) listed' same_tree keeps_own same_ways same_begun
 
     abbrev d' : View TreeView
     d' = record d { upper = u'; most = most' }

@@ -92,6 +92,10 @@ module _ (z : Sizes) (words : List ℕ) (role : ℕ → Role) (m : StoreMap) (sh
   pub role_right : role (get_or words (row_words * route + 2) 0) ≡ Base right_span
   role_right = base_under (row_words * route + 2) _ _ was.right is_right
 
+  -- The left base stands below the route.
+  pub left_below : place.level ≤ left_span.level
+  left_below = let l = was.left.greater in omega arith
+
   -- What goes had a place, so it isn't the new base; and it is nothing then.
   pub going_other : (c : ℕ) → IsGoing c → c ≢ new
   going_other c g e = ⊎_elim (λ (f : c ≡ route). apart route place hangs (sym f ∙ e))

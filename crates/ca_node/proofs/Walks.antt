@@ -308,6 +308,10 @@ module _ (z : Sizes) (s : Spot) (m m' m'' : MyTree) (some_rows : 0 < z.rows)
             (λ (x : MyTree). IsListed x.0.upper.inventory led.note) now (led.listed rows_too
             (subst (λ (y : Sizes). IsAlone y m'.0.upper) (sym sizes) (subst
             (λ (x : MyTree). IsAlone z x.0.upper) (sym now) alone)));
+        shallow = λ alone. subst
+            (λ (x : MyTree). led.note.place.level ≤ x.0.upper.splits) now (led.shallow rows_too
+            (subst (λ (y : Sizes). IsAlone y m'.0.upper) (sym sizes) (subst
+            (λ (x : MyTree). IsAlone z x.0.upper) (sym now) alone)));
         alike = λ old i. led.alike old
             (subst (λ (x : MyTree). IsIn old x.0.upper.notes) (sym now) i);
       }
@@ -555,6 +559,7 @@ module _ (z : Sizes) (s : Spot) (m : MyTree) (cursor : Cursor) (m' : MyTree) whe
     has = at.has;
     known = at.known;
     listed = at.listed;
+    shallow = at.shallow;
     alike = at.alike;
   }
 

@@ -1,9 +1,9 @@
 -- What a tree has, listed: how the list changes as a base takes the place of another one, or is split.
-use Rattle.std.specs.Prelude.{◌≡◌, ◌==◌, ℕ, List, [], ◌∷◌, cond}
+use Rattle.std.specs.Prelude.{◌≡◌, ◌==◌, ℕ, ◌≤◌, List, [], ◌∷◌, cond}
 use Rattle.ca_node.specs.Links.{IsIn, IsLinked}
 use Rattle.ca_node.specs.Place.{Place, HasKey}
 use Rattle.ca_node.specs.Shape.{Role, Base}
-use Rattle.ca_node.specs.TreeView.{Note, Inventory}
+use Rattle.ca_node.specs.TreeView.{Note, Inventory, TreeView}
 
 -- No two members of the list are of one row.
 abbrev pub AreOnce : {A : Type 0} → (A → ℕ) → List A → Type 0
@@ -34,6 +34,15 @@ pub record IsInventory (words : List ℕ) (role : ℕ → Role) (i : Inventory) 
   pub based : (row : ℕ) (place : Place) → role row ≡ Base place → IsIn (row, place) i.bases
   pub bases : (row : ℕ) (place : Place) → IsIn (row, place) i.bases → role row ≡ Base place
   pub bases_once : AreOnce row_of_base i.bases
+
+-- what the tree has, as a seat knows it, and how many splits that carried out
+abbrev pub own_tree : TreeView → Inventory × ℕ
+own_tree u = (u.inventory, u.splits)
+
+-- The seat knows what the tree has, and no base stands at a level greater than the number of splits that the seat carried out.
+pub record OwnsTree (role : ℕ → Role) (i : Inventory) (own : Inventory × ℕ) : Type 0 where
+  pub whole : own.0 ≡ i
+  pub shallow : (row : ℕ) (place : Place) → role row ≡ Base place → place.level ≤ own.1
 
 -- The base that was shown is listed, at its place and no other, and no other one that is has a key that is led there.
 pub record IsListed (i : Inventory) (note : Note) : Type 0 where

@@ -14,13 +14,13 @@ use Rattle.ca_rows.proofs.Making.{at_place}
 use Rattle.ca_rows.proofs.Rules.{all_seats}
 use Rattle.ca_node.specs.Attempts.{IsSecured}
 use Rattle.ca_node.specs.DeadStays.{dead_stays, under_dead}
-use Rattle.ca_node.specs.Inventory.{IsInventory}
+use Rattle.ca_node.specs.Inventory.{IsInventory, OwnsTree, own_tree}
 use Rattle.ca_node.specs.Joining.{IsJoining}
 use Rattle.ca_node.specs.JoinsStay.{joining_same, nothing_joining, joined_same}
 use Rattle.ca_node.specs.Links.{root, IsIn, IsUnder, IsActive, IsLinked, by_route, by_range, IsLent, IsOfOwnRun, IsNoted, by_note, by_item, by_way, by_link, by_link_item, by_border, by_run, by_run_item, by_shown, by_shown_item}
 use Rattle.ca_node.specs.Lone.{IsLone}
 use Rattle.ca_node.specs.LoneStays.{same_kept, left_kept, lone_still, lone_same, no_route_first}
-use Rattle.ca_node.specs.Place.{Place, IsLinkOf}
+use Rattle.ca_node.specs.Place.{Place, IsLinkOf, root_place}
 use Rattle.ca_node.specs.Ranging.{IsSoFar, IsRanging, AreRanged}
 use Rattle.ca_node.specs.RangesStay.{own_note, own_run_back, begun_on, decided_back, ranging_stays}
 use Rattle.ca_node.specs.Reached.{route_at, placed_linked, linked_range}
@@ -30,7 +30,7 @@ use Rattle.ca_node.specs.Shape.{Role, Out, Base, Route, place_of, IsSo, IsShape}
 use Rattle.ca_node.specs.Standing.{shape_stands}
 use Rattle.ca_node.specs.Stays.{IsSameRow, row_same, map_same, linked_on, linked_back, lent_on, lent_back}
 use Rattle.ca_node.specs.Tree.{StartsWith, IsAlive, IsDead, IsTrue, IsTrueWay, IsEnded, Knows, IsTree}
-use Rattle.ca_node.specs.TreeView.{Note, Way, Border, Begun, Ranging, Quiet, Unmarked, Marking, Left, Joining, Secured, Ended, TreeView, no_ranges, blank, ended_of, and_ended, ended_with, left_over, pinned, unpinned}
+use Rattle.ca_node.specs.TreeView.{Note, Way, Border, Begun, Ranging, Quiet, Unmarked, Marking, Left, Joining, Secured, Ended, Inventory, TreeView, no_ranges, first_inventory, blank, ended_of, and_ended, ended_with, left_over, pinned, unpinned}
 use Rattle.ca_rows.specs.Layout.{row_words, passes_words}
 use Rattle.ca_node.specs.Layout.{root_word}
 
@@ -397,7 +397,7 @@ relisted z made words role uppers uppers' history j u n k = record {
 
 -- One seat's view is another.
 pub seat_changed : (z : Sizes) (made : ℕ) (words : List ℕ) (uppers : List TreeView) (id : ℕ) (u u' : TreeView) (f : IsTree z made words uppers)
-    → get_elem? uppers id ≡ some u → (0 < u'.number → u'.number ≡ u.number) → (0 < u'.number → u'.inventory ≡ u.inventory)
+    → get_elem? uppers id ≡ some u → (0 < u'.number → u'.number ≡ u.number) → (0 < u'.number → own_tree u' ≡ own_tree u)
     → (made ≤ 1 → 0 < u'.number → IsLone words f.role u.ranges.own u.ways u.ranges.joins.begun → IsLone words f.role u'.ranges.own u'.ways u'.ranges.joins.begun)
     → Knows z made words f.role (set uppers id u') f.history id u'
     → IsRanging z words f.role (f.ranged.ends u'.number) u'.since f.history u'.number u'.ranges → IsTree z made words (set uppers id u')
@@ -426,8 +426,9 @@ seat_changed z made words uppers id u u' f at same has lone k ranging = record {
   inventory = f.inventory;
   listed = f.listed;
   at_first = f.at_first;
-  only_one = all_seats (λ j v. made ≤ 1 → 0 < v.number → v.inventory ≡ f.inventory) uppers id u'
-      (λ few lo. let n = same lo in has lo ∙ f.only_one id u at few (omega arith)) (λ j v n here. f.only_one j v here);
+  only_one = all_seats (λ j v. made ≤ 1 → 0 < v.number → OwnsTree f.role f.inventory (own_tree v)) uppers id u'
+      (λ few lo. let n = same lo in subst (OwnsTree f.role f.inventory) (sym (has lo)) (f.only_one id u at few (omega arith)))
+      (λ j v n here. f.only_one j v here);
 }
 
 pub starts_whole : (h : History) → StartsWith h h
@@ -648,7 +649,12 @@ tree_making = record {
     at_first = λ none_yet. absurd (omega arith);
     only_one = λ j u here few lo. let first : made ≡ 0 = omega arith in ⊎_elim
         (λ (was : get_elem? uppers j ≡ some u). let low = (f.each_seat j u was).made_before in absurd (omega arith))
-        (λ (t : (j ≡ length uppers) × (blank (made + 1) ≡ u)). ap (λ (y : TreeView). y.inventory) (sym t.1) ∙ sym (f.at_first first))
+        (λ (t : (j ≡ length uppers) × (blank (made + 1) ≡ u)). subst (λ (y : TreeView). OwnsTree f.role f.inventory (own_tree y)) t.1 record {
+          whole = sym (f.at_first first);
+          shallow = λ row place is. let here : IsIn (row, place) first_inventory.bases = subst (λ (y : Inventory). IsIn (row, place) y.bases)
+              (f.at_first first) (f.listed.based row place is) in let top : ℕ × Place = (1, root_place) in let base : ℕ × Place = (row, place) in
+              let one : top ≡ base = in_one top base here in let level = ap (λ (b : ℕ × Place). b.1.level) one in omega arith;
+        })
         (at_place uppers (blank (made + 1)) u j here);
   };
   making_notes = λ words pass r. no_blank_notes words pass r;

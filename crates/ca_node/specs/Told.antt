@@ -107,6 +107,7 @@ pub record IsLedToBase (walks : Bool) (link : ℕ) (m : MyTree) (n : ℕ) (m' : 
   pub known : 0 < m.0.sizes.rows → IsBaseNote m.0.sizes note
       × IsKnown m.0.sizes (led_to_base m.0.upper more note (come_to walks m.0.upper note) (come_at walks m.0.upper))
   pub listed : 0 < m.0.sizes.rows → IsAlone m.0.sizes m.0.upper → IsListed m.0.upper.inventory note
+  pub shallow : 0 < m.0.sizes.rows → IsAlone m.0.sizes m.0.upper → note.place.level ≤ m.0.upper.splits
   pub alike : (old : Note) → IsIn old m.0.upper.notes → old.row ≡ note.row → old.its ≡ note.its
 
 -- The link was loaded: it names this route.

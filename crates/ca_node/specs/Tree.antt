@@ -8,7 +8,7 @@ use Rattle.ca_model.specs.Lawful.{IsLawful}
 use Rattle.ca_rows.specs.declared.sizes.Sizes.{Sizes}
 use Rattle.ca_rows.specs.Opening.{AreUsable}
 pub use Rattle.ca_node.specs.Hindsight.{IsDead}
-use Rattle.ca_node.specs.Inventory.{IsInventory}
+use Rattle.ca_node.specs.Inventory.{IsInventory, OwnsTree, own_tree}
 use Rattle.ca_node.specs.Joining.{AreJoining, IsJoining}
 use Rattle.ca_node.specs.Links.{IsIn}
 pub use Rattle.ca_node.specs.Lone.{IsAlive, AreLone}
@@ -84,8 +84,9 @@ pub record IsTree (z : Sizes) (made : ℕ) (words : List ℕ) (uppers : List Tre
   pub joined : AreJoining z words role
   pub lone : AreLone made words role uppers
   pub each_seat : (j : ℕ) (u : TreeView) → get_elem? uppers j ≡ some u → Knows z made words role uppers history j u
-  -- What the tree has is listed. Until a pass was made that is what it has at first, and a pass that is the only one knows the list.
+  -- What the tree has is listed. Until a pass was made that is what it has at first, and a pass that is the only one knows the list; by its splits alone
+  -- bases came to stand at greater levels.
   pub inventory : Inventory
   pub listed : IsInventory words role inventory
   pub at_first : made ≡ 0 → inventory ≡ first_inventory
-  pub only_one : (j : ℕ) (u : TreeView) → get_elem? uppers j ≡ some u → made ≤ 1 → 0 < u.number → u.inventory ≡ inventory
+  pub only_one : (j : ℕ) (u : TreeView) → get_elem? uppers j ≡ some u → made ≤ 1 → 0 < u.number → OwnsTree role inventory (own_tree u)

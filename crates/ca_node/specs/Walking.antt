@@ -155,6 +155,7 @@ pub record IsAtBase (z : Sizes) (spot : Spot) (m : MyTree) (cursor : Cursor) (m'
   pub has : HasState z m'.0.upper note
   pub known : IsKnown z m'.0.upper
   pub listed : IsAlone z m.0.upper → IsListed m.0.upper.inventory note
+  pub shallow : IsAlone z m.0.upper → note.place.level ≤ m.0.upper.splits
   pub alike : (old : Note) → IsIn old m.0.upper.notes → old.row ≡ note.row → old.its ≡ note.its
 
 -- The walk came to a base or to a route.
@@ -180,4 +181,5 @@ pub record IsWalked (z : Sizes) (spot : Spot) (m : MyTree) (cursor : Cursor) (m'
   pub has : HasState z m'.0.upper note
   pub known : IsKnown z m'.0.upper
   pub listed : IsAlone z m.0.upper → IsListed m.0.upper.inventory note
+  pub shallow : IsAlone z m.0.upper → note.place.level ≤ m.0.upper.splits
   pub alike : (old : Note) → IsIn old m.0.upper.notes → old.row ≡ note.row → old.its ≡ note.its

@@ -8,4 +8,5 @@ load_word-requires-clause-shown c = let s = c.requires.remembered in
 
 pub returns-clause-level : goal.returns-clause-level
 returns-clause-level c way i is = ap (λ (n : ℕ). n / 65536 % 65536)
-    (c.load_word.ensures.word (get_or way.its 0 0) (way_word c.args.pass.now.seat.me.0.upper c.args.route way i is))
+    (c.load_word.ensures.word (get_or way.its 0 0)
+    (way_word c.args.pass.now.seat.me.0.upper c.args.route way i is))

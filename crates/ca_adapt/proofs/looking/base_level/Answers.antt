@@ -3,8 +3,11 @@ use Rattle.ca_base.proofs.ShownWords.{base_word, some_word}
 use Rattle.ca_adapt.proofs.looking.base_level.Goals as goal
 
 pub load_word-requires-clause-shown : goal.load_word-requires-clause-shown
-load_word-requires-clause-shown c = some_word c.args.space.now.table.shared.key c.args.pass.now.seat.me.0.upper c.args.base 0 c.requires.shown
+load_word-requires-clause-shown c = some_word c.args.space.now.table.shared.key
+    c.args.pass.now.seat.me.0.upper c.args.base 0 c.requires.shown
 
 pub returns-clause-level : goal.returns-clause-level
-returns-clause-level c note s = ap (λ (n : ℕ). n / 65536 % 65536) (c.load_word.ensures.word (get_or note.its 0 0)
-    (base_word c.args.space.now.table.shared.key c.args.pass.now.seat.me.0.upper c.args.base 0 note s)) ∙ s.is_base.level_is
+returns-clause-level c note s = ap (λ (n : ℕ). n / 65536 % 65536)
+    (c.load_word.ensures.word (get_or note.its 0 0)
+    (base_word c.args.space.now.table.shared.key c.args.pass.now.seat.me.0.upper c.args.base 0 note
+    s)) ∙ s.is_base.level_is

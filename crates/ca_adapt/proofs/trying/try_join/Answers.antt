@@ -9,7 +9,8 @@ use Rattle.ca_node.specs.Inventory.{IsListed}
 use Rattle.ca_adapt.proofs.trying.try_join.Goals as goal
 
 pub join_under-requires-clause-leaf : goal.join_under-requires-clause-leaf
-join_under-requires-clause-leaf c = let most = c.requires.tuned.allowed.most_leaf in let leaf = c.requires.tuned.leaf in (omega arith, omega arith)
+join_under-requires-clause-leaf c = let most = c.requires.tuned.allowed.most_leaf in let leaf =
+    c.requires.tuned.leaf in (omega arith, omega arith)
 
 pub join_under-requires-clause-shown : goal.join_under-requires-clause-shown
 join_under-requires-clause-shown c = let u = c.args.pass.now.seat.me.0.upper in
@@ -23,10 +24,13 @@ join_under-requires-clause-at c = let u = c.args.pass.now.seat.me.0.upper in
 
 pub join_under-requires-clause-settled : goal.join_under-requires-clause-settled
 join_under-requires-clause-settled c = let u = c.args.pass.now.seat.me.0.upper in
-    subst (λ (n : Note). IsSettled u n.its) (sym (shown_first (link_word c.args.cursor.link) u.notes c.requires.at.link)) c.requires.settled
+    subst (λ (n : Note). IsSettled u n.its)
+    (sym (shown_first (link_word c.args.cursor.link) u.notes c.requires.at.link))
+    c.requires.settled
 
 pub join_under-requires-clause-fork : goal.join_under-requires-clause-fork
-join_under-requires-clause-fork c = c.in-Some.ensures c.args.space.now.table.shared.key c.args.pass.now.seat.me.0.upper c.requires.hung
+join_under-requires-clause-fork c = c.in-Some.ensures c.args.space.now.table.shared.key
+    c.args.pass.now.seat.me.0.upper c.requires.hung
 
 pub returns-clause-frame : goal.returns-clause-frame
 returns-clause-frame c = record {
@@ -39,12 +43,18 @@ returns-clause-frame c = record {
 }
 
 pub returns-clause-joined : goal.returns-clause-joined
-returns-clause-joined c = let u = c.args.pass.now.seat.me.0.upper in let z = c.args.space.now.table.shared.key in
-    subst (λ (x : Note × Adapted). IsJoinOutcome z c.args.cursor.link x.0 x.1 c.args.pass.now.seat.me c.join_under.new.pass.seat.me)
-    (λ i. (shown_first (link_word c.args.cursor.link) u.notes c.requires.at.link i, sym c.outcome.ensures i)) c.join_under.ensures.joined
+returns-clause-joined c = let u = c.args.pass.now.seat.me.0.upper in let z =
+    c.args.space.now.table.shared.key in
+    subst (λ (x : Note × Adapted). IsJoinOutcome z c.args.cursor.link x.0 x.1
+    c.args.pass.now.seat.me c.join_under.new.pass.seat.me)
+    (λ i. (
+      shown_first (link_word c.args.cursor.link) u.notes c.requires.at.link i,
+      sym c.outcome.ensures i,
+    )) c.join_under.ensures.joined
 
 pub returns-clause-alone : goal.returns-clause-alone
 returns-clause-alone c alone known listed = let u = c.args.pass.now.seat.me.0.upper in
-    subst (λ (a : Adapted). IsLoneTry a c.args.pass.now.seat.me c.join_under.new.pass.seat.me) (sym c.outcome.ensures)
+    subst (λ (a : Adapted). IsLoneTry a c.args.pass.now.seat.me c.join_under.new.pass.seat.me)
+    (sym c.outcome.ensures)
     (c.join_under.ensures.alone alone known (subst (λ (n : Note). IsListed u.inventory n)
     (sym (shown_first (link_word c.args.cursor.link) u.notes c.requires.at.link)) listed))
