@@ -56,6 +56,7 @@ module _ {F : Type 0} (g : Shared F (Bor (List ℕ) × Unit {0}) Bool) (sought :
     inside = reaches_ends (bound_of sought.hi) (first_note u.notes).place.span.high l;
     cut_is = λ e. let no : true ≡ false = e in absurd cc;
     reaches = refl;
+    needed = λ e. let no : false ≡ true = e in absurd cc;
     known = f.known;
   }
   first_run z u cursor false key f has l = record {
@@ -75,6 +76,7 @@ module _ {F : Type 0} (g : Shared F (Bor (List ℕ) × Unit {0}) Bool) (sought :
       l.2,
       subst (λ (m : StoreMap). HasCounted g sought.counts.now sought.want (objects_of m)) (sym all_within) counted,
     );
+    needed = λ e. let no : false ≡ true = e in absurd cc;
     known = f.known;
   }
     where

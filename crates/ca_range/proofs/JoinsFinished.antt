@@ -221,6 +221,7 @@ module _ {R : Type 0} (space : Space R TreeView) (counted : Bool) (h : Helped) (
     unfinished = ap (λ (y : TreeView). y.ranges.unfinished) c.steps.only ∙ joined_unfinished counted m k l;
     borders = λ border i. subst (λ (xs : List Border). IsIn border xs) (sym (ap (λ (y : TreeView). y.ranges.borders) c.steps.only))
         (joined_borders counted m k l border i);
+    loads = c.loads ∙ ap (λ (x : MyTree). x.0.upper.loads + 2) l.1;
     several = several;
   }
 
@@ -252,6 +253,7 @@ finished_read space h pass mid new r f = record {
   counts = subst (λ (x : MyTree). CountsJoin h x new.seat.me) r.still f.counts;
   unfinished = f.unfinished ∙ ap (λ (x : MyTree). x.0.upper.ranges.unfinished) r.still;
   borders = λ border i. f.borders border (subst (λ (x : MyTree). IsIn border x.0.upper.ranges.borders) (sym r.still) i);
+  loads = f.loads ∙ ap (λ (x : MyTree). x.0.upper.loads + 2) r.still;
   several = f.several;
 }
 
@@ -292,6 +294,7 @@ module _ {R : Type 0} (space : Space R TreeView) (pass mid new : Pass R TreeView
         counts = counts_after h m k n (joined_none false m k l) (ap (λ (x : MyTree). x.0.upper.turns) l.1) (ap (λ (x : MyTree). losses x) l.1) g.counts;
         unfinished = g.unfinished ∙ joined_unfinished false m k l;
         borders = λ border i. g.borders border (joined_borders false m k l border i);
+        loads = g.loads ∙ ap (λ (x : MyTree). x.0.upper.loads + 2) l.1;
         several = g.several;
       }
 

@@ -14,6 +14,7 @@ pub mod GoingOn
 pub mod JoinsEnded
 pub mod JoinsFinished
 pub mod Learning
+pub mod Loaded
 pub mod NextGathered
 pub mod NextNumbers
 pub mod Noting

@@ -27,6 +27,7 @@ use Rattle.ca_range.specs.Filling.{RemembersAll}
 use Rattle.ca_range.specs.Gathering.{HasPassed, IsBetween, IsGathering, IsGatheredNext, IsMarking}
 use Rattle.ca_range.specs.Looking.{HasAdded, IsGoneTo}
 use Rattle.ca_range.specs.Marked.{IsMarkedNow, IsNextTo, second_note}
+use Rattle.ca_range.specs.Snapshots.{WasNeeded}
 use Rattle.ca_range.specs.declared.copying.Mark.{Mark}
 use Rattle.ca_range.specs.declared.own.Gathered.{Gathered}
 use Rattle.ca_range.specs.declared.own.Own.{Own}
@@ -54,9 +55,20 @@ marking_on z u v own same number borders k = record {
 }
 
 module _ {F : Type 0} (g : Shared F (Bor (List ℕ) × Unit {0}) Bool) (sought : Sought F) where
+  -- It was needed still.
+  pub needed_on : (u v : TreeView) (n : ℕ) → v.number ≡ u.number → ((note : Note) → IsIn note u.notes → IsIn note v.notes) → WasNeeded g sought u n
+      → WasNeeded g sought v n
+  needed_on u v n number notes w = record {
+    first = w.first;
+    noted = notes w.first w.noted;
+    marked = (subst (λ (p : ℕ). IsMarkedBy w.first.its p n) (sym number) w.marked.0, w.marked.1);
+    short = w.short;
+  }
+
   pub between_on : (z : Sizes) (u v : TreeView) (own : Own) → v.ranges.own ≡ u.ranges.own → v.number ≡ u.number
-      → ((border : Border) → IsIn border u.ranges.borders → IsIn border v.ranges.borders) → IsBetween g sought z u own → IsBetween g sought z v own
-  between_on z u v own same number borders b = record {
+      → ((border : Border) → IsIn border u.ranges.borders → IsIn border v.ranges.borders) → ((note : Note) → IsIn note u.notes → IsIn note v.notes)
+      → IsBetween g sought z u own → IsBetween g sought z v own
+  between_on z u v own same number borders notes b = record {
     marking = record {
       begun = b.marking.begun;
       border = b.marking.border;
@@ -70,6 +82,7 @@ module _ {F : Type 0} (g : Shared F (Bor (List ℕ) × Unit {0}) Bool) (sought :
     };
     edge = b.edge;
     top = b.top;
+    needed = needed_on u v own.number number notes b.needed;
   }
 
   -- With the last base's objects so many were counted.
@@ -100,7 +113,7 @@ module _ {F : Type 0} (g : Shared F (Bor (List ℕ) × Unit {0}) Bool) (sought :
       let has : HasKey (first_note m'.0.upper.notes).place.span bytes.now =
       subst (λ (x : TreeView). HasKey (first_note x.notes).place.span bytes.now) (sym here) w.sought in (
         subst (λ (x : TreeView). IsGatheredNext g sought z x (record last { counted = now }) next) (sym here) record {
-          between = between_on z u v last.own refl refl (λ border i. i) k.between;
+          between = between_on z u v last.own refl refl (λ border i. i) (λ note i. (suc i.0, i.1)) k.between;
           gone = subst (λ (x : TreeView). IsGoneTo z x next) here gone;
           left_shown = record {
             noted = (suc k.gone.at.shown.noted.0, k.gone.at.shown.noted.1);
@@ -128,7 +141,7 @@ module _ {F : Type 0} (g : Shared F (Bor (List ℕ) × Unit {0}) Bool) (sought :
       → ((border : Border) → IsIn border u.ranges.borders → IsIn border v.ranges.borders) → (IsKnown z u → IsKnown z v)
       → IsGatheredNext g sought z u last next → IsGatheredNext g sought z v last next
   next_on z u v last next all own number borders known k = record {
-    between = between_on z u v last.own own number borders k.between;
+    between = between_on z u v last.own own number borders (λ note i. subst (λ (ns : List Note). IsIn note ns) (sym all.notes) i) k.between;
     gone = gone_still z u v next all k.gone;
     left_shown = record {
       noted = subst (λ (ns : List Note). IsIn (second_note ns) ns) (sym all.notes) k.left_shown.noted;
@@ -170,7 +183,7 @@ module _ {F : Type 0} (g : Shared F (Bor (List ℕ) × Unit {0}) Bool) (sought :
       → IsGathering g sought z v (record last { left = record next { base = row } })
   gathered_on z u v last next mark row k owner number back bound leaf m = let at = at_copy z mark u v next row k.gone.at m in
       subst (λ (x : TreeView). IsGathering g sought z x (record last { left = record next { base = row } })) (sym m.now) record {
-        between = between_on z u (copied [] u.ranges row m.copy u) last.own refl refl (λ border i. i) k.between;
+        between = between_on z u (copied [] u.ranges row m.copy u) last.own refl refl (λ border i. i) (λ note i. (suc i.0, i.1)) k.between;
         gone = record {
           at = subst (λ (x : TreeView). IsAtLast z x (record next { base = row })) m.now at.at;
           few = let few = m.is_base.few in omega arith;

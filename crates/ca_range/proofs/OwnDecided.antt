@@ -26,6 +26,7 @@ use Rattle.ca_range.specs.declared.sought.Sought.{Sought}
 use Rattle.ca_range.proofs.CountedObjects.{counted_fewer, from_both, up_to_all}
 use Rattle.ca_range.proofs.Counts.{counted_both}
 use Rattle.ca_range.proofs.Edges.{reaches_ends, reaches_lower}
+use Rattle.ca_range.proofs.NextGathered.{needed_on}
 use Rattle.ca_range.proofs.OwnEnds.{begun_of, border_of, decided_so}
 use Rattle.ca_range.proofs.OwnRuns.{own_run, same_runs}
 
@@ -63,7 +64,9 @@ module _ {F : Type 0} (g : Shared F (Bor (List ℕ) × Unit {0}) Bool) (sought :
         (own_run g sought z m m' (begun_of m.0.upper.ranges.own) d.more note.row d.run d.seen k.gone.at.shown.is_base.some_row
         (ap (λ (x : MyTree). x.0.upper.ranges.run) d.now) (ap (λ (x : MyTree). x.0.upper.seen) d.now) (ap (λ (x : MyTree). x.0.upper.since) d.now)
         sizes some_rows leaf ((decided_so z (begun_of m.0.upper.ranges.own) (border_of m.0.upper.ranges.own) note m m' sizes some_rows d).only.known k.known)
-        whole cut edge_is inside cut_is reaches)
+        whole cut edge_is inside cut_is reaches last.own.number
+        (needed_on g sought m.0.upper m'.0.upper last.own.number (ap (λ (x : MyTree). x.0.upper.number) d.now)
+        (λ x i. subst (λ (ns : List Note). IsIn x ns) (sym (ap (λ (y : MyTree). y.0.upper.notes) d.now)) i) k.between.needed))
 
     -- It has all up to the upper edge,
     pub whole_run : reaches_to (bound_of sought.hi) (first_note m.0.upper.notes).place.span.high ≡ true → HasRun g sought z m'.0.upper

@@ -55,6 +55,7 @@ pub record HasEndedOwn (z : Sizes) (m m' : MyTree) : Type 0 where
   pub notes : m'.0.upper.notes ≡ m.0.upper.notes
   pub ways : m'.0.upper.ways ≡ m.0.upper.ways
   pub turns : m'.0.upper.turns ≡ m.0.upper.turns
+  pub loads : m'.0.upper.loads ≡ m.0.upper.loads
   pub number : m'.0.upper.number ≡ m.0.upper.number
   pub splits : m'.0.upper.splits ≡ m.0.upper.splits
   pub joins : m'.0.upper.joins ≡ m.0.upper.joins
@@ -84,6 +85,7 @@ module _ (z : Sizes) (m : MyTree) (seen : History) (over : List Over) (run : Lis
     notes = refl;
     ways = refl;
     turns = refl;
+    loads = refl;
     number = refl;
     splits = refl;
     joins = refl;

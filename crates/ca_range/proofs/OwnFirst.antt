@@ -10,7 +10,7 @@ use Rattle.ca_base.specs.Putting.{first_note, words_of}
 use Rattle.ca_base.specs.Readiness.{IsReady}
 use Rattle.ca_model.specs.declared.outcome.Spent.{Spent}
 use Rattle.ca_model.specs.Edges.{Bound, bound_of}
-use Rattle.ca_node.specs.Copies.{Copy, IsCopy, copied, marking_now}
+use Rattle.ca_node.specs.Copies.{Copy, IsCopy, copied, copy_note, marking_now}
 use Rattle.ca_node.specs.declared.cursor.Cursor.{Cursor}
 use Rattle.ca_node.specs.Laws.{in_nothing}
 use Rattle.ca_node.specs.OwnRanges.{opened}
@@ -30,7 +30,7 @@ use Rattle.ca_rows.specs.declared.view.Claim.{Claim}
 use Rattle.ca_rows.specs.declared.view.Claim.TheVariants.{Holds}
 use Rattle.ca_runs.specs.Runs.{BeginsBefore}
 use Rattle.ca_range.specs.Gathering.{HasBegun, IsGathering}
-use Rattle.ca_range.specs.Looking.{IsFirst}
+use Rattle.ca_range.specs.Looking.{IsFirst, IsNotEnough}
 use Rattle.ca_range.specs.Marked.{copy_of}
 use Rattle.ca_range.specs.Opening.{HasPutFirst, HasWrittenFirst, IsFirstReady, begun_at}
 use Rattle.ca_range.specs.Snapping.{GoesOn, StaysPinned}
@@ -115,8 +115,9 @@ module _ (z : Sizes) (m1 m2 m3 : MyTree) (rows : Rows) (first : Cursor) (number 
   -- The range marked it.
   pub first_gathered : {F : Type 0} (g : Shared F (Bor (List ℕ) × Unit {0}) Bool) (sought : Sought F) (m4 : MyTree) → HasPutFirst true rows m3 m4
       → lo ≡ bound_of sought.lo → hi ≡ bound_of sought.hi → 0 < rows.copy → rows.copy ≤ z.rows → rows.own.border ≤ z.rows → 0 < number → number ≤ 64
+      → IsNotEnough g sought (first_note m1.0.upper.notes)
       → IsGathering g sought z m4.0.upper (record { own = rows.own; left = record first { base = rows.copy }; counted = 0 })
-  first_gathered g sought m4 d low high some_row few_rows inside some_number few = subst (λ (u : TreeView). IsGathering g sought z u
+  first_gathered g sought m4 d low high some_row few_rows inside some_number few short = subst (λ (u : TreeView). IsGathering g sought z u
       (record { own = rows.own; left = record first { base = rows.copy }; counted = 0 })) (sym (put_there m4 d)) record {
         between = record {
           marking = record {
@@ -132,6 +133,12 @@ module _ (z : Sizes) (m1 m2 m3 : MyTree) (rows : Rows) (first : Cursor) (number 
           };
           edge = low;
           top = w.border_spells.top_is ∙ high;
+          needed = record {
+            first = copy_note rows.copy copy;
+            noted = (0, refl);
+            marked = ((w.copy_spells.marked.0, w.copy_spells.marked.1 ∙ (owner ∙ same), w.copy_spells.marked.2 ∙ seq), w.copy_spells.back_is ∙ back);
+            short = record { holds = short.holds; counted = short.counted; key = short.key; looked = short.looked };
+          };
         };
         gone = record {
           at = record {
@@ -163,10 +170,10 @@ module _ (z : Sizes) (m1 m2 m3 : MyTree) (rows : Rows) (first : Cursor) (number 
   pub first_begun : {F : Type 0} (g : Shared F (Bor (List ℕ) × Unit {0}) Bool) (sought : Sought F) (m4 : MyTree) (budget : ℕ) (spent : Spent)
       (d : HasPutFirst true rows m3 m4)
       → lo ≡ bound_of sought.lo → hi ≡ bound_of sought.hi → 0 < rows.copy → rows.copy ≤ z.rows → rows.own.border ≤ z.rows → 0 < number → number ≤ 64
-      → (m : MyTree) → HasMet 0 0 m m4 → m.0.upper.turns.passed < m4.0.upper.turns.passed
+      → IsNotEnough g sought (first_note m1.0.upper.notes) → (m : MyTree) → HasMet 0 0 m m4 → m.0.upper.turns.passed < m4.0.upper.turns.passed
       → HasBegun g sought z budget spent (further.On (record { own = rows.own; left = record first { base = rows.copy }; counted = 0 })) m m4
-  first_begun g sought m4 budget spent d low high some_row few_rows inside some_number few m met passed = (
-    first_gathered g sought m4 d low high some_row few_rows inside some_number few,
+  first_begun g sought m4 budget spent d low high some_row few_rows inside some_number few short m met passed = (
+    first_gathered g sought m4 d low high some_row few_rows inside some_number few short,
     refl,
     ap (λ (u : TreeView). mark_back (first_note u.notes).its) (put_there m4 d) ∙ (w.copy_spells.back_is ∙ back),
     met,
@@ -190,6 +197,10 @@ put_steps z false rows m m' d = subst (OnlyRanges z m.0.upper) (sym d) record {
   joined = omega arith;
 }
 
+put_loads : (won : Bool) (rows : Rows) (m m' : MyTree) → HasPutFirst won rows m m' → m'.0.upper.loads ≡ m.0.upper.loads
+put_loads true rows m m' d = ap (λ (u : TreeView). u.loads) d.2
+put_loads false rows m m' d = ap (λ (u : TreeView). u.loads) d
+
 module _ {R : Type 0} (space : Space R TreeView) (p0 p1 p2 p3 p4 : Pass R TreeView) (won : Bool) (rows : Rows) (begun : Begun) (reads : OnlyReads p0 p1)
     (writes : StillKeepsList p1 p2) (only : p2.seat.me ≡ (record p1.seat.me.0 { claims = p2.seat.me.0.claims }, p1.seat.me.1)) (keeps : KeepsList p2 p3)
     (is : p3.seat.me ≡ with_upper p2.seat.me (opened begun p2.seat.me.0.upper)) (frame : StaysPinned space p3 p4)
@@ -208,6 +219,9 @@ module _ {R : Type 0} (space : Space R TreeView) (p0 p1 p2 p3 p4 : Pass R TreeVi
 
   pub turns_now : p3.seat.me.0.upper.turns ≡ p0.seat.me.0.upper.turns
   turns_now = ap (λ (u : TreeView). u.turns) upper_now
+
+  pub loads_now : p4.seat.me.0.upper.loads ≡ p0.seat.me.0.upper.loads
+  loads_now = put_loads won rows p3.seat.me p4.seat.me done ∙ ap (λ (u : TreeView). u.loads) upper_now
 
   pub first_goes : (a b : Spent) → IsSpentOn a b p3.seat.me p4.seat.me → GoesOn space a b p0 p4
   first_goes a b spent = record {

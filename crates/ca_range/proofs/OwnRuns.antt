@@ -24,7 +24,7 @@ use Rattle.ca_node.proofs.Parts.{part_map}
 use Rattle.ca_rows.specs.declared.sizes.Sizes.{Sizes}
 use Rattle.ca_runs.specs.Runs.{BeginsBefore}
 use Rattle.ca_range.specs.Edged.{EndsBefore}
-use Rattle.ca_range.specs.Snapshots.{HasRun}
+use Rattle.ca_range.specs.Snapshots.{HasRun, WasNeeded}
 use Rattle.ca_range.specs.declared.sought.Sought.{Sought}
 use Rattle.ca_range.proofs.FirstBases.{state_is_map}
 
@@ -91,8 +91,9 @@ module _ {F : Type 0} (g : Shared F (Bor (List ℕ) × Unit {0}) Bool) (sought :
     pub own_run : (whole : Bool) (cut : Bound) → begun.edge ≡ bound_of sought.lo → EndsBefore cut s.shown.high
         → (whole ≡ false → cut ≡ s.shown.high)
         → Reaches g sought.counts.now (bound_of sought.hi) cut sought.want (objects_of (within (bound_of sought.lo) cut (ranging.objects_of run))) whole
+        → (number : ℕ) → WasNeeded g sought m'.0.upper number
         → HasRun g sought z m'.0.upper (record { last = last; chained = true; whole = whole })
-    own_run whole cut edge inside cut_is reaches = record {
+    own_run whole cut edge inside cut_is reaches number needed = record {
       remembered = record {
         last_is = ap (λ (ns : List Note). (first_note ns).row) is ∙ chain.1;
         some = subst (λ (ns : List Note). 0 < length ns) (sym is) chain.0;
@@ -112,6 +113,7 @@ module _ {F : Type 0} (g : Shared F (Bor (List ℕ) × Unit {0}) Bool) (sought :
       cut_is = λ e. cut_is e ∙ sym ends_now;
       reaches = subst (λ (ns : List Note). Reaches g sought.counts.now (bound_of sought.hi) cut sought.want
           (objects_of (within (bound_of sought.lo) cut (ranging.objects_of ns))) whole) (sym is) reaches;
+      needed = λ e. (number, needed);
       known = known;
     }
       where

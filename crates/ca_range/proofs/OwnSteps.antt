@@ -156,6 +156,7 @@ module _ {R : Type 0} (space : Space R TreeView) (pass new : Pass R TreeView) (n
     };
     edge = b.edge;
     top = b.top;
+    needed = record { first = b.needed.first; noted = b.needed.noted; marked = b.needed.marked; short = b.needed.short };
   }
 
 module _ {F : Type 0} (g : Shared F (Bor (List ℕ) × Unit {0}) Bool) (sought : Sought F) where

@@ -6,9 +6,10 @@ use mathlib.Core.Option.{some}
 use Rattle.ca_model.specs.Edges.{Bound, bound_of, is_up_to}
 use Rattle.ca_node.specs.Endings.{active_word, decided_word, over_up_to}
 use Rattle.ca_node.specs.Layout.{sequence_unit}
+use Rattle.ca_node.specs.Links.{IsIn}
 use Rattle.ca_node.specs.OwnRanges.{HasFoundRun, IsFoundSo, IsKnownEnded, numbered_by}
 use Rattle.ca_node.specs.Told.{MyTree, IsKnown, status_of, with_upper}
-use Rattle.ca_node.specs.TreeView.{Begun, Border, Marking}
+use Rattle.ca_node.specs.TreeView.{Begun, Border, Marking, Note}
 use Rattle.ca_node.specs.declared.range_state.RangeState.{RangeState}
 use Rattle.ca_node.specs.declared.range_state.RangeState.TheVariants.{Idle, Active, Decided}
 use Rattle.ca_rows.specs.Layout.{row_limit}
@@ -17,6 +18,7 @@ use Rattle.ca_range.specs.Gathering.{HasLoadedRun, IsBetween}
 use Rattle.ca_range.specs.Snapshots.{HasRun}
 use Rattle.ca_range.specs.declared.own.Own.{Own}
 use Rattle.ca_range.specs.declared.sought.Sought.{Sought}
+use Rattle.ca_range.proofs.NextGathered.{needed_on}
 use Rattle.ca_range.proofs.OwnEnds.{HasEndedOwn, ended_own}
 use Rattle.ca_range.proofs.OwnRuns.{own_run}
 use Rattle.ca_range.proofs.Stepping.{known_same}
@@ -64,4 +66,6 @@ module _ {F : Type 0} (g : Shared F (Bor (List ℕ) × Unit {0}) Bool) (sought :
       (ap (λ (x : MyTree). x.0.upper.ranges.run) f.now) (ap (λ (x : MyTree). x.0.upper.seen) f.now) (ap (λ (x : MyTree). x.0.upper.since) f.now)
       sizes rows leaf ((found_so z b.marking.begun b.marking.border n m m' sizes rows f).only.known known) true (bound_of sought.hi) b.edge
       (subst (λ (top : Bound). (key : List ℕ) → is_up_to top key ≡ true → is_up_to f.seen.shown.high key ≡ true) b.top f.whole)
-      (λ e. let no : true ≡ false = e in absurd cc) refl
+      (λ e. let no : true ≡ false = e in absurd cc) refl own.number
+      (needed_on g sought m.0.upper m'.0.upper own.number (ap (λ (x : MyTree). x.0.upper.number) f.now)
+      (λ x i. subst (λ (ns : List Note). IsIn x ns) (sym (ap (λ (y : MyTree). y.0.upper.notes) f.now)) i) b.needed)

@@ -264,3 +264,8 @@ over_by_help false range border m m' e = subst (λ (x : MyTree). IsKnownOver x.0
 pub notes_by_help : (won : Bool) (pass number border : ℕ) (m m' : MyTree) → HasHelped won pass number border m m' → m'.0.upper.notes ≡ m.0.upper.notes
 notes_by_help true pass number border m m' e = ap (λ (x : MyTree). x.0.upper.notes) e
 notes_by_help false pass number border m m' e = ap (λ (x : MyTree). x.0.upper.notes) e
+
+-- No link was loaded.
+pub loads_by_help : (won : Bool) (pass number border : ℕ) (m m' : MyTree) → HasHelped won pass number border m m' → m'.0.upper.loads ≡ m.0.upper.loads
+loads_by_help true pass number border m m' e = ap (λ (x : MyTree). x.0.upper.loads) e
+loads_by_help false pass number border m m' e = ap (λ (x : MyTree). x.0.upper.loads) e

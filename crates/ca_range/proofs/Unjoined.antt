@@ -25,6 +25,9 @@ use Rattle.ca_range.proofs.Filled.{last_shown}
 use Rattle.ca_range.proofs.JoinsEnded.{joined_none, joined_raised, joined_steps}
 use Rattle.ca_range.proofs.Learning.{reads_keep}
 use Rattle.ca_range.proofs.Readied.{reads_stay, ready_still, stays_then}
+use Rattle.ca_range.specs.Loading.{EndsBy}
+use Rattle.ca_range.proofs.Loaded.{ends_by}
+use Rattle.ca_range.proofs.Ranking.{far_inside}
 
 module _ {R : Type 0} (space : Space R TreeView) (cursor : Cursor) (pass new : Pass R TreeView) where
   -- No join has the base, and no range marked it.
@@ -38,9 +41,9 @@ module _ {R : Type 0} (space : Space R TreeView) (cursor : Cursor) (pass new : P
   )
 
   -- One was given up.
-  pub cleared_now : (spent : Spent) → IsReady space pass → HasFreed space cursor.base true pass new
+  pub cleared_now : (spent : Spent) → IsReady space pass → IsAtLast space.table.shared.key pass.seat.me.0.upper cursor → HasFreed space cursor.base true pass new
       → IsSpentOn none_spent spent pass.seat.me new.seat.me → IsCleared space (way.Helped helped.Finished spent) pass new
-  cleared_now spent ready f counted = let z = space.table.shared.key in let m = pass.seat.me in let n = new.seat.me in let l = f.learnt in
+  cleared_now spent ready at f counted = let z = space.table.shared.key in let m = pass.seat.me in let n = new.seat.me in let l = f.learnt in
       let raised = joined_raised true m n l in let steps = joined_steps z true m n l in record {
         frame = stays_then space pass new new f.frame raised (joined_none true m n l) steps record {
           same = (refl, refl);
@@ -55,13 +58,21 @@ module _ {R : Type 0} (space : Space R TreeView) (cursor : Cursor) (pass new : P
         gone = let one = ap (λ (x : MyTree). x.0.upper.turns.helped) l.1 in let lost = ap (λ (x : MyTree). losses x) l.1 in
             let passed = ap (λ (x : MyTree). x.0.upper.turns.passed) l.1 in let empty = ap (λ (x : MyTree). x.0.empty) l.1 in
             let worn = ap (λ (x : MyTree). x.0.worn) l.1 in ((omega arith, omega arith), omega arith);
+        loads = ends_by z m.0.upper n.0.upper (far_inside z m.0.upper cursor at) (let same = ap (λ (x : MyTree). x.0.upper.loads) l.1 in omega arith);
         several = λ _. f.several refl;
       }
 
   -- One was carried out.
-  pub cleared_gone : (h : Helped) (spent : Spent) → HasFinishedJoin space h pass new → IsSpentOn none_spent spent pass.seat.me new.seat.me
+  pub cleared_gone : (h : Helped) (spent : Spent) → IsAtLast space.table.shared.key pass.seat.me.0.upper cursor → HasFinishedJoin space h pass new → IsSpentOn none_spent spent pass.seat.me new.seat.me
       → IsCleared space (way.Helped h spent) pass new
-  cleared_gone h spent f counted = record { frame = f.frame; steps = f.steps; counted = counted; gone = f.gone; several = λ _. f.several }
+  cleared_gone h spent at f counted = let z = space.table.shared.key in let u = pass.seat.me.0.upper in record {
+    frame = f.frame;
+    steps = f.steps;
+    counted = counted;
+    gone = f.gone;
+    loads = ends_by z u new.seat.me.0.upper (far_inside z u cursor at) (let both = f.loads in omega arith);
+    several = λ _. f.several;
+  }
 
 -- The same behind loads of words that were shown.
 pub cleared_behind : {R : Type 0} (space : Space R TreeView) (pass mid new : Pass R TreeView) (w : Way) → OnlyReads pass mid → IsCleared space w mid new
@@ -73,6 +84,7 @@ cleared_behind space pass mid new (way.Helped helped spent) r c = record {
   steps = subst (λ (x : MyTree). OnlySteps space.table.shared.key (links_lost helped) x.0.upper new.seat.me.0.upper) r.still c.steps;
   counted = subst (λ (x : MyTree). IsSpentOn none_spent spent x new.seat.me) r.still c.counted;
   gone = subst (λ (x : MyTree). HasGone helped x new.seat.me) r.still c.gone;
+  loads = subst (λ (x : MyTree). EndsBy space.table.shared.key x.0.upper new.seat.me.0.upper) r.still c.loads;
   several = λ known. c.several (subst (λ (x : MyTree). IsKnown space.table.shared.key x.0.upper) (sym r.still) known);
 }
 

@@ -37,6 +37,7 @@ module _ {R : Type 0} (space : Space R TreeView) (pass mid new : Pass R TreeView
           borders = joined_borders helped m n l;
           no_join = joined_none helped m n l;
           last = ap (λ (x : MyTree). x.0.upper.last) l.1;
+          loads = ap (λ (x : MyTree). x.0.upper.loads) l.1;
         },
         λ note s. (
           inl (unranged note s),
@@ -59,6 +60,7 @@ module _ {R : Type 0} (space : Space R TreeView) (pass mid new : Pass R TreeView
           (subst (λ (x : MyTree). IsIn border x.0.upper.ranges.borders) (sym reads.still) i);
       no_join = no_join_then z pass mid new range.owner word reads keep h;
       last = ap (λ (x : MyTree). x.0.upper.last) h.now ∙ ap (λ (x : MyTree). x.0.upper.last) reads.still;
+      loads = ap (λ (x : MyTree). x.0.upper.loads) h.now ∙ ap (λ (x : MyTree). x.0.upper.loads) reads.still;
     }
 
     -- That range isn't the one that is active.

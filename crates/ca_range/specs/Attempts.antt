@@ -130,7 +130,7 @@ module _ {R : Type 0} where
     pub unjoined : (note : Note) → IsBaseShown space.table.shared.key pass.seat.me.0.upper base note → IsUnjoined new.seat.me.0.upper note.its
     pub several : helped ≡ true → 1 < space.table.shared.key.passes
 
-  -- An attempt that was secured was to be finished, which came to this. Of ranges nothing was learnt.
+  -- An attempt that was secured was to be finished, which came to this: both links were loaded. Of ranges nothing was learnt.
   pub record HasFinishedJoin (space : Space R TreeView) (helped : Helped) (pass new : Pass R TreeView) : Type 0 where
     pub frame : StaysReady space pass new
     pub steps : OnlySteps space.table.shared.key (links_lost helped) pass.seat.me.0.upper new.seat.me.0.upper
@@ -138,12 +138,14 @@ module _ {R : Type 0} where
     pub counts : CountsJoin helped pass.seat.me new.seat.me
     pub unfinished : new.seat.me.0.upper.ranges.unfinished ≡ pass.seat.me.0.upper.ranges.unfinished
     pub borders : (border : Border) → IsIn border pass.seat.me.0.upper.ranges.borders → IsIn border new.seat.me.0.upper.ranges.borders
+    pub loads : new.seat.me.0.upper.loads ≡ pass.seat.me.0.upper.loads + 2
     pub several : 1 < space.table.shared.key.passes
 
   -- So it was tried to carry it out, by a pass that counted it before as helped, or not.
   pub record HasCarriedOut (space : Space R TreeView) (counted : Bool) (helped : Helped) (pass new : Pass R TreeView) : Type 0 where
     pub frame : StaysReady space pass new
     pub steps : IsSteps space.table.shared.key pass.seat.me.0.upper new.seat.me.0.upper
+    pub loads : new.seat.me.0.upper.loads ≡ pass.seat.me.0.upper.loads + 2
     pub tried : HasTriedJoin counted helped pass.seat.me new.seat.me
 
   -- An attempt that was prepared is finished, and is counted as helped; or it was secured.

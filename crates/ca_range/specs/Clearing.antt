@@ -20,6 +20,7 @@ use Rattle.ca_rows.specs.declared.space.Pass.{Pass}
 use Rattle.ca_rows.specs.declared.space.Space.{Space}
 use Rattle.ca_rows.specs.Passes.{KeepsList}
 use Rattle.ca_rows.specs.declared.sizes.Sizes.{Sizes}
+use Rattle.ca_range.specs.Loading.{EndsBy}
 
 -- how many turns a seat spent: exchanges that were lost, operations that were helped, and places that were passed
 abbrev pub turns_at : MyTree → ℕ
@@ -83,6 +84,8 @@ module _ {R : Type 0} where
     pub steps : OnlySteps space.table.shared.key (links_lost helped) pass.seat.me.0.upper new.seat.me.0.upper
     pub counted : IsSpentOn none_spent spent pass.seat.me new.seat.me
     pub gone : HasGone helped pass.seat.me new.seat.me
+    -- how many links it loaded by that
+    pub loads : EndsBy space.table.shared.key pass.seat.me.0.upper new.seat.me.0.upper
     -- The pass isn't the only one of the space.
     pub several : IsKnown space.table.shared.key pass.seat.me.0.upper → 1 < space.table.shared.key.passes
 

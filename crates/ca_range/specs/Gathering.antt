@@ -26,7 +26,7 @@ use Rattle.ca_range.specs.Farther.{reach}
 use Rattle.ca_range.specs.Filling.{turns_of}
 use Rattle.ca_range.specs.Looking.{HasLooked, IsGoneTo}
 use Rattle.ca_range.specs.Marked.{second_note}
-use Rattle.ca_range.specs.Snapshots.{HasRun, HasSnapped, IsInBudget, IsThwarted}
+use Rattle.ca_range.specs.Snapshots.{HasRun, HasSnapped, IsInBudget, IsThwarted, WasNeeded}
 use Rattle.ca_range.specs.declared.gathering.Further.{Further}
 use Rattle.ca_range.specs.declared.gathering.Further.TheVariants as further
 use Rattle.ca_range.specs.declared.looking.Looked.TheVariants as looked
@@ -88,11 +88,12 @@ abbrev pub HasLoadedRun : Begun → Border → ℕ → MyTree → MyTree → Typ
 HasLoadedRun begun border last m m' = (n : ℕ) × (found : HasFoundRun m n m' begun border) × (found.last ≡ last)
 
 module _ {F : Type 0} (g : Shared F (Bor (List ℕ) × Unit {0}) Bool) (sought : Sought F) where
-  -- It goes from the lower edge up to the upper one.
+  -- It was needed, and goes from the lower edge up to the upper one.
   pub record IsBetween (z : Sizes) (u : TreeView) (own : Own) : Type 0 where
     pub marking : IsMarking z u own
     pub edge : marking.begun.edge ≡ bound_of sought.lo
     pub top : top_of marking.border.its ≡ bound_of sought.hi
+    pub needed : WasNeeded g sought u own.number
 
   -- These bases are on the chain that leads from this row to the left, and were shown. So many of their objects within the lower edge were counted.
   pub record HasPassed (u : TreeView) (row counted : ℕ) : Type 0 where

@@ -8,6 +8,7 @@ pub mod Edged
 pub mod Farther
 pub mod Filling
 pub mod Gathering
+pub mod Loading
 pub mod Looking
 pub mod Marked
 pub mod Meeting

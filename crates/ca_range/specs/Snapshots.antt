@@ -14,6 +14,7 @@ use Rattle.ca_model.specs.Runs.{Reaches}
 use Rattle.ca_node.specs.Links.{IsIn}
 use Rattle.ca_node.specs.Ranging.{AreChained}
 use Rattle.ca_node.specs.Ranging as ranging
+use Rattle.ca_node.specs.Row.{IsMarkedBy, mark_back}
 use Rattle.ca_node.specs.Told.{MyTree, IsKnown}
 use Rattle.ca_node.specs.TreeView.{Note, TreeView}
 use Rattle.ca_range.specs.Clearing.{IsCrossed, turns_at}
@@ -66,6 +67,13 @@ abbrev pub IsThwarted : MyTree → MyTree → Type 0
 IsThwarted m m' = IsCrossed m m' ⊎ IsAstray m'.0.upper
 
 module _ {F : Type 0} (g : Shared F (Bor (List ℕ) × Unit {0}) Bool) (sought : Sought F) where
+  -- The range with this number was needed: the first base that it marked was shown, and isn't enough by itself.
+  pub record WasNeeded (u : TreeView) (number : ℕ) : Type 0 where
+    pub first : Note
+    pub noted : IsIn first u.notes
+    pub marked : IsMarkedBy first.its u.number number × (mark_back first.its ≡ 0)
+    pub short : IsNotEnough g sought first
+
   -- They have what a state since the pin has: from the lower edge on, or from before it, up to the last one's end. Up to the cut these are the objects from the
   -- lower edge on: all within the edges, or as many as were wanted.
   pub record HasRun (z : Sizes) (u : TreeView) (run : Run) : Type 0 where
@@ -82,6 +90,8 @@ module _ {F : Type 0} (g : Shared F (Bor (List ℕ) × Unit {0}) Bool) (sought :
     pub cut_is : run.whole ≡ false → cut ≡ (first_note (bases_of run u)).place.span.high
     pub reaches : Reaches g sought.counts.now (bound_of sought.hi) cut sought.want
         (objects_of (within (bound_of sought.lo) cut (ranging.objects_of (bases_of run u)))) run.whole
+    -- a range was needed for them, where one marked them
+    pub needed : run.chained ≡ true → (number : ℕ) × WasNeeded u number
     pub known : IsKnown z u
 
   -- So a snapshot came out, with this budget, of which so much was spent.

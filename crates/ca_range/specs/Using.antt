@@ -17,7 +17,8 @@ use Rattle.ca_rows.specs.declared.space.Pass.{Pass}
 use Rattle.ca_rows.specs.declared.space.Space.{Space}
 
 module _ {R : Type 0} where
-  -- The pass learnt of ranges and of joins alone: it remembers the same bases and routes, and which base a walk came to last, and carried out no join.
+  -- The pass learnt of ranges and of joins alone: it remembers the same bases and routes, and which base a walk came to last, carried out no join, and
+  -- loaded no link.
   pub record OnlyLearns (space : Space R TreeView) (pass new : Pass R TreeView) : Type 0 where
     pub frame : KeepsList pass new
     pub raised : new.seat.me ≡ with_upper pass.seat.me new.seat.me.0.upper
@@ -26,6 +27,7 @@ module _ {R : Type 0} where
     pub borders : (border : Border) → IsIn border pass.seat.me.0.upper.ranges.borders → IsIn border new.seat.me.0.upper.ranges.borders
     pub no_join : new.seat.me.0.upper.joins ≡ pass.seat.me.0.upper.joins
     pub last : new.seat.me.0.upper.last ≡ pass.seat.me.0.upper.last
+    pub loads : new.seat.me.0.upper.loads ≡ pass.seat.me.0.upper.loads
 
   -- It found that of a base that it was shown.
   abbrev pub HasFoundOf : Space R TreeView → ℕ → (TreeView → Note → Type 0) → Pass R TreeView → Pass R TreeView → Type 0

@@ -3,6 +3,7 @@ ghost use Rattle.std.specs.Prelude.{◌≡◌, ◌≢◌, ◌<◌, ◌≤◌, �
 ghost use Rattle.ca_node.specs.Told.{status_of, with_upper};
 ghost use Rattle.ca_node.specs.TreePasses.{tree_of};
 ghost use Rattle.ca_range.specs.Ahead.{IsAhead, IsAtMarked};
+ghost use Rattle.ca_range.specs.Loading.{GoesBy};
 ghost use Rattle.ca_range.specs.Meeting.{AreMet, active_of};
 ghost use Rattle.ca_base.specs.Spending.{IsSpentOn};
 ghost use Rattle.ca_range.specs.Staying.{OnlySteps};
@@ -44,6 +45,7 @@ pub(crate) fn look_ahead(
     ensures no_join { (tree_of pass.new).joins ≡ (tree_of pass.old).joins }
     ensures met { AreMet account.new.met.numbers (tree_of pass.new).ranges.unfinished }
     ensures ahead { IsAhead (sizes space.now) range left.now result (tree_of pass.old) (tree_of pass.new) }
+    ensures loads { GoesBy (sizes space.now) (tree_of pass.old) (tree_of pass.new) }
     ensures counted { IsSpentOn account.old.spent account.new.spent (known pass.old) (known pass.new) }
 {
     if !is_active(watch(space, pass, range.owner, account), range.number) {

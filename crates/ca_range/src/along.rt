@@ -4,6 +4,7 @@ ghost use Rattle.ca_node.specs.Told.{with_upper};
 ghost use Rattle.ca_node.specs.TreePasses.{tree_of};
 ghost use Rattle.ca_range.specs.Ahead.{IsAtMarked};
 ghost use Rattle.ca_range.specs.Along.{IsReached};
+ghost use Rattle.ca_range.specs.Loading.{GoesBy};
 ghost use Rattle.ca_range.specs.Meeting.{AreMet};
 ghost use Rattle.ca_base.specs.Spending.{IsSpentOn};
 ghost use Rattle.ca_range.specs.Staying.{OnlySteps};
@@ -44,6 +45,7 @@ pub(crate) fn go_along(
     ensures no_join { (tree_of pass.new).joins ≡ (tree_of pass.old).joins }
     ensures met { AreMet account.new.met.numbers (tree_of pass.new).ranges.unfinished }
     ensures reached { IsReached (sizes space.now) range result (tree_of pass.old) (tree_of pass.new) }
+    ensures loads { GoesBy (sizes space.now) (tree_of pass.old) (tree_of pass.new) }
     ensures counted { IsSpentOn account.old.spent account.new.spent (known pass.old) (known pass.new) }
 {
     let mut left = from;

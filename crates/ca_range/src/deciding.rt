@@ -35,6 +35,7 @@ pub(crate) fn decide(
     ensures counted { IsSpentOn account.old.spent account.new.spent (known pass.old) (known pass.new) }
     ensures pool { HasMet 0 0 (known pass.old) (known pass.new) }
     ensures notes { (tree_of pass.new).notes ≡ (tree_of pass.old).notes }
+    ensures loads { (tree_of pass.new).loads ≡ (tree_of pass.old).loads }
 {
     finish::<Brand>(space, pass, range, last.base, account);
 }

@@ -7,6 +7,7 @@ ghost use Rattle.ca_node.specs.TreeView.{Quiet};
 ghost use Rattle.ca_range.specs.Ahead.{IsAtLast};
 ghost use Rattle.ca_range.specs.Filling.{GoesTo, HasStepped, IsCopyOf, step_lost};
 ghost use Rattle.ca_range.specs.Farther.{reach};
+ghost use Rattle.ca_range.specs.Loading.{StepsBy};
 ghost use Rattle.ca_range.specs.Marked.{IsNextTo, second_note};
 ghost use Rattle.ca_range.specs.Meeting.{AreMet};
 ghost use Rattle.ca_base.specs.Spending.{IsSpentOn};
@@ -93,6 +94,7 @@ pub(crate) fn fill_gap(
     ensures stepped { HasStepped (sizes space.now) mark.now.range result (known pass.old) (known pass.new) }
     ensures copied { IsCopyOf (first_note (tree_of pass.old).notes) mark.now.statistic result (tree_of pass.new) }
     ensures goes { GoesTo (reach (tree_of pass.old)) result (tree_of pass.new) }
+    ensures loads { StepsBy (sizes space.now) result (tree_of pass.old) (tree_of pass.new) }
     ensures counted { IsSpentOn account.old.spent account.new.spent (known pass.old) (known pass.new) }
 {
     match range_in_use(space, pass, next, account) {

@@ -1,5 +1,5 @@
 //! The bases of a pass's own range are gathered, one behind the other.
-ghost use Rattle.std.specs.Prelude.{◌≡◌};
+ghost use Rattle.std.specs.Prelude.{◌≡◌, ◌+◌};
 ghost use Rattle.ca_adapt.specs.Tuned.{IsTuned};
 ghost use Rattle.ca_base.specs.Readiness.{IsReady};
 ghost use Rattle.ca_model.specs.Function.{MayBeAskedForAll};
@@ -7,6 +7,7 @@ ghost use Rattle.ca_node.specs.TreePasses.{tree_of};
 ghost use Rattle.ca_node.specs.TreeView.{Quiet};
 ghost use Rattle.ca_range.specs.Farther.{reach};
 ghost use Rattle.ca_range.specs.Gathering.{EndsUnspent, HasEnded, IsFurther, IsGathering, IsOver};
+ghost use Rattle.ca_range.specs.Loading.{EndsBy, GathersBy};
 ghost use Rattle.ca_range.specs.Meeting.{AreMet};
 ghost use Rattle.ca_range.specs.Snapping.{GoesOn};
 ghost use Rattle.ca_range.specs.Snapshots.{IsInBudget};
@@ -50,6 +51,7 @@ pub fn gather<F: Fn(&[u8]) -> bool>(
     ensures met { AreMet account.new.met.numbers (tree_of pass.new).ranges.unfinished }
     ensures ended { HasEnded F.Fn search.now.sought.now (sizes space.now) search.now.budget account.new.spent result (known pass.old) (known pass.new) }
     ensures in_budget { IsInBudget search.now.budget account.new.spent result }
+    ensures loads { EndsBy (sizes space.now) (tree_of pass.old) (tree_of pass.new) }
 {
     let mut last = first;
     while turns(&account.spent) < u64::from(search.budget) {
@@ -82,6 +84,7 @@ pub fn go_further<F: Fn(&[u8]) -> bool>(
         (known pass.old) (known pass.new) }
     ensures quiet { IsOver result (tree_of pass.new) }
     ensures unspent { EndsUnspent result account.old.spent account.new.spent }
+    ensures loads { GathersBy (sizes space.now) ((sizes space.now).levels + 1) result (tree_of pass.old) (tree_of pass.new) }
 {
     let mut key = Code::new();
     match look(

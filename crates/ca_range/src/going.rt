@@ -10,6 +10,7 @@ ghost use Rattle.ca_node.specs.TreePasses.{tree_of};
 ghost use Rattle.ca_node.specs.TreeView.{Note};
 ghost use Rattle.ca_range.specs.Farther.{reach};
 ghost use Rattle.ca_range.specs.Gathering.{HasNoRun, IsFurther, IsGatheredNext, IsOver, refused_by};
+ghost use Rattle.ca_range.specs.Loading.{GathersBy};
 ghost use Rattle.ca_range.specs.Marked.{IsBehindRow, IsOwnLast};
 ghost use Rattle.ca_range.specs.Meeting.{AreMet};
 ghost use Rattle.ca_range.specs.Snapping.{GoesOn};
@@ -50,6 +51,7 @@ pub(crate) fn go_to<F: Fn(&[u8]) -> bool>(
         → IsFurther F.Fn search.now.sought.now (sizes space.now) far search.now.budget account.new.spent result (known pass.old) (known pass.new) }
     ensures quiet { IsOver result (tree_of pass.new) }
     ensures no_run { HasNoRun result }
+    ensures loads { GathersBy (sizes space.now) 0 result (tree_of pass.old) (tree_of pass.new) }
 {
     match use_of(space, pass, next, account) {
         Use::Free => mark_on(space, pass, from, next, search, account),
@@ -87,6 +89,7 @@ fn follow<F: Fn(&[u8]) -> bool>(
         → IsFurther F.Fn sought.now (sizes space.now) far budget spent result (known pass.old) (known pass.new) }
     ensures quiet { IsOver result (tree_of pass.new) }
     ensures no_run { HasNoRun result }
+    ensures loads { (tree_of pass.new).loads ≡ (tree_of pass.old).loads }
 {
     let _sought = sought;
     let range = Range {
@@ -149,6 +152,7 @@ fn mark_on<F: Fn(&[u8]) -> bool>(
         → IsFurther F.Fn search.now.sought.now (sizes space.now) far search.now.budget account.new.spent result (known pass.old) (known pass.new) }
     ensures quiet { IsOver result (tree_of pass.new) }
     ensures no_run { HasNoRun result }
+    ensures loads { (tree_of pass.new).loads ≡ (tree_of pass.old).loads }
 {
     let range = Range {
         owner: pass.number(),

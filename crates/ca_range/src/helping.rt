@@ -12,6 +12,7 @@ ghost use Rattle.ca_node.specs.TreeView.{Note, Quiet, Unfinished};
 ghost use Rattle.ca_range.specs.Ahead.{IsAtMarked};
 ghost use Rattle.ca_range.specs.Filling.{GoesTo, HasStepped, IsHelpedTo, IsPassedOn, IsTurned, links_lost, step_lost, turns_of};
 ghost use Rattle.ca_range.specs.Farther.{reach};
+ghost use Rattle.ca_range.specs.Loading.{EndsBy, StepsBy};
 ghost use Rattle.ca_range.specs.Meeting.{AreMet};
 ghost use Rattle.ca_base.specs.Spending.{IsSpentOn};
 ghost use Rattle.ca_range.specs.Staying.{OnlySteps};
@@ -51,6 +52,7 @@ pub fn help_ranges(
     ensures helped { IsHelpedTo (sizes space.now) from.range budget account.new.spent result (known pass.old) (known pass.new) }
     ensures turned { IsIn {A = Unfinished} (record { pass = from.range.owner; number = from.range.number }) (tree_of pass.old).ranges.unfinished
         → IsTurned budget account.old.spent account.new.spent result }
+    ensures loads { EndsBy (sizes space.now) (tree_of pass.old) (tree_of pass.new) }
     ensures counted { IsSpentOn account.old.spent account.new.spent (known pass.old) (known pass.new) }
 {
     let mut range = from.range;
@@ -97,6 +99,7 @@ fn advance(
     ensures stepped { HasStepped (sizes space.now) from.range result (known pass.old) (known pass.new) }
     ensures passed { IsPassedOn tuning.now result (tree_of pass.new) }
     ensures goes { GoesTo (reach (tree_of pass.old) + 1) result (tree_of pass.new) }
+    ensures loads { StepsBy (sizes space.now) result (tree_of pass.old) (tree_of pass.new) }
     ensures counted { IsSpentOn account.old.spent account.new.spent (known pass.old) (known pass.new) }
 {
     match go_along(space, pass, from.cursor, from.range, account) {

@@ -1,5 +1,5 @@
 //! What is found in the bases that a snapshot goes to.
-ghost use Rattle.std.specs.Prelude.{◌≡◌, ◌<◌, ◌≤◌};
+ghost use Rattle.std.specs.Prelude.{◌≡◌, ◌+◌, ◌<◌, ◌≤◌};
 ghost use Rattle.ca_base.specs.Finding.{IsReadable};
 ghost use Rattle.ca_base.specs.Putting.{first_note};
 ghost use Rattle.ca_model.specs.Edges.{bound_of};
@@ -38,6 +38,7 @@ pub(crate) fn walk_to_first(space: &TreeSpace, pass: &mut TreePass, lo: Edge<'_>
     ensures steps { OnlySteps (sizes space.now) 0 (tree_of pass.old) (tree_of pass.new) }
     ensures no_join { (tree_of pass.new).joins ≡ (tree_of pass.old).joins }
     ensures turns { (tree_of pass.new).turns ≡ (tree_of pass.old).turns }
+    ensures loads { (tree_of pass.new).loads ≤ (tree_of pass.old).loads + ((sizes space.now).levels + 1) }
     ensures unfinished { (tree_of pass.new).ranges.unfinished ≡ (tree_of pass.old).ranges.unfinished }
     ensures last { (tree_of pass.new).last ≡ first_note (tree_of pass.new).notes }
     ensures holds { HoldsEdge (bound_of lo.entry) (tree_of pass.new).last.place.span }

@@ -64,13 +64,14 @@ pub(crate) fn begin_range<F: Fn(&[u8]) -> bool>(
     requires met { AreMet account.old.met.numbers (tree_of pass.old).ranges.unfinished }
     requires first { IsFirst (sizes space.now) (bound_of search.now.sought.now.lo) (tree_of pass.old) first }
     requires settled { IsSettled (tree_of pass.old) (first_note (tree_of pass.old).notes).its }
-    requires needed { IsNotEnough F.Fn search.now.sought.now (tree_of pass.old).last }
+    requires needed { IsNotEnough F.Fn search.now.sought.now (tree_of pass.old).last × ((tree_of pass.old).last ≡ first_note (tree_of pass.old).notes) }
     ensures frame { StaysPinned space.now pass.old pass.new }
     ensures quiet { IsOver result (tree_of pass.new) }
     ensures steps { OnlyRanges (sizes space.now) (tree_of pass.old) (tree_of pass.new) }
     ensures met { AreMet account.new.met.numbers (tree_of pass.new).ranges.unfinished }
     ensures begun { HasBegun F.Fn search.now.sought.now (sizes space.now) search.now.budget account.new.spent result (known pass.old) (known pass.new) }
     ensures in_budget { EndsInBudget search.now.budget account.new.spent result }
+    ensures loads { (tree_of pass.new).loads ≡ (tree_of pass.old).loads }
     ensures counted { IsSpentOn account.old.spent account.new.spent (known pass.old) (known pass.new) }
 {
     let Some(number) = next_number(space, pass) else {
@@ -132,10 +133,12 @@ fn begin_with<F: Fn(&[u8]) -> bool>(
     requires met { AreMet account.old.met.numbers (tree_of pass.old).ranges.unfinished }
     requires first { IsFirst (sizes space.now) (bound_of search.now.sought.now.lo) (tree_of pass.old) first }
     requires settled { IsSettled (tree_of pass.old) (first_note (tree_of pass.old).notes).its }
+    requires needed { IsNotEnough F.Fn search.now.sought.now (first_note (tree_of pass.old).notes) }
     ensures goes { GoesOn space.now account.old.spent account.new.spent pass.old pass.new }
     ensures quiet { IsOver result (tree_of pass.new) }
     ensures met { AreMet account.new.met.numbers (tree_of pass.new).ranges.unfinished }
     ensures in_budget { EndsInBudget search.now.budget account.new.spent result }
+    ensures loads { (tree_of pass.new).loads ≡ (tree_of pass.old).loads }
     ensures begun { HasBegun F.Fn search.now.sought.now (sizes space.now) search.now.budget account.new.spent result (known pass.old) (known pass.new) }
 {
     let mark = first_mark(space, pass, first.base, rows.own, search.tuning);

@@ -29,6 +29,7 @@ pub fn give_up(space: &TreeSpace, pass: &mut TreePass, own: Own)
     ensures notes { ((tree_of pass.new).notes ≡ (tree_of pass.old).notes) × ((tree_of pass.new).ways ≡ (tree_of pass.old).ways) }
     ensures still { (losses (known pass.new) ≡ losses (known pass.old)) × ((tree_of pass.new).turns ≡ (tree_of pass.old).turns) }
     ensures met { HasMet 0 0 (known pass.old) (known pass.new) }
+    ensures loads { (tree_of pass.new).loads ≡ (tree_of pass.old).loads }
 {
     abort_own::<Brand>(space, pass, own.number);
     retire_border(space, pass, own.border);
@@ -52,6 +53,7 @@ pub(crate) fn decide_run<F: Fn(&[u8]) -> bool>(
     ensures unfinished { (tree_of pass.new).ranges.unfinished ≡ (tree_of pass.old).ranges.unfinished }
     ensures still { (losses (known pass.new) ≡ losses (known pass.old)) × ((tree_of pass.new).turns ≡ (tree_of pass.old).turns) }
     ensures ended { HasSettled F.Fn sought.now (sizes space.now) result (known pass.old) (known pass.new) }
+    ensures loads { (tree_of pass.new).loads ≡ (tree_of pass.old).loads }
 {
     let last = from.left.base;
     if !decide_own::<Brand>(space, pass, from.own.number, last) {
@@ -85,6 +87,7 @@ fn take_run<F: Fn(&[u8]) -> bool>(
     ensures unfinished { (tree_of pass.new).ranges.unfinished ≡ (tree_of pass.old).ranges.unfinished }
     ensures still { (losses (known pass.new) ≡ losses (known pass.old)) × ((tree_of pass.new).turns ≡ (tree_of pass.old).turns) }
     ensures ended { HasSettled F.Fn sought.now (sizes space.now) result (known pass.old) (known pass.new) }
+    ensures loads { (tree_of pass.new).loads ≡ (tree_of pass.old).loads }
 {
     let _sought = sought;
     let last = load_run(space, pass);

@@ -1,5 +1,5 @@
 //! Snapshots of what is within two edges.
-ghost use Rattle.std.specs.Prelude.{◌≡◌, ◌<◌};
+ghost use Rattle.std.specs.Prelude.{◌≡◌, ◌+◌, ◌<◌, ◌≤◌};
 ghost use Rattle.ca_adapt.specs.Tuned.{IsTuned};
 ghost use Rattle.ca_base.specs.Putting.{first_note};
 ghost use Rattle.ca_base.specs.Readiness.{IsReady, StaysReady};
@@ -10,6 +10,7 @@ ghost use Rattle.ca_node.specs.TreeView.{Quiet};
 ghost use Rattle.ca_range.specs.Ahead.{IsAtLast};
 ghost use Rattle.ca_range.specs.Filling.{IsInUse, turns_of};
 ghost use Rattle.ca_range.specs.Gathering.{EndsInBudget, HasBegun, IsOver};
+ghost use Rattle.ca_range.specs.Loading.{EndsBy, begin_loads, snapshot_loads};
 ghost use Rattle.ca_range.specs.Meeting.{AreMet};
 ghost use Rattle.ca_range.specs.Snapping.{IsRefused, StaysPinned, snapped_so};
 ghost use Rattle.ca_range.specs.Snapshots.{HasSnapped, IsInBudget, OnlyRanges};
@@ -51,6 +52,7 @@ pub fn snapshot<F: Fn(&[u8]) -> bool>(
     ensures met { AreMet account.new.met.numbers (tree_of pass.new).ranges.unfinished }
     ensures snapped { HasSnapped F.Fn sought.now (sizes space.now) budget account.new.spent result (known pass.old) (known pass.new) }
     ensures in_budget { IsInBudget budget account.new.spent result }
+    ensures loads { (tree_of pass.new).loads ≤ (tree_of pass.old).loads + snapshot_loads (sizes space.now) }
     ensures counted { IsSpentOn account.old.spent account.new.spent (known pass.old) (known pass.new) }
 {
     let search = Search {
@@ -85,6 +87,7 @@ pub fn begin_snapshot<F: Fn(&[u8]) -> bool>(
     ensures met { AreMet account.new.met.numbers (tree_of pass.new).ranges.unfinished }
     ensures begun { HasBegun F.Fn search.now.sought.now (sizes space.now) search.now.budget account.new.spent result (known pass.old) (known pass.new) }
     ensures in_budget { EndsInBudget search.now.budget account.new.spent result }
+    ensures loads { (tree_of pass.new).loads ≤ (tree_of pass.old).loads + begin_loads (sizes space.now) result }
     ensures counted { IsSpentOn account.old.spent account.new.spent (known pass.old) (known pass.new) }
 {
     let first = walk_to_first(space, pass, search.sought.lo);
@@ -133,6 +136,7 @@ pub(crate) fn help_first(
     ensures steps { OnlyRanges (sizes space.now) (tree_of pass.old) (tree_of pass.new) }
     ensures met { AreMet account.new.met.numbers (tree_of pass.new).ranges.unfinished }
     ensures refused { IsRefused budget account.new.spent result (known pass.old) (known pass.new) }
+    ensures loads { EndsBy (sizes space.now) (tree_of pass.old) (tree_of pass.new) }
     ensures counted { IsSpentOn account.old.spent account.new.spent (known pass.old) (known pass.new) }
 {
     after_help(help_ranges(space, pass, from, tuning, budget, account))

@@ -41,20 +41,23 @@ was_deep : (z : Sizes) (adds : Option (List ℕ)) (u v : TreeView) → IsAlone z
     → HadNoRoom z adds u
 was_deep z Nothing u v alone seen full waited = absurd full.0.2
 was_deep z (Just key) u v alone seen full waited = ⊎_elim
-    (λ (same : IsSameTree u v). subst (λ (x : History × Inventory). HasNoRoom z key x.0 x.1) (λ i. (seen i, same.1 i)) now)
+    (λ (same : IsSameTree u v). (
+      subst (λ (x : History × Inventory). HasNoRoom z key x.0 x.1) (λ i. (seen i, same.1 i)) now,
+      (let here = full.1 alone in let last = here.2.2 in let level = here.1 in let count = same.0 in omega arith),
+    ))
     (λ (t : Grows 1 2 1 u v × HasRoomFor z (Just key) v × ¬ HasRoomFor z (Just key) u).
     let room = t.1 now.row now.place now.listed now.led in let full = now.full in absurd (omega arith))
     waited
   where
     now : HasNoRoom z key v.seen v.inventory
     now = let here = full.1 alone in record {
-      new = here.1.0;
+      new = here.2.0;
       row = v.last.row;
       place = v.last.place;
       listed = here.0.base;
-      led = here.1.1;
-      at_last = here.1.2;
-      full = here.1.3;
+      led = here.2.1;
+      at_last = here.2.2;
+      full = here.2.3;
     }
 
 -- So is a call that is refused behind its attempts.

@@ -1,5 +1,5 @@
 -- What an attempt comes to behind the look that it begins with.
-use Rattle.std.proofs.Common.{◌≡◌, ◌<◌, ℕ, Bool, true, false, List, [], Result, Ok, Err, sym, refl, ap, ◌∙◌, subst}
+use Rattle.std.proofs.Common.{◌+◌, ◌≡◌, ◌<◌, ℕ, Bool, true, false, List, [], Result, Ok, Err, sym, refl, ap, ◌∙◌, subst, ◌≤◌}
 use Rattle.std.specs.declared.option.Option.{Option}
 use Rattle.ca_adapt.specs.declared.tuning.Tuning.{Tuning}
 use Rattle.ca_base.specs.Counting.{losses}
@@ -32,6 +32,9 @@ use Rattle.ca_rows.specs.declared.space.Space.{Space}
 use Rattle.ca_rows.specs.declared.view.Met.{Met}
 use Rattle.ca_rows.specs.declared.view.Pin.{Pin}
 use Rattle.ca_rows.specs.Passes.{KeepsList}
+use Rattle.ca_range.specs.Loading.{help_loads}
+use Rattle.ca_replace.specs.Loading.{LoadsFew, loads_by, loads_until, unpaid, unpaid_by}
+use Rattle.ca_replace.proofs.Loads.{loads_behind, loads_entered}
 
 -- An attempt that split no full base grew the tree, and split bases, as one whose call adds another
 -- key, or none.
@@ -55,15 +58,16 @@ other_cut edits edits' z adds adds' halt.Helped u v same h = h
 other_cut edits edits' z adds adds' (halt.Stopped why) u v same h = h
 
 -- Whether a mark was met is nothing to what an attempt comes to.
-pub turn_marked : {T : Type 0} (edits : T → Bool) (adds : Option (List ℕ)) (z : Sizes) (t : Tuning)
+pub turn_marked : {T : Type 0} {links : ℕ} (edits : T → Bool) (adds : Option (List ℕ)) (z : Sizes) (t : Tuning)
     (a b : Course) (met : Met) (r : Result T Halt) (m m' : MyTree) (marked : Bool)
-    → IsTurn edits adds z t a b met r m m'
-    → IsTurn edits adds z t a (record b { marked = marked }) met r m m'
+    → IsTurn edits adds z t links a b met r m m'
+    → IsTurn edits adds z t links a (record b { marked = marked }) met r m m'
 turn_marked edits adds z t a b met r m m' marked i = record {
   met_as = i.met_as;
   gone_on = i.gone_on;
   counted = i.counted;
   found = i.found;
+  loads = i.loads;
   grown = i.grown;
   won = i.won;
   cut = i.cut;
@@ -124,8 +128,9 @@ module _ {R : Type 0} {space : Space R TreeView} {key : List ℕ} {cursor : Curs
 
     pub turn_entered : {T : Type 0} (edits : T → Bool) (adds : Option (List ℕ)) (t : Tuning)
         (a : Course) (met : Met) (x : T) → edits x ≡ false
-        → IsTurn edits adds z t a a met (Ok x) pass.seat.me new.seat.me
-    turn_entered edits adds t a met x idle = let u = pass.seat.me.0.upper in
+        → (links : ℕ) → mid.seat.me.0.upper.loads ≤ pass.seat.me.0.upper.loads + links
+        → IsTurn edits adds z t links a a met (Ok x) pass.seat.me new.seat.me
+    turn_entered edits adds t a met x idle links few = let u = pass.seat.me.0.upper in
         let v = new.seat.me.0.upper in record {
           met_as = subst
               (λ b. IfTrue b (IsCauseMet a.adapting.last.adapted met v)) (sym idle) tt;
@@ -136,6 +141,8 @@ module _ {R : Type 0} {space : Space R TreeView} {key : List ℕ} {cursor : Curs
               (none_paid a.spent pass.seat.me new.seat.me (ap losses e.now ∙ l.quiet.lost)
               (ap (λ (m : MyTree). m.0.upper.turns) e.now ∙ l.quiet.same_turns));
           found = tt;
+          loads = loads_entered (help_loads z) links (edits x) pass.seat.me mid.seat.me new.seat.me idle few
+              (ap (λ (m : MyTree). m.0.upper.loads) e.now);
           grown = λ alone. entered_grown pass.seat.me mid.seat.me new.seat.me event l.quiet e;
           won = λ alone. subst (λ b. HasWon b u v) (sym idle)
               (ap (λ (m : MyTree). m.0.upper.lost) e.now ∙ l.quiet.idle.1);
@@ -147,9 +154,10 @@ module _ {R : Type 0} {space : Space R TreeView} {key : List ℕ} {cursor : Curs
   module _ (new : Pass R TreeView) {T : Type 0} (edits : T → Bool) (adds adds' : Option (List ℕ))
       (t : Tuning) (a b : Course) (met : Met) where
     pub turn_edited : (x : T) → edits x ≡ true
-        → IsTurn {T = Unit {0}} (λ _. true) adds z t a b met (Ok tt) mid.seat.me new.seat.me
-        → IsTurn edits adds' z t a b met (Ok x) pass.seat.me new.seat.me
-    turn_edited x did i = let u = pass.seat.me.0.upper in let w = mid.seat.me.0.upper in
+        → IsTurn {T = Unit {0}} (λ _. true) adds z t 0 a b met (Ok tt) mid.seat.me new.seat.me
+        → (links : ℕ) → mid.seat.me.0.upper.loads ≤ pass.seat.me.0.upper.loads + links
+        → IsTurn edits adds' z t links a b met (Ok x) pass.seat.me new.seat.me
+    turn_edited x did i links few = let u = pass.seat.me.0.upper in let w = mid.seat.me.0.upper in
         let v = new.seat.me.0.upper in record {
           met_as = subst
               (λ b'. IfTrue b' (IsCauseMet b.adapting.last.adapted met v)) (sym did) i.met_as;
@@ -158,6 +166,8 @@ module _ {R : Type 0} {space : Space R TreeView} {key : List ℕ} {cursor : Curs
           counted = paid_looked {T = Unit {0}} {E = Halt} (Ok tt) a.spent b.spent pass.seat.me mid.seat.me new.seat.me l.quiet
               i.counted;
           found = tt;
+          loads = subst (λ b'. LoadsFew (help_loads z) (links + 0) (loads_by b' v) pass.seat.me new.seat.me) (sym did)
+              (loads_behind (help_loads z) links 0 v.renewal.loads pass.seat.me mid.seat.me new.seat.me few l.quiet.lost l.quiet.same_turns i.loads);
           grown = looked_grown {T = Unit {0}} z adds (Ok tt) pass.seat.me mid.seat.me v known
               l.looking.known l.further l.quiet i.grown;
           won = λ alone. subst (λ b'. HasWon b' u v) (sym did) (won_on true u w v l.quiet.idle.1
@@ -168,9 +178,10 @@ module _ {R : Type 0} {space : Space R TreeView} {key : List ℕ} {cursor : Curs
         }
 
     pub turn_tried : (r : Result (Unit {0}) Halt)
-        → IsTurn (λ _. true) adds z t a b met r mid.seat.me new.seat.me
-        → IsTurn (λ _. true) adds z t a b met r pass.seat.me new.seat.me
-    turn_tried r i = let u = pass.seat.me.0.upper in let w = mid.seat.me.0.upper in
+        → IsTurn (λ _. true) adds z t 0 a b met r mid.seat.me new.seat.me
+        → (links : ℕ) → mid.seat.me.0.upper.loads ≤ pass.seat.me.0.upper.loads + links
+        → IsTurn (λ _. true) adds z t links a b met r pass.seat.me new.seat.me
+    turn_tried r i links few = let u = pass.seat.me.0.upper in let w = mid.seat.me.0.upper in
         let v = new.seat.me.0.upper in record {
           met_as = i.met_as;
           gone_on = gone_after (λ (_ : Unit {0}). true) z t a.adapting b.adapting r u w v
@@ -178,6 +189,8 @@ module _ {R : Type 0} {space : Space R TreeView} {key : List ℕ} {cursor : Curs
           counted = paid_looked r a.spent b.spent pass.seat.me mid.seat.me new.seat.me l.quiet
               i.counted;
           found = stopped_behind r pass.seat.me mid.seat.me new.seat.me l.quiet i.found;
+          loads = loads_behind (help_loads z) links (unpaid z r) (loads_until (λ (_ : Unit {0}). true) r v) pass.seat.me mid.seat.me new.seat.me few
+              l.quiet.lost l.quiet.same_turns i.loads;
           grown = looked_grown z adds r pass.seat.me mid.seat.me v known l.looking.known l.further
               l.quiet i.grown;
           won = λ alone. won_behind (λ (_ : Unit {0}). true) r u w v l.quiet.idle.1
@@ -187,9 +200,10 @@ module _ {R : Type 0} {space : Space R TreeView} {key : List ℕ} {cursor : Curs
         }
 
     pub turn_halted : (why : Halt) → (why ≡ halt.Split → adds' ≡ adds)
-        → IsTurn {T = Unit {0}} (λ _. true) adds z t a b met (Err why) mid.seat.me new.seat.me
-        → IsTurn edits adds' z t a b met (Err why) pass.seat.me new.seat.me
-    turn_halted why same i = let u = pass.seat.me.0.upper in let w = mid.seat.me.0.upper in
+        → IsTurn {T = Unit {0}} (λ _. true) adds z t 0 a b met (Err why) mid.seat.me new.seat.me
+        → (links : ℕ) → mid.seat.me.0.upper.loads ≤ pass.seat.me.0.upper.loads + links
+        → IsTurn edits adds' z t links a b met (Err why) pass.seat.me new.seat.me
+    turn_halted why same i links few = let u = pass.seat.me.0.upper in let w = mid.seat.me.0.upper in
         let v = new.seat.me.0.upper in record {
           met_as = tt;
           gone_on = gone_after edits z t a.adapting b.adapting (Err why) u w v l.quiet.idle
@@ -198,6 +212,8 @@ module _ {R : Type 0} {space : Space R TreeView} {key : List ℕ} {cursor : Curs
               i.counted;
           found = stopped_behind {T = T} (Err why) pass.seat.me mid.seat.me new.seat.me l.quiet
               i.found;
+          loads = loads_behind (help_loads z) links (unpaid_by z why) v.loads pass.seat.me mid.seat.me new.seat.me few l.quiet.lost l.quiet.same_turns
+              i.loads;
           grown = looked_grown {T = T} z adds' (Err why) pass.seat.me mid.seat.me v known
               l.looking.known l.further l.quiet
               (λ alone. other_grown (Unit {0}) T z adds adds' why w v same

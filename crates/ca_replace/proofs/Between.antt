@@ -153,6 +153,7 @@ module _ {R : Type 0} (space : Space R TreeView) (pass new : Pass R TreeView) wh
         pin_number = ap (λ (x : MyTree). x.0.pin.number) is;
         quiet = moved_quiet pass.seat.me new.seat.me pin seen [] [] ranges is;
         seen = ap (λ (x : MyTree). x.0.upper.seen) is;
+        loads = ap (λ (x : MyTree). x.0.upper.loads) is;
         further = moved_further pass.seat.me new.seat.me pin seen [] [] ranges is;
         since = subst
             (λ (x : MyTree). IsFurther (at_pin pass.seat.me.0.upper) (at_pin x.0.upper)) (sym is)
@@ -183,6 +184,7 @@ goes_still pass same = let u = pass.seat.me.0.upper in record {
     same_cuts = refl;
   };
   seen = refl;
+  loads = refl;
   further = no_further u;
   since = no_further (at_pin u);
   pinned = λ m x. x;

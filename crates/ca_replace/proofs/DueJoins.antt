@@ -210,8 +210,8 @@ module _ (z : Sizes) (key : Bor (List ℕ)) (placed : ℕ) (k m m' : MyTree) (cu
       let shown = ap (λ (u : TreeView). u.shown) steps.only in let first = ap (λ (x : MyTree). first_note x.0.upper.notes) w.now in (
         renewal_is,
         (
-          (let loads = ap (λ (r : Renewal). r.loads) renewal_is in let at = new.loads_are in let some = w.some in
-              let now : m'.0.upper.shown ≡ k.0.upper.loads + w.loads = shown ∙ ap (λ (x : MyTree). x.0.upper.shown) w.now in omega arith),
+          (let loads = ap (λ (r : Renewal). r.loads) renewal_is in let at = new.loads_are in let some = w.some in let few = w.few in
+              let now : m'.0.upper.shown ≡ k.0.upper.loads + w.loads = shown ∙ ap (λ (x : MyTree). x.0.upper.shown) w.now in (omega arith, omega arith)),
           subst (λ (r : Renewal). HasKey m'.0.upper.last.place.span r.key) (sym renewal_is)
               (subst (λ (n : Note). HasKey n.place.span k.0.upper.renewal.key) (sym last_is)
               (subst (HasKey w.note.place.span) (sym new.key_is) w.sought)),

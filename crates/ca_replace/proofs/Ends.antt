@@ -28,6 +28,7 @@ use Rattle.ca_node.specs.Told.{IsKnown, MyTree}
 use Rattle.ca_node.specs.TreeView.{Note, TreeView, Way}
 use Rattle.ca_node.specs.Walking.{IsHighRoute, IsLowRoute, IsSought, IsWalked, walked}
 use Rattle.ca_range.specs.Snapshots.{IsRemembered}
+use Rattle.ca_replace.specs.Acts.{acts_of}
 use Rattle.ca_replace.proofs.Meeting.{further_on}
 use Rattle.ca_replace.proofs.Showing.{walked_further}
 use Rattle.ca_replace.proofs.States.{state_map}
@@ -149,7 +150,7 @@ walked_learnt z spot m m' cursor w = record {
   further = walked_further z spot m m' cursor w;
   known = w.known;
   since = ap (λ (x : MyTree). x.0.upper.since) w.now;
-  tries = ap (λ (x : MyTree). x.0.upper.tries) w.now;
+  acts = ap (λ (x : MyTree). acts_of x.0.upper) w.now;
 }
 
 pub learnt_both : (z : Sizes) (u w v : TreeView) → HasLearnt z u w → HasLearnt z w v → HasLearnt z u v
@@ -157,7 +158,7 @@ learnt_both z u w v a b = record {
   further = further_on u w v a.further b.further;
   known = b.known;
   since = b.since ∙ a.since;
-  tries = b.tries ∙ a.tries;
+  acts = b.acts ∙ a.acts;
 }
 
 -- Where the base that has the keys right below an upper edge has an object within it, or is the first base, the read of the last object answers by a state since

@@ -244,6 +244,7 @@ pub record HasComeOf (z : Sizes) (a : Adapted) (u v : TreeView) : Type 0 where
   pub renewal : v.renewal ≡ u.renewal
   pub last : v.last ≡ u.last
   pub shown : v.shown ≡ u.shown
+  pub loads : v.loads ≡ u.loads
   pub tried : u.splits ≡ u.renewal.splits → HasTriedOnce z v.last v.renewal.splits v.splits a
   pub joins_are : v.joins ≡ u.joins
   pub further_is : IsFurther u v
@@ -259,6 +260,7 @@ not_split z w u v reason e = ⊎_elim
       renewal = refl;
       last = refl;
       shown = refl;
+      loads = refl;
       tried = λ same. (reason, same);
       joins_are = refl;
       further_is = record { number = refl; seen = starts_whole u.seen; log = refl; counts = refl };
@@ -269,6 +271,7 @@ not_split z w u v reason e = ⊎_elim
       renewal = refl;
       last = refl;
       shown = refl;
+      loads = refl;
       tried = λ same. (reason, same);
       joins_are = refl;
       further_is = record { number = refl; seen = starts_whole u.seen; log = refl; counts = refl };
@@ -312,6 +315,7 @@ come_of z note adapted.Split m m' last h = subst
       renewal = refl;
       last = refl;
       shown = refl;
+      loads = refl;
       tried = λ same. (subst (MayBeSplit z) (sym last) h.0, ap (λ n. n + 1) same);
       joins_are = refl;
       further_is =
@@ -358,15 +362,14 @@ come_turns z note (adapted.NotJoined w) m m' h = absurd h
 pub led_elsewhere : (z : Sizes) (key : Bor (List ℕ)) (placed : ℕ) (m m' : MyTree) (cursor : Cursor)
     → IsNew placed key.now (met_of m) m.0.upper
     → IsWalked z (spot.At key) m cursor m' → cursor.base ≢ placed → (Tried : Type 0)
-    → (m'.0.upper.renewal ≡ m.0.upper.renewal) × HasWalkedThere m'.0.upper adapted.Stay Tried
+    → (m'.0.upper.renewal ≡ m.0.upper.renewal) × HasWalkedThere z m'.0.upper adapted.Stay Tried
 led_elsewhere z key placed m m' cursor new w other Tried = subst
-    (λ (x : MyTree). (x.0.upper.renewal ≡ m.0.upper.renewal) × HasWalkedThere x.0.upper adapted.Stay Tried) (sym w.now) (
+    (λ (x : MyTree). (x.0.upper.renewal ≡ m.0.upper.renewal) × HasWalkedThere z x.0.upper adapted.Stay Tried) (sym w.now) (
       refl,
       (
-        let at = new.loads_are in let some = w.some in
-            omega arith,
+        let at = new.loads_are in let some = w.some in let few = w.few in (omega arith, omega arith),
         subst (HasKey w.note.place.span) (sym new.key_is) w.sought,
-        inl ((λ e. other (sym w.cursor_is.base ∙ (e ∙ sym new.row))), (refl, new.splits_are, new.joins_are)),
+        inl ((λ e. other (sym w.cursor_is.base ∙ (e ∙ sym new.row))), (refl, new.splits_are, new.joins_are), refl),
       ),
     )
 
@@ -387,9 +390,9 @@ led_there z key placed m m' m'' cursor a new w most same h =
         come.renewal ∙ renewed,
         (
           (let same_loads = ap (λ (r : Renewal). r.loads) (come.renewal ∙ renewed) in
-              let at = new.loads_are in let some = w.some in
+              let at = new.loads_are in let some = w.some in let few = w.few in
               let now : m''.0.upper.shown ≡ m.0.upper.loads + w.loads = come.shown
-              ∙ ap (λ (u : TreeView). u.shown) up in omega arith),
+              ∙ ap (λ (u : TreeView). u.shown) up in (omega arith, omega arith)),
           subst (λ (r : Renewal). HasKey m''.0.upper.last.place.span r.key) (sym (come.renewal
               ∙ renewed))
               (subst (λ (n : Note). HasKey n.place.span m.0.upper.renewal.key) (sym (come.last
@@ -404,6 +407,7 @@ led_there z key placed m m' m'' cursor a new w most same h =
                   ∙ (new.splits_are ∙ ap (λ (r : Renewal). r.splits) (sym renewed))),
               come.joins_are ∙ (ap (λ (u : TreeView). u.joins) up
                   ∙ (new.joins_are ∙ ap (λ (r : Renewal). r.joins) (sym (come.renewal ∙ renewed)))),
+              come.loads ∙ (ap (λ (u : TreeView). u.loads) up ∙ sym (come.shown ∙ ap (λ (u : TreeView). u.shown) up)),
             ),
           ),
         ),

@@ -34,6 +34,9 @@ use Rattle.ca_base.specs.Putting.{HasRenewed, HasTried, IsRenewed, first_note, s
 use Rattle.ca_base.specs.Splitting.{IsSplit, HasSplit}
 use Rattle.ca_replace.specs.declared.adapting.Adapting.{Adapting}
 use Rattle.ca_model.specs.declared.outcome.Cause.{Cause}
+use Rattle.ca_model.specs.declared.outcome.Cause.TheVariants as cause
+use Rattle.ca_model.specs.declared.outcome.Outcome.{Outcome}
+use Rattle.ca_replace.specs.Refusals.{outcome_by}
 use Rattle.ca_replace.specs.Adapting.{HasSettled}
 use Rattle.ca_replace.specs.Attempting.{HasNext, IsLooking, IsQuiet, HasTriedSince, HasTriedTo, come_to, refused_as, split_to}
 use Rattle.ca_replace.specs.Growing.{Grows, GrowsInCall, IsSameTree, HasRoom, HasRoomFor, HasGrown, HasWaited, HasGrownInAttempts}
@@ -299,7 +302,7 @@ settled_still z t statistic (Ok x) a b m m' n s = absurd cc
 settled_still z t statistic (Err why) a b m m' n s = ap (λ (x : MyTree). x.0.upper) s.1
 
 -- The pass has its number.
-tried_number : (z : Sizes) (event : Event) (tried : Result (Unit {0}) Stop) (u w : TreeView)
+pub tried_number : (z : Sizes) (event : Event) (tried : Result (Unit {0}) Stop) (u w : TreeView)
     → HasTried event z tried u w → w.number ≡ u.number
 tried_number z event (Ok x) u w h = h.0.number
 tried_number z event (Err why) u w h = ap (λ (x : TreeView). x.number) (h ∙ stopped_same why u)
@@ -412,7 +415,7 @@ module _ (z : Sizes) (adds : Option (List ℕ)) (u w v : TreeView) (before : Has
   none_before : IsSameTree u w → ¬ HasRoomFor z adds w → ¬ HasRoomFor z adds u
   none_before same none room = none (room_stays z adds u w as_much same.1 room)
 
-  done : Grows 1 3 1 w v ⊎ (Grows 2 5 2 w v × ¬ HasRoomFor z adds w) → Grows 1 3 1 u v
+  pub done : Grows 1 3 1 w v ⊎ (Grows 2 5 2 w v × ¬ HasRoomFor z adds w) → Grows 1 3 1 u v
       ⊎ (Grows 2 5 2 u v × ¬ HasRoomFor z adds u)
   done h = ⊎_elim
       (λ (same : IsSameTree u w). ⊎_elim
@@ -426,7 +429,7 @@ module _ (z : Sizes) (adds : Option (List ℕ)) (u w v : TreeView) (before : Has
       h)
       before
 
-  waits : v.seen ≡ w.seen → HasWaited z adds w v → HasWaited z adds u v
+  pub waits : v.seen ≡ w.seen → HasWaited z adds w v → HasWaited z adds u v
   waits seen h = ⊎_elim
       (λ (same : IsSameTree u w). ⊎_elim
       (λ (s : IsSameTree w v). inl (same_both u w v same s))
@@ -566,46 +569,30 @@ grown_refused {T} z adds tried r spent levels u w v same is h = subst
     by (Ok x) h = h
     by (Err why) h = h
 
--- By how much a call grew the tree.
-pub done_grows : (z : Sizes) (adds : Option (List ℕ)) (u v : TreeView) → Grows 1 3 1 u v
-    ⊎ (Grows 2 5 2 u v × ¬ HasRoomFor z adds u) → GrowsInCall adds u v
-done_grows z None u v (inl g) = g
-done_grows z None u v (inr t) = absurd (t.1 tt)
-done_grows z (Some k) u v (inl g) =
-    grows_within 1 3 1 2 5 2 u v (omega arith) (omega arith) (omega arith) g
-done_grows z (Some k) u v (inr t) = t.0
-
-waited_grows : (z : Sizes) (adds : Option (List ℕ)) (u v : TreeView) → HasWaited z adds u v
-    → GrowsInCall adds u v
-waited_grows z None u v (inl same) = same_grows 1 3 1 u v same
-waited_grows z None u v (inr t) = absurd (t.2 tt)
-waited_grows z (Some k) u v (inl same) = same_grows 2 5 2 u v same
-waited_grows z (Some k) u v (inr t) =
-    grows_within 1 2 1 2 5 2 u v (omega arith) (omega arith) (omega arith) t.0
-
 -- One that is refused is counted then.
-pub refused_grows : (z : Sizes) (adds : Option (List ℕ)) (counts : Counts) (u : TreeView)
-    (m m' : MyTree) → HasWaited z adds u m.0.upper
-    → m' ≡ with_upper m (record m.0.upper { counts = counts }) → GrowsInCall adds u m'.0.upper
-refused_grows z adds counts u m m' h is = subst
-    (λ (x : MyTree). GrowsInCall adds u x.0.upper) (sym is)
-    (by adds (waited_grows z adds u m.0.upper h))
+pub refused_grows : {T : Type 0} (z : Sizes) (adds : Option (List ℕ)) (counts : Counts) (why : Cause)
+    (o : Outcome T) (u : TreeView) (m m' : MyTree) → o ≡ outcome_by why → HasWaited z adds u m.0.upper
+    → m' ≡ with_upper m (record m.0.upper { counts = counts }) → GrowsInCall z adds o u m'.0.upper
+refused_grows {T} z adds counts why o u m m' is h now = subst
+    (λ (x : Outcome T). GrowsInCall z adds x u m'.0.upper) (sym is)
+    (subst (λ (x : MyTree). GrowsInCall {T = T} z adds (outcome_by why) u x.0.upper) (sym now) (by why))
   where
-    by : (adds : Option (List ℕ)) → GrowsInCall adds u m.0.upper
-        → GrowsInCall adds u (record m.0.upper { counts = counts })
-    by None g =
-        record {
-          splits_are =
-              g.splits_are;
-          rows_are = g.rows_are;
-          bases_are = g.bases_are;
-          most_are = g.most_are;
-        }
-    by (Some k) g =
-        record {
-          splits_are =
-              g.splits_are;
-          rows_are = g.rows_are;
-          bases_are = g.bases_are;
-          most_are = g.most_are;
-        }
+    waited : HasWaited z adds u (record m.0.upper { counts = counts })
+    waited = ⊎_elim (λ (same : IsSameTree u m.0.upper). inl (same.0, same.1))
+        (λ (t : Grows 1 2 1 u m.0.upper × HasRoomFor z adds m.0.upper × ¬ HasRoomFor z adds u). inr (
+          record {
+            splits_are = t.0.splits_are;
+            rows_are = t.0.rows_are;
+            bases_are = t.0.bases_are;
+            most_are = t.0.most_are;
+          },
+          room_stays z adds m.0.upper (record m.0.upper { counts = counts }) refl refl t.1,
+          t.2,
+        ))
+        h
+
+    by : (why : Cause) → GrowsInCall {T = T} z adds (outcome_by why) u (record m.0.upper { counts = counts })
+    by (cause.Busy spent) = waited
+    by (cause.Full full) = waited
+    by (cause.Deep level) = waited
+    by (cause.Worn counter) = waited

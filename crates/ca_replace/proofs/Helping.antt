@@ -24,6 +24,7 @@ use Rattle.ca_replace.specs.Turning.{HasEdited, course_helped, helped_to, noted_
 use Rattle.ca_rows.specs.declared.sizes.Sizes.{Sizes}
 use Rattle.ca_rows.specs.declared.space.Pass.{Pass}
 use Rattle.ca_rows.specs.declared.space.Space.{Space}
+use Rattle.ca_replace.proofs.Loads.{loads_by_help}
 
 -- What holds, holds where there is a value.
 pub on_ok_too : {T E P : Type 0} (r : Result T E) → P → OnOk r P
@@ -131,6 +132,7 @@ module _ {R : Type 0} (space : Space R TreeView) (t : Tuning) (tells : Event →
       );
       counted = paid_help a.spent spent pass.seat.me new.seat.me h.counted;
       found = halted_by how pass.seat.me new.seat.me h.gone;
+      loads = loads_by_help space how spent pass new h;
       grown = λ alone. absurd (not_alone alone);
       won = λ alone. absurd (not_alone alone);
       cut = cut_by (λ (_ : Unit {0}). true) space.table.shared.key adds how u v (ap (λ (x : TreeView). x.cuts) h.steps.only);

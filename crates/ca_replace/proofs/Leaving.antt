@@ -11,6 +11,7 @@ use Rattle.ca_model.specs.declared.outcome.Outcome.{Outcome}
 use Rattle.ca_model.specs.declared.outcome.Outcome.TheVariants as outcome
 use Rattle.ca_node.specs.Told.{MyTree}
 use Rattle.ca_node.specs.TreeView.{TreeView, unpinned}
+use Rattle.ca_replace.specs.Acts.{acts_of}
 use Rattle.ca_replace.specs.Attempting.{HasDoneSuch}
 use Rattle.ca_replace.specs.Bounded.{IsBounded, looked_in, pinned_in, spent_in}
 use Rattle.ca_replace.specs.Causes.{EndsAtLag, IfCaused, IsUnspent, KeepsFew, WasUnspent}
@@ -67,12 +68,12 @@ module _ {T : Type 0} (k m m' : MyTree) (kept kept' : Vec Kept Global) where
   caused_behind C (outcome.Deep s) a h = subst (λ (x : MyTree × Vec Kept Global). C (cause.Deep s) x.0 x.1) (λ i. (sym a.known i, sym a.list i)) h
   caused_behind C (outcome.Worn s) a h = subst (λ (x : MyTree × Vec Kept Global). C (cause.Worn s) x.0 x.1) (λ i. (sym a.known i, sym a.list i)) h
 
-  pub untried_behind : (o : Outcome T) → Left o → Alone o → m.0.upper.tries ≡ k.0.upper.tries → m'.0.upper.tries ≡ k.0.upper.tries
-  untried_behind (outcome.Done x) l a same = ap (λ (u : TreeView). u.tries) l.upper ∙ same
-  untried_behind (outcome.Busy s) l a same = ap (λ (x : MyTree). x.0.upper.tries) a.known ∙ same
-  untried_behind (outcome.Full s) l a same = ap (λ (x : MyTree). x.0.upper.tries) a.known ∙ same
-  untried_behind (outcome.Deep s) l a same = ap (λ (x : MyTree). x.0.upper.tries) a.known ∙ same
-  untried_behind (outcome.Worn s) l a same = ap (λ (x : MyTree). x.0.upper.tries) a.known ∙ same
+  pub acts_behind : (o : Outcome T) → Left o → Alone o → acts_of m.0.upper ≡ acts_of k.0.upper → acts_of m'.0.upper ≡ acts_of k.0.upper
+  acts_behind (outcome.Done x) l a same = ap acts_of l.upper ∙ same
+  acts_behind (outcome.Busy s) l a same = ap (λ (x : MyTree). acts_of x.0.upper) a.known ∙ same
+  acts_behind (outcome.Full s) l a same = ap (λ (x : MyTree). acts_of x.0.upper) a.known ∙ same
+  acts_behind (outcome.Deep s) l a same = ap (λ (x : MyTree). acts_of x.0.upper) a.known ∙ same
+  acts_behind (outcome.Worn s) l a same = ap (λ (x : MyTree). acts_of x.0.upper) a.known ∙ same
 
   pub few_behind : (o : Outcome T) → Left o → Alone o → IfDone o (λ _. k.0.pin.looks ≤ m.0.pin.looks)
       → IfRefused o (λ _. KeepsFew k m kept) → KeepsFew k m' kept'

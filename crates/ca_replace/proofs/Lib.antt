@@ -18,6 +18,8 @@ pub mod Helping
 pub mod JoinHelps
 pub mod LastRuns
 pub mod Leaving
+pub mod Levels
+pub mod Loads
 pub mod LooksLeft
 pub mod Marking
 pub mod Meeting
@@ -31,6 +33,7 @@ pub mod Opening
 pub mod Pacing
 pub mod Pasts
 pub mod Pinning
+pub mod ReadLoads
 pub mod Ready
 pub mod Reclaiming
 pub mod RunLines

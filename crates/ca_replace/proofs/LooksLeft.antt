@@ -25,6 +25,7 @@ use Rattle.ca_range.specs.Reaching.{IsKeyShown}
 use Rattle.ca_range.specs.Staying.{OnlySteps}
 use Rattle.ca_range.proofs.FirstBases.{gone_to, readable_of}
 use Rattle.ca_range.proofs.Stepping.{known_same, none_more, steps_both, steps_by_walk, steps_none}
+use Rattle.ca_replace.specs.Acts.{acts_of}
 use Rattle.ca_replace.specs.Aside.{HasGoneLeft, HasLookedAside, HasLookedLeft, IsLeftEnd, MayGoLeft}
 use Rattle.ca_replace.specs.Attempting.{helps, passes}
 use Rattle.ca_replace.specs.Ranging.{IsAtWork}
@@ -258,7 +259,7 @@ module _ (z : Sizes) (a b : Spent) (m m' : MyTree) (h : HasLookedLeft z a b m m'
     };
     known = s.known known;
     since = ap (λ (u : TreeView). u.since) s.only;
-    tries = ap (λ (u : TreeView). u.tries) s.only;
+    acts = ap acts_of s.only;
   }
 
   pub left_met : HasMet 0 0 m m'

@@ -44,6 +44,7 @@ looking_still z key cursor u ranges l = record {
     by_passes = l.known.by_passes;
   };
   listed = l.listed;
+  shallow = l.shallow;
   begins = record { least = l.begins.least; is_link = l.begins.is_link; placed = l.begins.placed };
 }
 

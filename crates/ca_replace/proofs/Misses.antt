@@ -15,6 +15,7 @@ use Rattle.ca_model.specs.declared.outcome.Outcome.{Outcome}
 use Rattle.ca_model.specs.declared.outcome.Spent.{Spent}
 use Rattle.ca_node.specs.Told.{IsKnown, MyTree, with_upper}
 use Rattle.ca_node.specs.TreeView.{Note, TreeView, unpinned}
+use Rattle.ca_replace.specs.Acts.{acts_of}
 use Rattle.ca_replace.specs.declared.missing.Miss.{Miss}
 use Rattle.ca_replace.specs.declared.missing.Miss.TheVariants as miss
 use Rattle.ca_replace.specs.Attempting.{helps, passes, total, IsPaid}
@@ -90,14 +91,14 @@ paid_left a b k m n is paid = let w = m.0.upper in
 
 -- What was tried after others that came to nothing.
 pub ranged_on : {T : Type 0} (tells : T → TreeView → Event → Type 0) (z : Sizes) (r : Result T Miss)
-    (u w v : TreeView) → IsFurther u w → w.tries ≡ u.tries → HasRangedTo tells z r w v → HasRangedTo tells z r u v
+    (u w v : TreeView) → IsFurther u w → acts_of w ≡ acts_of u → HasRangedTo tells z r w v → HasRangedTo tells z r u v
 ranged_on tells z (Ok x) u w v f same h = ((h.0.0, h.0.1, done_on u w v h.0.0 f h.0.2), h.1, h.2 ∙ same)
 ranged_on tells z (Err why) u w v f same h = (further_on u w v f h.0, h.1, h.2 ∙ same)
 
 -- The pass unpinned behind an attempt that came to nothing.
-pub missed_further : (z : Sizes) (u v w : TreeView) → w ≡ unpinned v → IsFurther u v × IsKnown z v × (v.tries ≡ u.tries)
-    → IsFurther u w × IsKnown z w × (w.tries ≡ u.tries)
-missed_further z u v w same h = subst (λ (y : TreeView). IsFurther u y × IsKnown z y × (y.tries ≡ u.tries)) (sym same) (
+pub missed_further : (z : Sizes) (u v w : TreeView) → w ≡ unpinned v → IsFurther u v × IsKnown z v × (acts_of v ≡ acts_of u)
+    → IsFurther u w × IsKnown z w × (acts_of w ≡ acts_of u)
+missed_further z u v w same h = subst (λ (y : TreeView). IsFurther u y × IsKnown z y × (acts_of y ≡ acts_of u)) (sym same) (
   record { number = h.0.number; seen = h.0.seen; log = h.0.log; counts = h.0.counts },
   known_unpinned z v h.1,
   h.2,

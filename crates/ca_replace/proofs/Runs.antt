@@ -23,6 +23,7 @@ use Rattle.ca_range.specs.Edged.{EndsBefore}
 use Rattle.ca_range.specs.Snapshots.{HasRun, IsRemembered, bases_of}
 use Rattle.ca_range.specs.declared.sought.Run.{Run}
 use Rattle.ca_range.specs.declared.sought.Sought.{Sought}
+use Rattle.ca_replace.specs.Acts.{acts_of}
 use Rattle.ca_replace.specs.Running.{all_of}
 use Rattle.ca_replace.specs.Within.{FindsAbove, FindsBelow, HasLearnt, above_event, below_event, cut_of, range_event}
 use Rattle.ca_replace.proofs.Entries.{held_upper, read_by}
@@ -229,9 +230,9 @@ learnt_unanswered z u v first known l = subst (λ (x : History × List Entry). A
 
 -- A call that was entered in the log behind that is done.
 pub learnt_done : (z : Sizes) (u : TreeView) (m m' : MyTree) (event : Event) → IsAtPin u → HasLearnt z u m.0.upper
-    → IsEntered event m m' → HasDone event u m'.0.upper × IsKnown z m'.0.upper × (m'.0.upper.tries ≡ u.tries)
+    → IsEntered event m m' → HasDone event u m'.0.upper × IsKnown z m'.0.upper × (acts_of m'.0.upper ≡ acts_of u)
 learnt_done z u m m' event first l e = let d = entered_done z u m m' event l.further l.known (seen_before u m.0.upper first l.since) e in
-    (d.0, d.1, ap (λ (x : MyTree). x.0.upper.tries) e.now ∙ l.tries)
+    (d.0, d.1, ap (λ (x : MyTree). acts_of x.0.upper) e.now ∙ l.acts)
 
 -- So a call found an object, or none.
 pub finds_above : (lo : Bound) (found : Bool) (object : List ℕ) → (found ≡ false → object ≡ [])

@@ -73,6 +73,7 @@ looking z key m m' cursor w most =
       has = has;
       known = known;
       listed = w.listed;
+      shallow = w.shallow;
       begins = subst (λ (v : TreeView). IsBegin z v w.note.place.span cursor) here w.begins;
     }
 
@@ -296,6 +297,7 @@ full_there z u v cursor key (Err at) many l same level p no_room is =
       ),
       λ alone. (
         subst (λ (n : Note). IsListed u.inventory n) (sym l.last) (l.listed alone),
+        subst (λ (n : Note). n.place.level ≤ u.splits) (sym l.last) (l.shallow alone),
         subst (λ (x : Note × StoreMap). IsFull z (Some key) x.0 x.1) (λ i. (
           sym l.last i,
           (ap (λ (n : ℕ). state u.seen n) (l.has.last alone) ∙ last_state u.seen) i,

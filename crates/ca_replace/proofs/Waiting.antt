@@ -1,5 +1,5 @@
 -- A call's attempts of which none did it so far, and the last one.
-use Rattle.std.proofs.Common.{◌≡◌, ℕ, Bool, false, List, [], Option, Result, Ok, Err, sym, refl, ap, ◌∙◌, subst, inl, arith}
+use Rattle.std.proofs.Common.{◌≡◌, ℕ, Bool, false, List, [], Option, Result, Ok, Err, sym, refl, ap, ◌∙◌, subst, inl, arith, ◌+◌}
 use Rattle.ca_adapt.specs.declared.tuning.Tuning.{Tuning}
 use Rattle.ca_base.specs.declared.stop.Stop.TheVariants as stop
 use Rattle.ca_base.specs.Counting.{HasMet, losses}
@@ -33,12 +33,17 @@ use Rattle.ca_rows.specs.declared.sizes.Sizes.{Sizes}
 use Rattle.ca_rows.specs.declared.view.Met.{Met}
 use Rattle.ca_rows.specs.declared.view.Pin.{Pin}
 use Rattle.ca_rows.specs.Told.{met_of}
+use Rattle.ca_range.specs.Loading.{help_loads}
+use Rattle.ca_replace.specs.Loading.{LoadsFew, loads_until, most_loads, unpaid}
+use Rattle.ca_replace.proofs.Loads.{loads_more, loads_quiet, loads_unpinned}
+use Rattle.ca_replace.proofs.Pacing.{paid_more, turn_more}
 
 -- From one of these moments to the other a call made attempts of which none did it.
 pub record IsWaiting (z : Sizes) (adds : Option (List ℕ)) (a b : Course) (k m : MyTree) : Type 0 where
   pub further : IsFurther k.0.upper m.0.upper
   pub counted : IsPaid a.spent b.spent k m
   pub met : HasMet 0 0 k m
+  pub loads : LoadsFew (most_loads z) 0 m.0.upper.loads k m
   pub waits : Waits a.adapting b.adapting k.0.upper m.0.upper
   pub won : IsAlone z k.0.upper → m.0.upper.lost ≡ k.0.upper.lost
   pub waited : IsAlone z k.0.upper → HasWaited z adds k.0.upper m.0.upper
@@ -77,12 +82,13 @@ moved_further m m' pin since notes ways ranges is = subst
 -- No attempt was made.
 pub waits_none : (z : Sizes) (adds : Option (List ℕ)) (a b : Course) (k m : MyTree)
     → (b.adapting ≡ a.adapting) × (b.spent ≡ a.spent) → IsQuiet k m
-    → m.0.upper.seen ≡ k.0.upper.seen → IsFurther k.0.upper m.0.upper → IsWaiting z adds a b k m
-waits_none z adds a b k m course q seen f = record {
+    → m.0.upper.seen ≡ k.0.upper.seen → m.0.upper.loads ≡ k.0.upper.loads → IsFurther k.0.upper m.0.upper → IsWaiting z adds a b k m
+waits_none z adds a b k m course q seen loads f = record {
   further = f;
   counted = subst (λ (s : Spent). IsPaid a.spent s k m) (sym course.1)
       (none_paid a.spent k m q.lost q.same_turns);
   met = q.met;
+  loads = omega arith;
   waits = subst (λ (c : Adapting). Waits a.adapting c k.0.upper m.0.upper) (sym course.0)
       (idle_waits a.adapting k.0.upper m.0.upper q.idle);
   won = λ _. q.idle.1;
@@ -93,12 +99,13 @@ waits_none z adds a b k m course q seen f = record {
 -- None was made behind others.
 pub waits_quiet : (z : Sizes) (adds : Option (List ℕ)) (a b c : Course) (k m n : MyTree)
     → (c.adapting ≡ b.adapting) × (c.spent ≡ b.spent) → IsWaiting z adds a b k m → IsQuiet m n
-    → n.0.upper.seen ≡ m.0.upper.seen → IsFurther m.0.upper n.0.upper → IsWaiting z adds a c k n
-waits_quiet z adds a b c k m n course x q seen f = let y = waits_none z adds b c m n course q seen f in
+    → n.0.upper.seen ≡ m.0.upper.seen → n.0.upper.loads ≡ m.0.upper.loads → IsFurther m.0.upper n.0.upper → IsWaiting z adds a c k n
+waits_quiet z adds a b c k m n course x q seen loads f = let y = waits_none z adds b c m n course q seen loads f in
     let u = k.0.upper in let w = m.0.upper in let v = n.0.upper in record {
       further = further_on u w v x.further f;
       counted = paid_both a.spent b.spent c.spent k m n x.counted y.counted;
       met = met_both 0 0 0 0 k m n x.met y.met;
+      loads = loads_quiet z k m n q.lost q.same_turns loads x.loads;
       waits = waits_on a.adapting b.adapting c.adapting u w v x.waits y.waits;
       won = λ alone. q.idle.1 ∙ x.won alone;
       waited = λ alone. waited_on z adds u w v (x.waited alone) seen
@@ -112,7 +119,7 @@ module _ {T : Type 0} (tells : T → Event → Type 0) (edits : T → Bool) (z :
     (k m n : MyTree) (known : IsKnown z k.0.upper) (now : IsKnown z m.0.upper)
     (x : IsWaiting z adds a b k m)
     (tried : HasTriedSince tells z r m.0.upper n.0.upper)
-    (i : IsTurn edits adds z t b c met r m n) where
+    (i : IsTurn edits adds z t (z.levels + 1) b c met r m n) where
   abbrev u : TreeView
   u = k.0.upper
 
@@ -128,6 +135,8 @@ module _ {T : Type 0} (tells : T → Event → Type 0) (edits : T → Bool) (z :
     further = further_on u w v x.further (turn_further tells z r w v next tried);
     counted = paid_both a.spent b.spent c.spent k m n x.counted (paid_turn r b.spent c.spent m n next i.counted);
     met = met_both 0 0 0 0 k m n x.met (met_turn r m n next i.found).0;
+    loads = loads_more edits z r k m n next (paid_more a.spent b.spent k m x.counted)
+        (turn_more b.spent c.spent m n (paid_turn r b.spent c.spent m n next i.counted) (met_turn r m n next i.found).1) x.loads i.loads;
     waits = waits_on a.adapting b.adapting c.adapting u w v x.waits
         (turn_waits edits z t b.adapting c.adapting r w v next i.gone_on);
     won = λ alone. turn_won edits r u v next (won_behind edits r u w v (x.won alone)
@@ -157,9 +166,9 @@ stopped_left (Ok x) k m n lost met passed help h = tt
 stopped_left (Err why) k m n lost met passed help h = halted_left why k m n lost met passed help h
 
 -- The pass unpinned behind an attempt.
-pub turn_unpinned : {T : Type 0} (edits : T → Bool) (z : Sizes) (adds : Option (List ℕ))
+pub turn_unpinned : {T : Type 0} {links : ℕ} (edits : T → Bool) (z : Sizes) (adds : Option (List ℕ))
     (t : Tuning) (a b : Course) (r : Result T Halt) (k m n : MyTree)
-    → IsTurn edits adds z t a b (met_of m) r k m
+    → IsTurn edits adds z t links a b (met_of m) r k m
     → n ≡ (
       record m.0 {
         pin =
@@ -172,8 +181,8 @@ pub turn_unpinned : {T : Type 0} (edits : T → Bool) (z : Sizes) (adds : Option
       },
       m.1,
     )
-    → IsTurn edits adds z t a b n.0.pin.left r k n
-turn_unpinned edits z adds t a b r k m n i is = let u = k.0.upper in let w = m.0.upper in
+    → IsTurn edits adds z t links a b n.0.pin.left r k n
+turn_unpinned {T} {links} edits z adds t a b r k m n i is = let u = k.0.upper in let w = m.0.upper in
     let v = n.0.upper in let same = ap (λ (x : MyTree). x.0.upper) is in
     let q = moved_quiet m n _ w.since [] [] (unpinned w).ranges is in record {
       met_as = subst (λ (x : MyTree).
@@ -182,6 +191,8 @@ turn_unpinned edits z adds t a b r k m n i is = let u = k.0.upper in let w = m.0
       counted = paid_after r a.spent b.spent b.spent k m n i.counted
           (none_paid b.spent m n q.lost q.same_turns);
       found = stopped_left r k m n q.lost q.met (ap passes is) (ap helps is) i.found;
+      loads = subst (λ (x : MyTree). LoadsFew (help_loads z) (links + unpaid z r) (loads_until edits r x.0.upper) k x) (sym is)
+          (loads_unpinned edits z links r k m i.loads);
       grown = λ alone. grown_unpinned z adds r u w v same (i.grown alone);
       won = λ alone. won_unpinned edits r u w v same (i.won alone);
       cut = cut_unpinned edits z adds r u w v same i.cut;
@@ -191,7 +202,7 @@ turn_unpinned edits z adds t a b r k m n i is = let u = k.0.upper in let w = m.0
 pub turns_left : {T : Type 0} (tells : T → Event → Type 0) (edits : T → Bool) (z : Sizes)
     (adds : Option (List ℕ)) (t : Tuning) (a b c : Course) (r : Result T Halt)
     (k m n p : MyTree) → IsKnown z k.0.upper → IsKnown z m.0.upper → IsWaiting z adds a b k m
-    → HasTriedSince tells z r m.0.upper n.0.upper → IsTurn edits adds z t b c (met_of n) r m n
+    → HasTriedSince tells z r m.0.upper n.0.upper → IsTurn edits adds z t (z.levels + 1) b c (met_of n) r m n
     → p ≡ (
       record n.0 {
         pin =

@@ -96,18 +96,22 @@ abbrev pub HasTriedToJoin : Sizes → TreeView → Adapted → Type 0
 HasTriedToJoin z v a = (link : Link) × (m : MyTree) × (m' : MyTree) × (v.last.place.link ≡ link_word link) × IsKnownThere z m v × IsKnownNow m' v
     × IsJoinOutcome z link v.last a m m' × (v.splits ≡ v.renewal.splits)
 
--- The pass walked to the key of its last update anew: the base that it was shown last was shown since, by a link, and has the key. Where it is another
--- one than the new one, nothing was tried; where it is that one, this was.
-abbrev pub HasWalkedThere : TreeView → Adapted → Type 0 → Type 0
-HasWalkedThere v a Tried = (v.renewal.loads < v.shown) × HasKey v.last.place.span v.renewal.key × (((v.last.row ≢ v.renewal.new.row) × IsLeft v a)
-    ⊎ ((v.last.row ≡ v.renewal.new.row) × Tried))
+-- The base that was shown last was shown since the last update, by a link; until then no more links were loaded than one walk loads at most.
+abbrev pub IsShownByOne : Sizes → TreeView → Type 0
+IsShownByOne z v = (v.renewal.loads < v.shown) × (v.shown ≤ v.renewal.loads + (z.levels + 1))
 
--- It was tried once to split it, and none was joined; or it was tried once to join it, and none was split.
+-- The pass walked to the key of its last update anew, by one walk: the base that it came to has the key. Where that is another one than the new one, nothing
+-- was tried, and no link loaded behind the walk; where it is that one, this was tried.
+abbrev pub HasWalkedThere : Sizes → TreeView → Adapted → Type 0 → Type 0
+HasWalkedThere z v a Tried = IsShownByOne z v × HasKey v.last.place.span v.renewal.key
+    × (((v.last.row ≢ v.renewal.new.row) × IsLeft v a × (v.loads ≡ v.shown)) ⊎ ((v.last.row ≡ v.renewal.new.row) × Tried))
+
+-- It was tried once to split it, with no link loaded, and none was joined; or it was tried once to join it, and none was split.
 abbrev pub HasTriedThere : Sizes → TreeView → Adapted → Type 0
-HasTriedThere z v a = HasWalkedThere v a (HasTriedOnce z v.last v.renewal.splits v.splits a × (v.joins ≡ v.renewal.joins))
+HasTriedThere z v a = HasWalkedThere z v a (HasTriedOnce z v.last v.renewal.splits v.splits a × (v.joins ≡ v.renewal.joins) × (v.loads ≡ v.shown))
 
 abbrev pub HasJoinedThere : Sizes → TreeView → Adapted → Type 0
-HasJoinedThere z v a = HasWalkedThere v a (HasTriedToJoin z v a)
+HasJoinedThere z v a = HasWalkedThere z v a (HasTriedToJoin z v a)
 
 -- Nothing was tried: no link was loaded since.
 abbrev pub HasTriedNothing : TreeView → Adapted → Type 0

@@ -22,10 +22,10 @@ pub record HasNoRoom (z : Sizes) (key : List ℕ) (history : History) (i : Inven
   pub at_last : z.levels ≤ place.level
   pub full : z.leaf ≤ length (part place.span (after history []))
 
--- It had none for the key that a call may add, if any, as the call began.
+-- It had none for the key that a call may add, if any, as the call began. By then the pass had carried out as many splits as there are levels, or more.
 abbrev pub HadNoRoom : Sizes → Option (List ℕ) → TreeView → Type 0
 HadNoRoom z None u = ⊥
-HadNoRoom z (Some key) u = HasNoRoom z key u.seen u.inventory
+HadNoRoom z (Some key) u = HasNoRoom z key u.seen u.inventory × (z.levels ≤ u.splits)
 
 -- A call of such a pass that may add this key, if any, is refused so only by what it knew as the call began, but for what it met of the pool: where there was no
 -- free row its last attempt had begun with no row kept, and no pass lagged.

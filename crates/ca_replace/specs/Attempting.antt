@@ -39,6 +39,7 @@ pub record IsLooking (z : Sizes) (u : TreeView) (key : List ℕ) (cursor : Curso
   pub has : HasState z u (first_note u.notes)
   pub known : IsKnown z u
   pub listed : IsAlone z u → IsListed u.inventory (first_note u.notes)
+  pub shallow : IsAlone z u → (first_note u.notes).place.level ≤ u.splits
   -- Another walk to such a key may begin with the cursor's link.
   pub begins : IsBegin z u (first_note u.notes).place.span cursor
 

@@ -24,7 +24,7 @@ module _ {R : Type 0} where
     pub begins : BeginsAt space.table.shared.key key pass.seat.me.0.upper again
     pub tallied : IsTallied pass.tally pass.seat.me.0.upper
 
-  -- It is the same pass, which met nothing and has seen as much; where it isn't pinned as it was, it pinned.
+  -- It is the same pass, which met nothing, loaded no link and has seen as much; where it isn't pinned as it was, it pinned.
   pub record GoesOn (pass new : Pass R TreeView) : Type 0 where
     pub same : IsSame pass.seat new.seat
     pub number : new.number ≡ pass.number
@@ -32,6 +32,7 @@ module _ {R : Type 0} where
     pub pin_number : new.seat.me.0.pin.number ≡ pass.seat.me.0.pin.number
     pub quiet : IsQuiet pass.seat.me new.seat.me
     pub seen : new.seat.me.0.upper.seen ≡ pass.seat.me.0.upper.seen
+    pub loads : new.seat.me.0.upper.loads ≡ pass.seat.me.0.upper.loads
     pub further : IsFurther pass.seat.me.0.upper new.seat.me.0.upper
     pub since : IsFurther (at_pin pass.seat.me.0.upper) (at_pin new.seat.me.0.upper)
     pub pinned : (m : MyTree) → HasPinned m pass.seat.me → HasPinned m new.seat.me

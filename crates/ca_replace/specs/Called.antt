@@ -10,6 +10,7 @@ use Rattle.ca_replace.specs.Cutting.{HasCutInCall}
 use Rattle.ca_replace.specs.Growing.{GrowsInCall}
 use Rattle.ca_replace.specs.Resting.{StoreView}
 use Rattle.ca_replace.specs.Winning.{HasWonInCall}
+use Rattle.ca_replace.specs.Loading.{LoadsInCall}
 
 -- It is a store of the same pass, on the same tree.
 pub record StaysStore (s t : StoreView) : Type 0 where
@@ -27,11 +28,13 @@ pub record HasTold {T : Type 0} (edits : T → Bool) (adds : Option (List ℕ)) 
   pub sparing : IsSparing s t
   -- how often it pinned, and how often it looked at the others
   pub bounded : IsBounded (vec_len s.kept) s.seat.me t.seat.me
+  -- how many links it loaded
+  pub loads : LoadsInCall edits s.z o s.seat.me t.seat.me
   -- the statistic of its update's new base, and what was due by it: a split that came to nothing has its cause since the update
   pub adapted : LeavesInCall edits s.z s.tuning s.last t.last o s.seat.me.0.upper t.seat.me.0.upper
   pub met_as : IsCauseMetInCall edits t.last o t.seat.me
   -- by how much the tree of a pass that is alone grew, and that it lost no exchange of a link
-  pub grows : s.z.passes ≡ 1 → GrowsInCall adds s.seat.me.0.upper t.seat.me.0.upper
+  pub grows : s.z.passes ≡ 1 → GrowsInCall s.z adds o s.seat.me.0.upper t.seat.me.0.upper
   pub wins : s.z.passes ≡ 1 → HasWonInCall edits o s.seat.me.0.upper t.seat.me.0.upper
   -- which bases it split, and how
   pub cut : HasCutInCall edits s.z adds o s.seat.me.0.upper t.seat.me.0.upper

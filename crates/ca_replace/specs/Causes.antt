@@ -72,11 +72,11 @@ IsFull z None base map = ⊥
 IsFull z (Some key) base map = IsFound map key None × HasKey base.place.span key × (z.levels ≤ base.place.level)
     × (z.leaf ≤ length (part base.place.span map))
 
--- So it is by a state since the last pin, and the base that was shown last. Where the pass is alone that is a base of the tree, and so it is by the last
--- state.
+-- So it is by a state since the last pin, and the base that was shown last. Where the pass is alone that is a base of the tree, at a level no greater than the
+-- number of splits that the pass carried out, and so it is by the last state.
 abbrev pub IsFullSince : Sizes → Option (List ℕ) → TreeView → Type 0
 IsFullSince z adds u = OfSomeState u (λ map. IsFull z adds u.last map)
-    × (IsAlone z u → IsListed u.inventory u.last × IsFull z adds u.last (after u.seen []))
+    × (IsAlone z u → IsListed u.inventory u.last × (u.last.place.level ≤ u.splits) × IsFull z adds u.last (after u.seen []))
 
 -- A call with this budget that may add this key, if any, may be refused so, given what its pass knew and kept before it and what it knows and keeps behind it.
 abbrev pub IsCaused : Sizes → ℕ → ℕ → Option (List ℕ) → Cause → MyTree → Vec Kept Global → MyTree → Vec Kept Global → Type 0

@@ -4,6 +4,8 @@ use Rattle.std.specs.declared.option.Option.{Option}
 use Rattle.std.specs.declared.option.Option.TheVariants.{None, Some}
 use Rattle.ca_replace.specs.declared.attempting.Halt.{Halt}
 use Rattle.ca_replace.specs.declared.attempting.Halt.TheVariants as halt
+use Rattle.ca_model.specs.declared.outcome.Outcome.{Outcome}
+use Rattle.ca_model.specs.declared.outcome.Outcome.TheVariants as outcome
 use Rattle.ca_model.specs.History.{after}
 use Rattle.ca_node.specs.Links.{IsIn}
 use Rattle.ca_node.specs.Place.{Place, HasKey, part}
@@ -54,7 +56,11 @@ abbrev pub HasGrownInAttempts : {T E : Type 0} → Sizes → Option (List ℕ) �
 HasGrownInAttempts z adds (Ok x) u v = Grows 1 3 1 u v ⊎ (Grows 2 5 2 u v × ¬ HasRoomFor z adds u)
 HasGrownInAttempts z adds (Err why) u v = HasWaited z adds u v
 
--- A call: two splits at most where it may add a key, and else one.
-abbrev pub GrowsInCall : Option (List ℕ) → TreeView → TreeView → Type 0
-GrowsInCall None u v = Grows 1 3 1 u v
-GrowsInCall (Some key) u v = Grows 2 5 2 u v
+-- A call, by its outcome: one that was done split two bases only where there had been no room for the key that it may add; one that was refused split no base,
+-- or one that had no room for it.
+abbrev pub GrowsInCall : {T : Type 0} → Sizes → Option (List ℕ) → Outcome T → TreeView → TreeView → Type 0
+GrowsInCall z adds (outcome.Done x) u v = Grows 1 3 1 u v ⊎ (Grows 2 5 2 u v × ¬ HasRoomFor z adds u)
+GrowsInCall z adds (outcome.Busy spent) u v = HasWaited z adds u v
+GrowsInCall z adds (outcome.Full full) u v = HasWaited z adds u v
+GrowsInCall z adds (outcome.Deep level) u v = HasWaited z adds u v
+GrowsInCall z adds (outcome.Worn counter) u v = HasWaited z adds u v

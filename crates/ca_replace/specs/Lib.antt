@@ -1,3 +1,4 @@
+pub mod Acts
 pub mod Adapting
 pub mod Alone
 pub mod Aside
@@ -10,6 +11,8 @@ pub mod Closing
 pub mod Cutting
 pub mod Growing
 pub mod Leaving
+pub mod Levels
+pub mod Loading
 pub mod Looking
 pub mod Made
 pub mod Past

@@ -17,6 +17,7 @@ use Rattle.ca_node.specs.Told.{IsKnown, MyTree}
 use Rattle.ca_node.specs.TreeView.{Note, Quiet, TreeView}
 use Rattle.ca_range.specs.Clearing.{turns_at}
 use Rattle.ca_range.specs.Snapshots.{IsThwarted}
+use Rattle.ca_replace.specs.Acts.{acts_of}
 use Rattle.ca_replace.specs.declared.missing.Miss.{Miss}
 use Rattle.ca_replace.specs.declared.missing.Miss.TheVariants as miss
 use Rattle.ca_replace.specs.Attempting.{HasDoneSuch, total}
@@ -67,15 +68,16 @@ MayTryAgain Vanished (miss.Worn which) m m' = Unit {0}
 abbrev pub NeverVanishes : MyTree → MyTree → Type 0
 NeverVanishes m m' = ⊥
 
--- The attempt did the call, which is told so, by what is known then; or it came to nothing, and learnt of others' edits alone. It began no attempt to join.
+-- The attempt did the call, which is told so, by what is known then; or it came to nothing, and learnt of others' edits alone. It began no attempt to join, and
+-- split no base.
 abbrev pub HasRangedTo : {T : Type 0} → (T → TreeView → Event → Type 0) → Sizes → Result T Miss → TreeView → TreeView → Type 0
-HasRangedTo tells z (Ok x) u v = HasDoneSuch (tells x v) u v × IsKnown z v × (v.tries ≡ u.tries)
-HasRangedTo tells z (Err why) u v = IsFurther u v × IsKnown z v × (v.tries ≡ u.tries)
+HasRangedTo tells z (Ok x) u v = HasDoneSuch (tells x v) u v × IsKnown z v × (acts_of v ≡ acts_of u)
+HasRangedTo tells z (Err why) u v = IsFurther u v × IsKnown z v × (acts_of v ≡ acts_of u)
 
--- Attempts did the call, which is told so; or it is refused, and they learnt of others' edits alone. They began no attempt to join.
+-- Attempts did the call, which is told so; or it is refused, and they learnt of others' edits alone. They began no attempt to join, and split no base.
 abbrev pub HasRanged : {T : Type 0} → (T → TreeView → Event → Type 0) → Result T Cause → TreeView → TreeView → Type 0
-HasRanged tells (Ok x) u v = HasDoneSuch (tells x v) u v × (v.tries ≡ u.tries)
-HasRanged tells (Err why) u v = IsFurther u v × (v.tries ≡ u.tries)
+HasRanged tells (Ok x) u v = HasDoneSuch (tells x v) u v × (acts_of v ≡ acts_of u)
+HasRanged tells (Err why) u v = IsFurther u v × (acts_of v ≡ acts_of u)
 
 -- why a call is refused whose last attempt came to this, given what was spent
 abbrev pub cause_of : Miss → Spent → Cause

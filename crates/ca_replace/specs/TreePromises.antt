@@ -11,16 +11,18 @@ use Rattle.ca_replace.specs.Bounded.{IsBounded, PinsNever, WalksOnce}
 use Rattle.ca_replace.specs.Called.{HasTold, StaysStore}
 use Rattle.ca_replace.specs.Causes.{IsSparing, IsUnspent, WasUnspent}
 use Rattle.ca_replace.specs.Growing.{IsUntouched}
+use Rattle.ca_replace.specs.Loading.{LoadsInRead}
 use Rattle.ca_replace.specs.Ranging.{HasRangeCause}
 use Rattle.ca_node.specs.TreeView.{Note}
 use Rattle.ca_replace.specs.Resting.{StoreAndRun, StoreView, knows}
 use Rattle.ca_replace.specs.Within.{EndsTooSoon, NeedsAbove, NeedsBelow}
 
--- It is a store of the same pass, on the same tree; no update was made, and no attempt to join was begun.
+-- It is a store of the same pass, on the same tree; no update was made, no attempt to join was begun, and no base was split.
 pub record MakesNoUpdate (s t : StoreView) : Type 0 where
   pub same : StaysStore s t
   pub last : t.last ≡ s.last
   pub untried : t.seat.me.0.upper.tries ≡ s.seat.me.0.upper.tries
+  pub unsplit : t.seat.me.0.upper.splits ≡ s.seat.me.0.upper.splits
 
 -- Nothing was changed in the tree, no turn was lost, and no attempt to join was begun.
 pub record OnlyLooks (s t : StoreView) : Type 0 where
@@ -35,6 +37,8 @@ pub record HasRead {T : Type 0} (Needs : Note → Type 0) (budget : ℕ) (s t : 
   pub alone : s.z.passes ≡ 1 → HasLoneCause s.z None s.seat.me.0.upper o
   -- how often it pinned, and how often it looked at the others
   pub bounded : IsBounded (vec_len s.kept) s.seat.me t.seat.me
+  -- how many links it loaded
+  pub loads : LoadsInRead s.z s.seat.me t.seat.me
 
 -- Where a call with this budget was done the budget wasn't spent, as its pass unpinned, and of one that opened a run as it came to it.
 abbrev pub WasInBudget : {T : Type 0} → ℕ → StoreView → StoreView → Outcome T → Type 0
@@ -54,6 +58,8 @@ pub record HasEnded (s t : StoreAndRun) : Type 0 where
   pub looks : OnlyLooks s.store t.store
   pub sparing : IsOpen (knows s) → IsSparing s.store t.store
   pub bounded : PinsNever s.store.seat.me t.store.seat.me
+  -- no link was loaded
+  pub loads : t.store.seat.me.0.upper.loads ≡ s.store.seat.me.0.upper.loads
   pub none : (knows s).run ≡ None → t ≡ s
 
 abbrev pub tree_promises : Promises StoreAndRun

@@ -26,15 +26,19 @@ use Rattle.ca_rows.specs.declared.space.Pass.{Pass}
 use Rattle.ca_rows.specs.declared.space.Space.{Space}
 use Rattle.ca_rows.specs.declared.view.Met.{Met}
 use Rattle.ca_rows.specs.Told.{met_of}
+use Rattle.ca_range.specs.Loading.{help_loads}
+use Rattle.ca_replace.specs.Loading.{LoadsFew, loads_until, unpaid}
 
 -- One attempt of a call that edits by these answers, and may add this key: what is said about its new base was met by then, how its update goes on from
--- the attempts before it, what was spent, what stopped it, what it made of the tree of a pass that is alone, and which bases were split.
-pub record IsTurn {T : Type 0} (edits : T → Bool) (adds : Option (List ℕ)) (z : Sizes) (t : Tuning) (a b : Course) (now : Met) (r : Result T Halt)
-    (m m' : MyTree) : Type 0 where
+-- the attempts before it, what was spent, what stopped it, how many links it loaded, these by its walk, what it made of the tree of a pass that is alone, and
+-- which bases were split.
+pub record IsTurn {T : Type 0} (edits : T → Bool) (adds : Option (List ℕ)) (z : Sizes) (t : Tuning) (links : ℕ) (a b : Course) (now : Met)
+    (r : Result T Halt) (m m' : MyTree) : Type 0 where
   pub met_as : IsCauseMetInAttempts edits b.adapting.last r now m'.0.upper
   pub gone_on : HasGoneOn edits z t a.adapting b.adapting r m.0.upper m'.0.upper
   pub counted : IsPaidTo r a.spent b.spent m m'
   pub found : HasStopped r m m'
+  pub loads : LoadsFew (help_loads z) (links + unpaid z r) (loads_until edits r m'.0.upper) m m'
   pub grown : IsAlone z m.0.upper → HasGrown z adds r m.0.upper m'.0.upper
   pub won : IsAlone z m.0.upper → HasWonInAttempts edits r m.0.upper m'.0.upper
   pub cut : HasCut edits z adds r m.0.upper m'.0.upper
@@ -56,7 +60,7 @@ module _ {R : Type 0} where
     pub frame : StaysReady space pass new
     pub tried : HasTriedTo (λ _. tells) space.table.shared.key r pass.seat.me.0.upper new.seat.me.0.upper
     pub stays : StaysAt space.table.shared.key key r pass.seat.me.0.upper new.seat.me.0.upper b.again marked
-    pub turn : IsTurn (λ _. true) adds space.table.shared.key t a b (met_of new.seat.me) r pass.seat.me new.seat.me
+    pub turn : IsTurn (λ _. true) adds space.table.shared.key t 0 a b (met_of new.seat.me) r pass.seat.me new.seat.me
 
 -- what is handed on behind the split of a full base: a turn where it was split, and that an exchange of a link was lost where that was
 abbrev pub course_after : {T : Type 0} → Result T Stop → Course → Course

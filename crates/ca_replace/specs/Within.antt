@@ -21,6 +21,7 @@ use Rattle.ca_range.specs.Looking.{HoldsEdge, objects_from}
 use Rattle.ca_range.specs.Snapshots.{IsRemembered, bases_of}
 use Rattle.ca_range.specs.declared.sought.Run.{Run}
 use Rattle.ca_range.specs.declared.sought.Sought.{Sought}
+use Rattle.ca_replace.specs.Acts.{acts_of}
 use Rattle.ca_replace.specs.Aside.{HasGoneLeft}
 use Rattle.ca_replace.specs.Running.{IsOpenRun, all_of, left_of}
 use Rattle.ca_replace.specs.declared.opened.OpenRun.{OpenRun}
@@ -88,13 +89,13 @@ pub record HasAllUpTo (lo hi : Bound) (z : Sizes) (u : TreeView) (run : Run) : T
   pub ends : EndsBefore hi (first_note (bases_of run u)).place.span.high
   pub known : IsKnown z u
 
--- It has seen more of the history, at most, and answered no call and was refused none, nor began an attempt to join. Behind that its history is known, and it
--- has been pinned no less long.
+-- It has seen more of the history, at most, and answered no call and was refused none, nor began an attempt to join or split a base. Behind that its history is
+-- known, and it has been pinned no less long.
 pub record HasLearnt (z : Sizes) (u v : TreeView) : Type 0 where
   pub further : IsFurther u v
   pub known : IsKnown z v
   pub since : v.since ≡ u.since
-  pub tries : v.tries ≡ u.tries
+  pub acts : acts_of v ≡ acts_of u
 
 -- which base has the keys right up to an upper edge
 abbrev pub spot_at : Edge → Spot

@@ -3,6 +3,7 @@ ghost use Rattle.std.specs.Prelude.{◌≡◌, ◌+◌, ◌<◌, ◌≤◌, ℕ,
 ghost use Rattle.ca_node.specs.TreePasses.{tree_of};
 ghost use Rattle.ca_replace.specs.Aside.{HasGoneLeft, HasLookedAside, HasLookedLeft, IsEndOfLooks, IsLeftEnd};
 ghost use Rattle.ca_replace.specs.Attempting.{total};
+ghost use Rattle.ca_replace.specs.Loading.{LoadsFew};
 ghost use Rattle.ca_rows.specs.Passes.{IsReading, KeepsList, known, sizes};
 
 use crate::giving::{add, spent_in_all};
@@ -29,6 +30,7 @@ pub(crate) fn look_left(
     ensures looked { HasLookedLeft (sizes space.now) spent.old spent.new (known pass.old) (known pass.new) }
     ensures gone { HasGoneLeft (sizes space.now) from (known pass.old) (known pass.new) }
     ensures ends { IsEndOfLooks budget spent.new result low.new.items (tree_of pass.new) }
+    ensures loads { LoadsFew ((sizes space.now).levels + 1) 0 (tree_of pass.new).loads (known pass.old) (known pass.new) }
 {
     let mut route = from;
     loop {

@@ -1,5 +1,5 @@
 //! Attempts of a call that edits.
-ghost use Rattle.std.specs.Prelude.{◌≡◌, ◌≢◌, ◌<◌, ◌≤◌, ◌↔◌, ℕ, Bool, Err, List, None, Ok, OnOk, Some, [], false, length, map, true, IsTrue};
+ghost use Rattle.std.specs.Prelude.{◌≡◌, ◌≢◌, ◌<◌, ◌≤◌, ◌↔◌, ℕ, Bool, Err, List, None, Ok, OnOk, Some, [], false, length, map, true, IsTrue, ◌+◌};
 ghost use Rattle.std.specs.declared.option.Option.{Option};
 ghost use Rattle.ca_model.specs.Places.{IsPlace};
 ghost use Rattle.ca_model.specs.Event.{Event, Remove};
@@ -94,8 +94,8 @@ pub(crate) trait Attempt {
         ensures stays { StaysAt (sizes tree.now.space) (about self.now) result (tree_of pass.old) (tree_of pass.new) course.new.again
             course.new.marked }
         ensures deep { result ≡ Err IsDeep → IsFullSince (sizes tree.now.space) (adds self.now) (tree_of pass.new) }
-        ensures turn { IsTurn (edits self.now) (adds self.now) (sizes tree.now.space) tree.now.tuning course.old course.new (met_of (known pass.new)) result
-            (known pass.old) (known pass.new) };
+        ensures turn { IsTurn (edits self.now) (adds self.now) (sizes tree.now.space) tree.now.tuning ((sizes tree.now.space).levels + 1) course.old
+            course.new (met_of (known pass.new)) result (known pass.old) (known pass.new) };
 }
 
 /// The base that has the key, and the key's place among its objects. It is shown to the pass, which has seen the whole history then. The walk begins with
@@ -111,6 +111,7 @@ pub(crate) fn find(
     requires unanswered { IsUnanswered (tree_of pass.old) }
     requires begins { BeginsAt (sizes space.now) key.now (tree_of pass.old) again }
     ensures looked { HasLooked space.now key.now result.0 result.1 pass.old pass.new }
+    ensures loads { (tree_of pass.new).loads ≤ (tree_of pass.old).loads + ((sizes space.now).levels + 1) }
     ensures met { (tree_of pass.new).ranges.unfinished ≡ (tree_of pass.old).ranges.unfinished }
 {
     let cursor = walk_again(space, pass, key, again);
@@ -145,6 +146,7 @@ pub(crate) fn fetch(
     requires unanswered { IsUnanswered (tree_of pass.old) }
     requires begins { BeginsAt (sizes space.now) key.now (tree_of pass.old) again }
     ensures looked { HasLooked space.now key.now result.0 result.1 pass.old pass.new }
+    ensures loads { (tree_of pass.new).loads ≤ (tree_of pass.old).loads + ((sizes space.now).levels + 1) }
     ensures met { (tree_of pass.new).ranges.unfinished ≡ (tree_of pass.old).ranges.unfinished }
     ensures fetched { HasFetched (sizes space.now) (tree_of pass.new) key.now result.1 old.new.items }
 {
@@ -291,7 +293,7 @@ fn make_room(
     ensures still { result ≡ IsDeep → tree_of pass.new ≡ tree_of pass.old }
     ensures turn { (key : List ℕ) → IsLooking (sizes tree.now.space) (tree_of pass.old) key cursor
         → IsFullFor (sizes tree.now.space) (Some key) (shown_last pass.old) → IsTurn {T = Unit {0}} (λ _. true) (Some key) (sizes tree.now.space)
-        tree.now.tuning course.old course.new (met_of (known pass.new)) (Err result) (known pass.old) (known pass.new) }
+        tree.now.tuning 0 course.old course.new (met_of (known pass.new)) (Err result) (known pass.old) (known pass.new) }
 {
     course.again = Some(cursor);
     if cursor.level >= tree.tuning.levels {

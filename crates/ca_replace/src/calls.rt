@@ -1,11 +1,12 @@
 //! Calls of a pass that rests: attempts, the turns of each, and how a call ends.
-ghost use Rattle.std.specs.Prelude.{◌⊎◌, ◌≡◌, ◌≢◌, ◌↔◌, ◌<◌, ◌≤◌, Err, None, [], IfErr, IsTrue, false, vec_len};
+ghost use Rattle.std.specs.Prelude.{◌⊎◌, ◌≡◌, ◌≢◌, ◌↔◌, ◌+◌, ◌<◌, ◌≤◌, Err, None, [], IfErr, IsTrue, false, vec_len};
 ghost use Rattle.ca_model.specs.Answer.{IfBusy, IfDone, IfRefused};
 ghost use Rattle.ca_base.specs.declared.stop.Stop.TheVariants.{Empty as IsEmpty};
 ghost use Rattle.ca_replace.specs.declared.attempting.Halt.TheVariants.{Deep as IsDeep, Stopped as IsStopped};
 ghost use Rattle.ca_node.specs.Told.{with_upper};
 ghost use Rattle.ca_replace.specs.Attempting.{IsPaidTo, total, HasAttempted, HasDoneSuch, HasNext, HasStopped, HasTriedTo, IfDeep, refused_as};
 ghost use Rattle.ca_replace.specs.Bounded.{IsBounded, IsPaced};
+ghost use Rattle.ca_replace.specs.Loading.{LoadsFew, LoadsInAttempts, loads_until, most_loads, unpaid};
 ghost use Rattle.ca_replace.specs.Called.{HasTold};
 ghost use Rattle.ca_replace.specs.Causes.{EndsAtLag, HasPinned, IsCaused, IsFullSince, KeepsFew};
 ghost use Rattle.ca_replace.specs.Seen.{store_of};
@@ -121,6 +122,7 @@ fn attempts<A: Attempt>(
     ensures few { KeepsFew (known pass.old) (known pass.new) pass.new.kept.rows }
     ensures lags { EndsAtLag (known pass.old) (known pass.new) }
     ensures bounded { IsBounded (vec_len pass.old.kept.rows) (known pass.old) (known pass.new) }
+    ensures loads { LoadsInAttempts (A.edits order.now.what.now) (sizes tree.now.space) result (known pass.old) (known pass.new) }
     ensures turns { AreTurns (A.edits order.now.what.now) (A.adds order.now.what.now) (sizes tree.now.space) tree.now.tuning course.old course.new
         (view pass.new).pin.left result (known pass.old) (known pass.new) }
 {
@@ -180,6 +182,8 @@ fn turns<A: Attempt>(
     ensures found { HasStopped result (known pass.old) (known pass.new) }
     ensures pinned { HasPinned (known pass.old) (known pass.new) }
     ensures paced { IsPaced (known pass.old) (known pass.new) }
+    ensures loads { LoadsFew (most_loads (sizes tree.now.space)) ((sizes tree.now.space).levels + 1 + unpaid (sizes tree.now.space) result)
+        (loads_until (A.edits order.now.what.now) result (tree_of pass.new)) (known pass.old) (known pass.new) }
     ensures lost { HasNext result → order.now.budget ≤ total course.new.spent }
     ensures turns { AreTurns (A.edits order.now.what.now) (A.adds order.now.what.now) (sizes tree.now.space) tree.now.tuning course.old course.new
         (view pass.new).pin.left result (known pass.old) (known pass.new) }

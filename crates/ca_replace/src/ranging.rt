@@ -9,9 +9,11 @@ ghost use Rattle.ca_node.specs.States.{IsAtPin};
 ghost use Rattle.ca_node.specs.Told.{MyTree};
 ghost use Rattle.ca_node.specs.TreePasses.{tree_of};
 ghost use Rattle.ca_node.specs.TreeView.{Note, TreeView};
+ghost use Rattle.ca_replace.specs.Acts.{acts_of};
 ghost use Rattle.ca_replace.specs.Attempting.{IsPaid, HasDoneSuch, total};
 ghost use Rattle.ca_replace.specs.Bounded.{IsBounded, IsPaced, PinsNow, looked_in, pinned_in};
 ghost use Rattle.ca_replace.specs.Causes.{EndsAtLag, HasPinned, IfCaused, IsUnspent, KeepsFew};
+ghost use Rattle.ca_replace.specs.Loading.{LoadsInLook, LoadsInRead};
 ghost use Rattle.ca_replace.specs.Ranging.{GetsToWork, HasMissedBy, HasRanged, HasRangedTo, IsAtWork, IsRangeCaused, MayTryAgain, cause_of};
 ghost use Rattle.ca_replace.specs.Resting.{IsAtRest, StaysAtRest};
 ghost use Rattle.ca_replace.specs.declared.missing.Miss.TheVariants.{Again as IsAgain, NoRow as IsNoRow};
@@ -67,7 +69,8 @@ pub(crate) trait Look {
         ensures counted { IsPaid spent.old spent.new (known pass.old) (known pass.new) }
         ensures missed { HasMissedBy (needs self.now) budget spent.new result (known pass.old) (known pass.new) }
         ensures again { IfErr result (λ why. MayTryAgain (vanished self.now (sizes tree.now.space)) why (known pass.old) (known pass.new)) }
-        ensures in_budget { IfOk result (λ _. total spent.new < budget) };
+        ensures in_budget { IfOk result (λ _. total spent.new < budget) }
+        ensures loads { LoadsInLook (sizes tree.now.space) (known pass.old) (known pass.new) };
 }
 
 /// Makes a call that reads a range. Where it is done the pass is pinned; where it is refused it rests.
@@ -85,7 +88,7 @@ pub(crate) fn read_range<L: Look>(
     ensures done { IfDone result (λ answer. HasDoneSuch (L.tells order.now.what.now (sizes tree.now.space) answer left.new (tree_of pass.new)) (tree_of pass.old)
         (tree_of pass.new)) }
     ensures refused { IfRefused result (λ rise. IsRefused rise (tree_of pass.old) (tree_of pass.new)) }
-    ensures untried { (tree_of pass.new).tries ≡ (tree_of pass.old).tries }
+    ensures acts { acts_of (tree_of pass.new) ≡ acts_of (tree_of pass.old) }
     ensures never_deep { IsNeverDeep result }
     ensures busy { IfBusy result (λ spent. order.now.budget ≤ spent) }
     ensures caused { IfCaused result (λ why. IsRangeCaused (L.needs order.now.what.now) (sizes tree.now.space) pass.old.number order.now.budget why (known pass.old)
@@ -93,6 +96,7 @@ pub(crate) fn read_range<L: Look>(
     ensures few { IfRefused result (λ _. KeepsFew (known pass.old) (known pass.new) pass.new.kept.rows) }
     ensures lags { EndsAtLag (known pass.old) (known pass.new) }
     ensures bounded { IsBounded (vec_len pass.old.kept.rows) (known pass.old) (known pass.new) }
+    ensures loads { LoadsInRead (sizes tree.now.space) (known pass.old) (known pass.new) }
     ensures looks { IfDone result (λ _. (view pass.old).pin.looks ≤ (view pass.new).pin.looks) }
     ensures looked { IfDone result (λ _. looked_in (known pass.old) (known pass.new) + 3 ≤ 3 * pinned_in (known pass.old) (known pass.new)) }
     ensures all_seen { IfDone result (λ _. (view pass.new).pin.lags ≡ (view pass.old).pin.lags) }
@@ -119,12 +123,13 @@ pub(crate) fn read_or_refuse<L: Look>(
     ensures done { IfOk result (λ answer. HasDoneSuch (L.tells order.now.what.now (sizes tree.now.space) answer left.new (tree_of pass.new)) (tree_of pass.old)
         (tree_of pass.new)) }
     ensures refused { IfErr result (λ why. IsRefused (one_more why) (tree_of pass.old) (tree_of pass.new)) }
-    ensures untried { (tree_of pass.new).tries ≡ (tree_of pass.old).tries }
+    ensures acts { acts_of (tree_of pass.new) ≡ acts_of (tree_of pass.old) }
     ensures caused { IfErr result (λ why. IsRangeCaused (L.needs order.now.what.now) (sizes tree.now.space) pass.old.number order.now.budget why (known pass.old)
         pass.old.kept.rows (known pass.new) pass.new.kept.rows) }
     ensures few { IfErr result (λ _. KeepsFew (known pass.old) (known pass.new) pass.new.kept.rows) }
     ensures lags { EndsAtLag (known pass.old) (known pass.new) }
     ensures bounded { IsBounded (vec_len pass.old.kept.rows) (known pass.old) (known pass.new) }
+    ensures loads { LoadsInRead (sizes tree.now.space) (known pass.old) (known pass.new) }
     ensures looks { IfOk result (λ _. (view pass.old).pin.looks ≤ (view pass.new).pin.looks) }
     ensures looked { IfOk result (λ _. looked_in (known pass.old) (known pass.new) + 3 ≤ 3 * pinned_in (known pass.old) (known pass.new)) }
     ensures all_seen { IfOk result (λ _. (view pass.new).pin.lags ≡ (view pass.old).pin.lags) }
@@ -164,6 +169,7 @@ fn attempts<L: Look>(
     ensures few { IfErr result (λ _. KeepsFew (known pass.old) (known pass.new) pass.new.kept.rows) }
     ensures lags { EndsAtLag (known pass.old) (known pass.new) }
     ensures bounded { IsBounded (vec_len pass.old.kept.rows) (known pass.old) (known pass.new) }
+    ensures loads { LoadsInRead (sizes tree.now.space) (known pass.old) (known pass.new) }
     ensures looks { IfOk result (λ _. (view pass.old).pin.looks ≤ (view pass.new).pin.looks) }
     ensures looked { IfOk result (λ _. looked_in (known pass.old) (known pass.new) + 3 ≤ 3 * pinned_in (known pass.old) (known pass.new)) }
     ensures all_seen { IfOk result (λ _. (view pass.new).pin.lags ≡ (view pass.old).pin.lags) }
@@ -224,6 +230,7 @@ fn tries<L: Look>(
     ensures spent_all { result ≡ Err IsAgain → order.now.budget ≤ total spent.new }
     ensures pinned { HasPinned (known pass.old) (known pass.new) }
     ensures paced { IsPaced (known pass.old) (known pass.new) }
+    ensures loads { LoadsInRead (sizes tree.now.space) (known pass.old) (known pass.new) }
 {
     loop {
         let tried = try_once(tree, pass, order, left, spent);
@@ -260,6 +267,7 @@ fn try_once<L: Look>(
     ensures in_budget { IfOk result (λ _. total spent.new < order.now.budget) }
     ensures pinned { HasPinned (known pass.old) (known pass.new) }
     ensures once { PinsNow (known pass.old) (known pass.new) }
+    ensures loads { LoadsInRead (sizes tree.now.space) (known pass.old) (known pass.new) }
 {
     tree.space.pin(pass);
     match order.what.look(tree, pass, left, order.budget, spent) {

@@ -7,10 +7,12 @@ ghost use Rattle.ca_model.specs.Function.{MayBeAskedForAll};
 ghost use Rattle.ca_model.specs.Known.{one_more};
 ghost use Rattle.ca_node.specs.TreePasses.{tree_of};
 ghost use Rattle.ca_range.specs.Looking.{IsNotEnough};
+ghost use Rattle.ca_replace.specs.Acts.{acts_of};
 ghost use Rattle.ca_replace.specs.Attempting.{HasDoneSuch};
 ghost use Rattle.ca_replace.specs.Bounded.{IsBounded};
 ghost use Rattle.ca_replace.specs.Causes.{EndsAtLag, IfCaused, IsUnspent, KeepsFew, WasUnspent};
 ghost use Rattle.ca_replace.specs.Leaving.{HasLeft, IsLeftAlone};
+ghost use Rattle.ca_replace.specs.Loading.{LoadsInRead};
 ghost use Rattle.ca_replace.specs.Ranging.{GetsToWork, IsAtWork, IsRangeCaused};
 ghost use Rattle.ca_replace.specs.Resting.{IsAtRest, StaysAtRest};
 ghost use Rattle.ca_replace.specs.Within.{FindsAbove, FindsBelow, HasOpened, NeedsAbove, NeedsBelow};
@@ -40,7 +42,7 @@ pub(crate) fn above(
     ensures frame { StaysAtRest tree.now.space pass.old pass.new }
     ensures done { IfDone result (λ found. HasDoneSuch (FindsAbove (bound_of lo.entry) found into.new.items) (tree_of pass.old) (tree_of pass.new)) }
     ensures refused { IfRefused result (λ rise. IsRefused rise (tree_of pass.old) (tree_of pass.new)) }
-    ensures untried { (tree_of pass.new).tries ≡ (tree_of pass.old).tries }
+    ensures acts { acts_of (tree_of pass.new) ≡ acts_of (tree_of pass.old) }
     ensures emptied { IfRefused result (λ _. into.new.items ≡ []) }
     ensures never_deep { IsNeverDeep result }
     ensures busy { IfBusy result (λ spent. budget ≤ spent) }
@@ -49,6 +51,7 @@ pub(crate) fn above(
     ensures few { KeepsFew (known pass.old) (known pass.new) pass.new.kept.rows }
     ensures lags { EndsAtLag (known pass.old) (known pass.new) }
     ensures bounded { IsBounded (vec_len pass.old.kept.rows) (known pass.old) (known pass.new) }
+    ensures loads { LoadsInRead (sizes tree.now.space) (known pass.old) (known pass.new) }
     ensures unspent { IfDone result (λ _. WasUnspent budget (known pass.old) (known pass.new)) }
 {
     let what = &AboveCall { lo };
@@ -73,7 +76,7 @@ pub(crate) fn below(
     ensures frame { StaysAtRest tree.now.space pass.old pass.new }
     ensures done { IfDone result (λ found. HasDoneSuch (FindsBelow (bound_of hi.entry) found into.new.items) (tree_of pass.old) (tree_of pass.new)) }
     ensures refused { IfRefused result (λ rise. IsRefused rise (tree_of pass.old) (tree_of pass.new)) }
-    ensures untried { (tree_of pass.new).tries ≡ (tree_of pass.old).tries }
+    ensures acts { acts_of (tree_of pass.new) ≡ acts_of (tree_of pass.old) }
     ensures emptied { IfRefused result (λ _. into.new.items ≡ []) }
     ensures never_deep { IsNeverDeep result }
     ensures busy { IfBusy result (λ spent. budget ≤ spent) }
@@ -82,6 +85,7 @@ pub(crate) fn below(
     ensures few { KeepsFew (known pass.old) (known pass.new) pass.new.kept.rows }
     ensures lags { EndsAtLag (known pass.old) (known pass.new) }
     ensures bounded { IsBounded (vec_len pass.old.kept.rows) (known pass.old) (known pass.new) }
+    ensures loads { LoadsInRead (sizes tree.now.space) (known pass.old) (known pass.new) }
     ensures unspent { IfDone result (λ _. WasUnspent budget (known pass.old) (known pass.new)) }
 {
     let what = &BelowCall { hi };
@@ -110,12 +114,13 @@ pub(crate) fn range<F: Fn(&[u8]) -> bool>(
     ensures done { IfOk result (λ whole. HasDoneSuch (HasOpened F.Fn what.now.sought (sizes tree.now.space) whole run.new (tree_of pass.new))
         (tree_of pass.old) (tree_of pass.new)) }
     ensures refused { IfErr result (λ why. IsRefused (one_more why) (tree_of pass.old) (tree_of pass.new)) }
-    ensures untried { (tree_of pass.new).tries ≡ (tree_of pass.old).tries }
+    ensures acts { acts_of (tree_of pass.new) ≡ acts_of (tree_of pass.old) }
     ensures caused { IfErr result (λ why. IsRangeCaused (IsNotEnough F.Fn what.now.sought) (sizes tree.now.space) pass.old.number budget why (known pass.old)
         pass.old.kept.rows (known pass.new) pass.new.kept.rows) }
     ensures few { IfErr result (λ _. KeepsFew (known pass.old) (known pass.new) pass.new.kept.rows) }
     ensures lags { EndsAtLag (known pass.old) (known pass.new) }
     ensures bounded { IsBounded (vec_len pass.old.kept.rows) (known pass.old) (known pass.new) }
+    ensures loads { LoadsInRead (sizes tree.now.space) (known pass.old) (known pass.new) }
     ensures all_seen { IfOk result (λ _. (view pass.new).pin.lags ≡ (view pass.old).pin.lags) }
     ensures unspent { IfOk result (λ _. IsUnspent budget (known pass.old) (known pass.new)) }
 {

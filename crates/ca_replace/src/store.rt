@@ -1,5 +1,5 @@
 //! A pass as a store.
-ghost use Rattle.std.specs.Prelude.{◌≡◌, ◌≤◌, None, length, min, pos, vec_len};
+ghost use Rattle.std.specs.Prelude.{◌≡◌, ◌+◌, ◌≤◌, None, length, min, pos, vec_len};
 ghost use Rattle.ca_adapt.specs.declared.adapted.Adapted.TheVariants.{Stay as IsStay};
 ghost use Rattle.ca_replace.specs.Bounded.{PinsOnce};
 ghost use Rattle.ca_replace.specs.Called.{StaysStore};
@@ -176,6 +176,7 @@ impl TreeStore<'_> {
         ensures counts { self.new.store.seat.me.0.upper.counts ≡ self.old.store.seat.me.0.upper.counts }
         ensures seen { length front.half.seat.me.0.upper.seen ≤ length self.new.store.seat.me.0.upper.seen }
         ensures bounded { PinsOnce self.old.store.seat.me self.new.store.seat.me }
+        ensures loads { self.new.store.seat.me.0.upper.loads ≡ self.old.store.seat.me.0.upper.loads + 1 }
         ensures seen_before { length self.old.store.seat.me.0.upper.seen ≤ length self.new.store.seat.me.0.upper.seen }
     {
         learn(&self.tree.space, &mut self.pass, front);

@@ -14,6 +14,9 @@ use Rattle.ca_range.specs.Staying.{OnlySteps}
 use Rattle.ca_range.proofs.Spends.{on_both, on_still}
 use Rattle.ca_range.proofs.Stepping.{over_counted, steps_both, steps_by_walk, steps_by_word}
 use Rattle.ca_range.proofs.Watched.{at_now, border_now, bound_word, high_now, is_active, is_before, met_now, over_now}
+use Rattle.ca_range.specs.Loading.{GoesBy}
+use Rattle.ca_range.proofs.Loaded.{goes_once, goes_watched}
+use Rattle.ca_range.proofs.Ranking.{far_inside, next_farther}
 use Rattle.ca_range.proofs.ahead.look_ahead.Goals as goal
 
 pub returns-then-not-is_active-clause-steps : goal.returns-then-not-is_active-clause-steps
@@ -168,3 +171,27 @@ returns-clause-counted c = let walk = c.walk.ensures.walked in
     on_both c.args.account.now.spent c.watch.new.account.spent c.watch.new.account.spent c.args.pass.now.seat.me c.watch.new.pass.seat.me
     c.walk.new.pass.seat.me c.watch.ensures.counted (on_still c.watch.new.account.spent c.watch.new.pass.seat.me c.walk.new.pass.seat.me
     (ap losses walk.now ∙ ap losses still) (ap (λ (x : MyTree). x.0.upper.turns) walk.now ∙ ap (λ (x : MyTree). x.0.upper.turns) still))
+
+pub returns-then-not-is_active-clause-loads : goal.returns-then-not-is_active-clause-loads
+returns-then-not-is_active-clause-loads c = goes_watched c.args.space.now.table.shared.key c.args.range.owner c.watch.ensures.watched.0
+    c.args.pass.now.seat.me c.watch.new.pass.seat.me c.args.left.now c.watch.ensures.watched.2 c.requires.at.at
+
+pub returns-in_default-clause-loads : goal.returns-in_default-clause-loads
+returns-in_default-clause-loads c = goes_watched c.args.space.now.table.shared.key c.args.range.owner c.watch.ensures.watched.0
+    c.args.pass.now.seat.me c.watch.new.pass.seat.me c.args.left.now c.watch.ensures.watched.2 c.requires.at.at
+
+pub returns-then-reaches-clause-loads : goal.returns-then-reaches-clause-loads
+returns-then-reaches-clause-loads c = let z = c.args.space.now.table.shared.key in let u = c.args.pass.now.seat.me.0.upper in
+    subst (λ (x : MyTree). GoesBy z u x.0.upper)
+    (sym (c.reaches.ensures.frame.still ∙ (c.load_word-border.ensures.frame.still ∙ c.copy_key.ensures.frame.still)))
+    (goes_watched z c.args.range.owner c.watch.ensures.watched.0 c.args.pass.now.seat.me c.watch.new.pass.seat.me c.args.left.now
+    c.watch.ensures.watched.2 c.requires.at.at)
+
+pub returns-clause-loads : goal.returns-clause-loads
+returns-clause-loads c = let z = c.args.space.now.table.shared.key in let m = c.args.pass.now.seat.me in let n = c.walk.new.pass.seat.me in
+    let still = c.reaches.ensures.frame.still ∙ (c.load_word-border.ensures.frame.still ∙ c.copy_key.ensures.frame.still) in
+    let b = returns-clause-ahead c in let walk = c.walk.ensures.walked in
+    let before = ap (λ (x : MyTree). x.0.upper.loads) still ∙ ap (λ (x : MyTree). x.0.upper.loads) c.watch.ensures.watched.2.now in
+    let now = ap (λ (x : MyTree). x.0.upper.loads) walk.now in let few = walk.few in
+    goes_once z m.0.upper n.0.upper (next_farther z c.args.range c.args.left.now c.walk.result m.0.upper n.0.upper c.requires.at.at b)
+    (far_inside z n.0.upper c.walk.result b.at) (omega arith)

@@ -13,6 +13,8 @@ use Rattle.ca_range.proofs.Filled.{last_shown}
 use Rattle.ca_range.proofs.Ranking.{far_inside, next_farther}
 use Rattle.ca_range.proofs.Spends.{on_both, on_still}
 use Rattle.ca_range.proofs.Stepping.{counted_both, steps_both, steps_none}
+use Rattle.ca_range.specs.Loading.{GoesBy}
+use Rattle.ca_range.proofs.Loaded.{goes_both, goes_same}
 use Rattle.ca_range.proofs.along.go_along.Goals as goal
 
 pub loop-left-init : goal.loop-left-init
@@ -27,6 +29,8 @@ loop-left-init c = record {
   met = c.requires.met;
   counted = on_still c.args.account.now.spent c.args.pass.now.seat.me c.args.pass.now.seat.me refl refl;
   at = c.requires.at;
+  loads = goes_same c.args.space.now.table.shared.key c.args.pass.now.seat.me.0.upper c.args.pass.now.seat.me.0.upper (omega arith)
+      (far_inside c.args.space.now.table.shared.key c.args.pass.now.seat.me.0.upper c.args.from c.requires.at.at) refl;
   far = omega arith;
 }
 
@@ -110,6 +114,8 @@ loop-left-preserved c = let b = c.in-Next.ensures.ahead in let still = c.is_of.e
           (on_both c.args.account.now.spent c.loop-left.account.spent spent m k n inv.counted c.look_ahead.ensures.counted);
       at = subst (λ (x : MyTree). IsAtMarked z x.0.upper c.args.range c.in-Next.next) (sym still)
           (at_next z c.args.range c.in-Next.next k.0.upper n.0.upper b marked);
+      loads = subst (λ (x : MyTree). GoesBy z m.0.upper x.0.upper) (sym still)
+          (goes_both z m.0.upper k.0.upper n.0.upper inv.loads c.look_ahead.ensures.loads);
       far = subst (λ (x : MyTree). reach m.0.upper ≤ reach x.0.upper) (sym still)
           (let more = next_farther z c.args.range c.loop-left.left c.in-Next.next k.0.upper n.0.upper inv.at.at b in let far = inv.far in omega arith);
     }
@@ -123,3 +129,20 @@ returns-in-Whole-clause-no_join c = c.look_ahead.ensures.no_join ∙ c.loop-left
 pub returns-then-not-is_of-clause-no_join : goal.returns-then-not-is_of-clause-no_join
 returns-then-not-is_of-clause-no_join c = ap (λ (x : MyTree). x.0.upper.joins) c.is_of.ensures.frame.still
     ∙ (c.look_ahead.ensures.no_join ∙ c.loop-left.invariant.no_join)
+
+pub returns-in-Over-clause-loads : goal.returns-in-Over-clause-loads
+returns-in-Over-clause-loads c = goes_both c.args.space.now.table.shared.key c.args.pass.now.seat.me.0.upper c.loop-left.pass.seat.me.0.upper
+    c.look_ahead.new.pass.seat.me.0.upper c.loop-left.invariant.loads c.look_ahead.ensures.loads
+
+pub returns-in-Whole-clause-loads : goal.returns-in-Whole-clause-loads
+returns-in-Whole-clause-loads c = goes_both c.args.space.now.table.shared.key c.args.pass.now.seat.me.0.upper c.loop-left.pass.seat.me.0.upper
+    c.look_ahead.new.pass.seat.me.0.upper c.loop-left.invariant.loads c.look_ahead.ensures.loads
+
+pub returns-then-not-is_of-clause-loads : goal.returns-then-not-is_of-clause-loads
+returns-then-not-is_of-clause-loads c = let z = c.args.space.now.table.shared.key in let u = c.args.pass.now.seat.me.0.upper in
+    subst (λ (x : MyTree). GoesBy z u x.0.upper) (sym c.is_of.ensures.frame.still)
+    (goes_both z u c.loop-left.pass.seat.me.0.upper c.look_ahead.new.pass.seat.me.0.upper c.loop-left.invariant.loads c.look_ahead.ensures.loads)
+
+pub returns-then-not-is_of-clause-met : goal.returns-then-not-is_of-clause-met
+returns-then-not-is_of-clause-met c = subst (λ (x : MyTree). AreMet c.look_ahead.new.account.met.numbers x.0.upper.ranges.unfinished)
+    (sym c.is_of.ensures.frame.still) c.look_ahead.ensures.met

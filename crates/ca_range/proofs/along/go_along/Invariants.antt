@@ -7,6 +7,7 @@ use Rattle.ca_range.specs.Meeting.{AreMet}
 use Rattle.ca_base.specs.Spending.{IsSpentOn}
 use Rattle.ca_range.specs.Staying.{OnlySteps}
 use Rattle.ca_range.proofs.along.go_along.Given as goal
+use Rattle.ca_range.specs.Loading.{GoesBy}
 
 abbrev pub invariant-loop-left : goal.invariant-loop-left
 invariant-loop-left l = record {
@@ -20,6 +21,7 @@ invariant-loop-left l = record {
   met : AreMet l.account.met.numbers l.pass.seat.me.0.upper.ranges.unfinished;
   counted : IsSpentOn l.fn.account.spent l.account.spent l.fn.pass.seat.me l.pass.seat.me;
   at : IsAtMarked l.space.table.shared.key l.pass.seat.me.0.upper l.range l.left;
+  loads : GoesBy l.space.table.shared.key l.fn.pass.seat.me.0.upper l.pass.seat.me.0.upper;
   far : reach l.fn.pass.seat.me.0.upper ≤ reach l.pass.seat.me.0.upper;
 }
 

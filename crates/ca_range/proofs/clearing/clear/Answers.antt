@@ -9,7 +9,7 @@ use Rattle.ca_node.specs.TreeView.{Note, TreeView}
 use Rattle.ca_rows.specs.declared.sizes.Sizes.{Sizes}
 use Rattle.ca_range.specs.Ahead.{IsAtLast}
 use Rattle.ca_range.specs.Clearing.{LearnsOfRanges, none_spent}
-use Rattle.ca_range.specs.Farther.{reach_to}
+use Rattle.ca_range.specs.Farther.{reach, reach_to}
 use Rattle.ca_range.specs.Meeting.{AreMet}
 use Rattle.ca_base.specs.Spending.{IsSpentOn}
 use Rattle.ca_range.proofs.Filled.{helped_behind}
@@ -19,6 +19,8 @@ use Rattle.ca_range.proofs.Spends.{on_both}
 use Rattle.ca_range.proofs.Stepping.{steps_both}
 use Rattle.ca_range.proofs.Unjoined.{cleared_behind, way_behind}
 use Rattle.ca_range.proofs.Watched.{at_now, is_active, met_by_word}
+use Rattle.ca_range.proofs.Loaded.{ends_after, goes_same}
+use Rattle.ca_range.proofs.Ranking.{far_inside}
 use Rattle.ca_range.proofs.clearing.clear.Goals as goal
 
 pub watch-state-requires-clause-met : goal.watch-state-requires-clause-met
@@ -112,7 +114,8 @@ returns-clause-cleared c = let w = c.watch-state.ensures.watched in let z = c.ar
     c.range_of.ensures.frame c.watch-state.ensures.frame c.watch-state.ensures.watched.2 in
     let steps = steps_then c.args.space.now.table.shared.key c.args.pass.now c.range_of.new.pass c.watch-state.new.pass c.in-Some.range.owner
     c.watch-state.ensures.watched.0
-    c.range_of.ensures.frame c.watch-state.ensures.frame c.watch-state.ensures.watched.2 in record {
+    c.range_of.ensures.frame c.watch-state.ensures.frame c.watch-state.ensures.watched.2 in
+    let near : reach l.0.upper ≡ reach m.0.upper = ap (λ (x : MyTree). reach x.0.upper) w.2.now ∙ ap (λ (x : MyTree). reach x.0.upper) still in record {
       frame = stays_then c.args.space.now c.args.pass.now c.watch-state.new.pass c.help_ranges-helped.new.pass
           (keeps_then c.args.space.now.table.shared.key c.args.pass.now c.range_of.new.pass c.watch-state.new.pass c.in-Some.range.owner
           c.watch-state.ensures.watched.0
@@ -125,6 +128,9 @@ returns-clause-cleared c = let w = c.watch-state.ensures.watched in let z = c.ar
           (let empty = ap (λ (x : MyTree). x.0.empty) up in let worn = ap (λ (x : MyTree). x.0.worn) up in
           let none : HasMet 0 0 m l = (omega arith, omega arith) in none)
           (met_by_word c.in-Some.range mid l w.0 w.2 on other) first.lost.more first.helped.more all c.help_ranges-helped.result h.helped;
+      loads = ends_after z m.0.upper l.0.upper n.0.upper
+          (goes_same z m.0.upper l.0.upper (omega (arith, near)) (omega (arith, near, far_inside z m.0.upper c.args.cursor c.requires.at))
+          (ap (λ (x : MyTree). x.0.upper.loads) w.2.now ∙ ap (λ (x : MyTree). x.0.upper.loads) still)) h.loads;
       several = λ known. let low = mark.1 in let mine = c.requires.ready.number in let enrolled = known.enrolled in
           let most = subst (λ (x : Sizes). c.in-Some.range.owner ≤ x.passes) (ap (λ (x : MyTree). x.0.sizes) still ∙ c.requires.ready.own.1)
           (w.2.made (is_active w.0 c.in-Some.range.number on).0) in

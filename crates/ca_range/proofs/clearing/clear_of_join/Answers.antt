@@ -21,7 +21,7 @@ returns-in-Before-clause-way c = λ budget. ((λ on. inr c.in-Before.ensures.mar
 
 pub returns-in-Now-clause-cleared : goal.returns-in-Now-clause-cleared
 returns-in-Now-clause-cleared c = cleared_now c.args.space.now c.args.cursor c.args.pass.now c.end_join.new.pass c.end_join.new.spent c.requires.ready
-    c.in-Now.ensures.ended c.end_join.ensures.counted
+    c.requires.at c.in-Now.ensures.ended c.end_join.ensures.counted
 
 pub returns-in-Now-clause-way : goal.returns-in-Now-clause-way
 returns-in-Now-clause-way c = λ budget. way_now c.args.space.now c.args.cursor budget c.args.pass.now c.end_join.new.pass c.end_join.new.spent c.requires.at
@@ -29,7 +29,7 @@ returns-in-Now-clause-way c = λ budget. way_now c.args.space.now c.args.cursor 
 
 pub returns-in-Gone-clause-cleared : goal.returns-in-Gone-clause-cleared
 returns-in-Gone-clause-cleared c = cleared_gone c.args.space.now c.args.cursor c.args.pass.now c.end_join.new.pass c.in-Gone.helped c.end_join.new.spent
-    c.in-Gone.ensures.ended c.end_join.ensures.counted
+    c.requires.at c.in-Gone.ensures.ended c.end_join.ensures.counted
 
 pub returns-in-Gone-clause-way : goal.returns-in-Gone-clause-way
 returns-in-Gone-clause-way c = λ budget. way_gone c.args.space.now c.args.cursor budget c.args.pass.now c.end_join.new.pass c.in-Gone.helped

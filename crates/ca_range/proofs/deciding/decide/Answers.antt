@@ -2,7 +2,7 @@ use Rattle.ca_base.specs.Putting.{first_note}
 use Rattle.ca_node.specs.Row.{mark_bound}
 use Rattle.ca_range.specs.Reaching.{border_for}
 use Rattle.ca_range.proofs.Bounding.{border_found, reaches_told}
-use Rattle.ca_range.proofs.Stepping.{notes_by_help, one_by_help, over_by_help, steps_by_help}
+use Rattle.ca_range.proofs.Stepping.{loads_by_help, notes_by_help, one_by_help, over_by_help, steps_by_help}
 use Rattle.ca_range.proofs.deciding.decide.Goals as goal
 
 pub finish-requires-clause-helping : goal.finish-requires-clause-helping
@@ -36,3 +36,7 @@ returns-clause-helped c = let d = c.finish.ensures.done in
 pub returns-clause-notes : goal.returns-clause-notes
 returns-clause-notes c = let d = c.finish.ensures.done in
     notes_by_help d.0 c.args.range.owner c.args.range.number _ c.args.pass.now.seat.me c.finish.new.pass.seat.me d.1
+
+pub returns-clause-loads : goal.returns-clause-loads
+returns-clause-loads c = let d = c.finish.ensures.done in
+    loads_by_help d.0 c.args.range.owner c.args.range.number _ c.args.pass.now.seat.me c.finish.new.pass.seat.me d.1

@@ -3,6 +3,7 @@ use Rattle.ca_base.proofs.Counts.{met_both}
 use Rattle.ca_base.specs.Putting.{first_note, stopped}
 use Rattle.ca_base.specs.declared.stop.Exchange.{Exchange}
 use Rattle.ca_base.specs.declared.stop.Stop.{Stop}
+use Rattle.ca_base.specs.declared.stop.Stop.TheVariants as stop
 use Rattle.ca_node.specs.Told.{IsSettled}
 use Rattle.ca_node.specs.TreeView.{Note, TreeView}
 use Rattle.ca_range.specs.Filling.{IsInUse, IsUseOf, links_of}
@@ -14,6 +15,8 @@ use Rattle.ca_range.proofs.JoinsFinished.{ended_by_join}
 use Rattle.ca_range.proofs.Readied.{stays_then}
 use Rattle.ca_range.proofs.Spends.{on_both}
 use Rattle.ca_range.proofs.Stepping.{steps_both, steps_copied, steps_lost_by}
+use Rattle.ca_range.proofs.Loaded.{ends_by, goes_same, stopped_loads}
+use Rattle.ca_range.proofs.Ranking.{far_inside}
 use Rattle.ca_range.proofs.filling.fill_gap.Goals as goal
 
 pub returns-in-Ok-Some-clause-stepped : goal.returns-in-Ok-Some-clause-stepped
@@ -105,3 +108,41 @@ pub returns-in-Ok-clause-copied : goal.returns-in-Ok-clause-copied
 returns-in-Ok-clause-copied c = copy_is c.args.space.now.table.shared.key c.args.mark.now c.args.pass.now.seat.me.0.upper
     c.range_in_use.new.pass.seat.me.0.upper c.mark_base.new.pass.seat.me.0.upper (record c.args.next { base = c.in-Ok.base }) c.in-Ok.base
     c.in-Ok-None.ensures.in_use.0.all.notes c.in-Ok.ensures.marked
+
+pub returns-in-Ok-Some-clause-loads : goal.returns-in-Ok-Some-clause-loads
+returns-in-Ok-Some-clause-loads c = let u = c.args.pass.now.seat.me.0.upper in let v = c.range_in_use.new.pass.seat.me.0.upper in
+    let z = c.args.space.now.table.shared.key in let learns = c.in-Ok-Some.ensures.in_use.0 in let same = far_same u v learns.all in
+    let inside = far_inside z u c.args.next c.requires.at in goes_same z u v (omega arith) (omega arith) learns.loads
+
+pub returns-in-Err-clause-loads : goal.returns-in-Err-clause-loads
+returns-in-Err-clause-loads c = let u = c.args.pass.now.seat.me.0.upper in let both = c.in-Err.ensures.in_use.loads in
+    ends_by c.args.space.now.table.shared.key u c.range_in_use.new.pass.seat.me.0.upper (far_inside c.args.space.now.table.shared.key u c.args.next c.requires.at)
+    (omega arith)
+
+pub returns-in-Ok-clause-loads : goal.returns-in-Ok-clause-loads
+returns-in-Ok-clause-loads c = let u = c.args.pass.now.seat.me.0.upper in let v = c.range_in_use.new.pass.seat.me.0.upper in
+    let w = c.mark_base.new.pass.seat.me.0.upper in let z = c.args.space.now.table.shared.key in let k = c.in-Ok.ensures.marked in
+    let learns = c.in-Ok-None.ensures.in_use.0 in let inside = far_inside z u c.args.next c.requires.at in
+    let same = far_copy z c.args.mark.now u v w c.in-Ok.base learns.all.notes k in
+    goes_same z u w (omega arith) (omega arith) (ap (λ (x : TreeView). x.loads) k.now ∙ learns.loads)
+
+pub returns-in-Err-Lost-clause-loads : goal.returns-in-Err-Lost-clause-loads
+returns-in-Err-Lost-clause-loads c = let u = c.args.pass.now.seat.me.0.upper in let v = c.range_in_use.new.pass.seat.me.0.upper in
+    let w = c.mark_base.new.pass.seat.me.0.upper in let z = c.args.space.now.table.shared.key in
+    let same = ap (λ (x : TreeView). x.loads) (c.in-Err-Lost.ensures.marked ∙ ap (λ (s : Stop). stopped s v) c.in-Err-Lost.field-0-is)
+    ∙ (stopped_loads (stop.Lost c.in-Err-Lost.exchange) v ∙ c.in-Ok-None.ensures.in_use.0.loads) in
+    ends_by z u w (far_inside z u c.args.next c.requires.at) (omega arith)
+
+pub returns-in-Err-Empty-clause-loads : goal.returns-in-Err-Empty-clause-loads
+returns-in-Err-Empty-clause-loads c = let u = c.args.pass.now.seat.me.0.upper in let v = c.range_in_use.new.pass.seat.me.0.upper in
+    let w = c.mark_base.new.pass.seat.me.0.upper in let z = c.args.space.now.table.shared.key in
+    let same = ap (λ (x : TreeView). x.loads) (c.in-Err-Empty.ensures.marked ∙ ap (λ (s : Stop). stopped s v) c.in-Err-Empty.field-0-is)
+    ∙ (stopped_loads stop.Empty v ∙ c.in-Ok-None.ensures.in_use.0.loads) in
+    ends_by z u w (far_inside z u c.args.next c.requires.at) (omega arith)
+
+pub returns-in-Err-Worn-clause-loads : goal.returns-in-Err-Worn-clause-loads
+returns-in-Err-Worn-clause-loads c = let u = c.args.pass.now.seat.me.0.upper in let v = c.range_in_use.new.pass.seat.me.0.upper in
+    let w = c.mark_base.new.pass.seat.me.0.upper in let z = c.args.space.now.table.shared.key in
+    let same = ap (λ (x : TreeView). x.loads) (c.in-Err-Worn.ensures.marked ∙ ap (λ (s : Stop). stopped s v) c.in-Err-Worn.field-0-is)
+    ∙ (stopped_loads stop.Worn v ∙ c.in-Ok-None.ensures.in_use.0.loads) in
+    ends_by z u w (far_inside z u c.args.next c.requires.at) (omega arith)

@@ -1,7 +1,8 @@
-use Rattle.std.proofs.Common.{sym, subst, arith}
+use Rattle.std.proofs.Common.{sym, refl, subst, arith}
 use Rattle.ca_base.proofs.Counts.{met_both}
 use Rattle.ca_range.specs.Meeting.{AreMet}
 use Rattle.ca_range.proofs.GoingOn.{in_budget}
+use Rattle.ca_range.proofs.Loaded.{ends_after, ends_by, goes_both as walks_both, goes_once, goes_same}
 use Rattle.ca_range.proofs.OwnSteps.{ended_on, goes_both, goes_none, goes_over, number_on, ready_on}
 use Rattle.ca_range.proofs.Ranking.{far_inside}
 use Rattle.ca_range.proofs.SnapshotSteps.{more_turns}
@@ -15,6 +16,8 @@ loop-pass-init g c = record {
   met = c.requires.met;
   gathering = c.requires.gathering;
   pool = (omega arith, omega arith);
+  loads = let z = c.args.space.now.table.shared.key in let u = c.args.pass.now.seat.me.0.upper in
+      goes_same z u u (omega arith) (far_inside z u c.args.first.left c.requires.gathering.gone.at) refl;
 }
 
 pub loop-pass-preserved : goal.loop-pass-preserved
@@ -26,6 +29,9 @@ loop-pass-preserved g c = let inv = c.loop-pass.invariant in let e = c.go_furthe
       met = e.met;
       gathering = on.0;
       pool = met_both 0 0 0 0 c.args.pass.now.seat.me p.seat.me q.seat.me inv.pool on.2;
+      loads = let z = c.args.space.now.table.shared.key in let v = q.seat.me.0.upper in
+          walks_both z c.args.pass.now.seat.me.0.upper p.seat.me.0.upper v inv.loads
+          (goes_once z p.seat.me.0.upper v on.1 (far_inside z v c.in-On.next.left on.0.gone.at) c.in-On.ensures.loads);
     }
 
 pub loop-pass-smaller : goal.loop-pass-smaller
@@ -54,3 +60,12 @@ returns-clause-met g c = subst (AreMet c.loop-pass.account.met.numbers) (sym c.g
 pub returns-in-Ended-clause-in_budget : goal.returns-in-Ended-clause-in_budget
 returns-in-Ended-clause-in_budget g c = in_budget c.in-Ended.snapped c.args.search.now.budget c.loop-pass.account.spent c.go_further.new.account.spent
     (let room = c.loop-pass-test.true in let all = c.turns.ensures in omega arith) c.in-Ended.ensures.unspent
+
+pub returns-in-Ended-clause-loads : goal.returns-in-Ended-clause-loads
+returns-in-Ended-clause-loads g c = ends_after c.args.space.now.table.shared.key c.args.pass.now.seat.me.0.upper c.loop-pass.pass.seat.me.0.upper
+    c.go_further.new.pass.seat.me.0.upper c.loop-pass.invariant.loads c.in-Ended.ensures.loads
+
+pub returns-clause-loads : goal.returns-clause-loads
+returns-clause-loads g c = let z = c.args.space.now.table.shared.key in let v = c.loop-pass.pass.seat.me.0.upper in
+    let w = c.give_up.new.pass.seat.me.0.upper in let goes = c.loop-pass.invariant.loads in let same = c.give_up.ensures.loads in
+    ends_after z c.args.pass.now.seat.me.0.upper v w goes (ends_by z v w goes.2 (omega arith))

@@ -3,6 +3,7 @@ use Rattle.ca_base.specs.Counting.{HasMet}
 use Rattle.ca_base.specs.Readiness.{IsReady}
 use Rattle.ca_range.specs.Farther.{reach, room}
 use Rattle.ca_range.specs.Gathering.{IsGathering}
+use Rattle.ca_range.specs.Loading.{GoesBy}
 use Rattle.ca_range.specs.Meeting.{AreMet}
 use Rattle.ca_range.specs.Snapping.{GoesOn}
 use Rattle.ca_range.proofs.gathering.gather.Given as goal
@@ -15,6 +16,7 @@ invariant-loop-pass g l = record {
   met : AreMet l.account.met.numbers l.pass.seat.me.0.upper.ranges.unfinished;
   gathering : IsGathering g.F.Fn l.search.sought.now l.space.table.shared.key l.pass.seat.me.0.upper l.last;
   pool : HasMet 0 0 l.fn.pass.seat.me l.pass.seat.me;
+  loads : GoesBy l.space.table.shared.key l.fn.pass.seat.me.0.upper l.pass.seat.me.0.upper;
 }
 
 abbrev pub decreases-loop-pass : goal.decreases-loop-pass

@@ -10,8 +10,10 @@ use Rattle.ca_range.specs.Looking.{HasAdded}
 use Rattle.ca_range.specs.Meeting.{AreMet}
 use Rattle.ca_range.proofs.Filled.{raised_met}
 use Rattle.ca_range.proofs.GoingOn.{further_on, goes_steps, no_run_unspent, walked_raised}
+use Rattle.ca_range.proofs.Loaded.{ends_by, gathers_walked}
 use Rattle.ca_range.proofs.NextGathered.{gathered_next}
 use Rattle.ca_range.proofs.OwnSteps.{goes_both, goes_reads, goes_then, met_reads, settled_on}
+use Rattle.ca_range.proofs.Ranking.{far_inside}
 use Rattle.ca_range.proofs.Readied.{ready_reads, ready_still}
 use Rattle.ca_range.proofs.SnapshotSteps.{no_less, no_less_both, read_less}
 use Rattle.ca_range.proofs.Spends.{on_still}
@@ -41,6 +43,8 @@ returns-in-Done g c = let p = c.args.pass.now in let q = c.look.new.pass in let 
       further = settled_on g.F.Fn sought z c.decide_run-run.result p.seat.me q.seat.me r.seat.me (met_reads c.args.space.now p q c.look.ensures.frame) e.ended;
       quiet = e.quiet;
       unspent = refl;
+      loads = let u = p.seat.me.0.upper in let read = ap (λ (x : MyTree). x.0.upper.loads) c.look.ensures.frame.still in let same = e.loads in
+          ends_by z u r.seat.me.0.upper (far_inside z u c.args.from.left c.requires.gathering.gone.at) (omega arith);
     }
 
 pub go_to-requires-clause-ready : goal.go_to-requires-clause-ready
@@ -72,11 +76,11 @@ returns-in-On g c = let few = c.requires.tuned.allowed.most_leaf in let leaf = c
     let still = c.look.ensures.frame.still in let p = c.args.pass.now in let q = c.look.new.pass in let r = c.walk-next.new.pass in let t = c.go_to.new.pass in
     let a = c.args.account.now.spent in let d = c.go_to.new.account.spent in let w = c.walk-next.ensures.walked in
     let raised = walked_raised _ _ q.seat.me r.seat.me c.walk-next.result w in
-    let far = (gathered_next g.F.Fn sought z c.deref.result q.seat.me r.seat.me c.args.from c.in-On.counted c.walk-next.result
+    let next = gathered_next g.F.Fn sought z c.deref.result q.seat.me r.seat.me c.args.from c.in-On.counted c.walk-next.result
     w (omega arith) (subst (λ (x : MyTree). IsGathering g.F.Fn sought z x.0.upper c.args.from) (sym still) c.requires.gathering)
     (ap (λ (x : MyTree). (first_note x.0.upper.notes).place.span.high) still ∙ (l.0 ∙ ap Excluded (sym c.deref.ensures.0)))
-    (subst (λ (x : MyTree). HasAdded g.F.Fn sought c.args.from.counted c.in-On.counted (first_note x.0.upper.notes)) (sym still) l.1)).1 in
-    let near = ap (λ (x : MyTree). reach x.0.upper) still in record {
+    (subst (λ (x : MyTree). HasAdded g.F.Fn sought c.args.from.counted c.in-On.counted (first_note x.0.upper.notes)) (sym still) l.1) in
+    let far = next.1 in let near = ap (λ (x : MyTree). reach x.0.upper) still in record {
       goes = goes_both c.args.space.now a a d p r t (goes_both c.args.space.now a a a p q r
           (goes_reads c.args.space.now a p q c.requires.ready c.look.ensures.frame)
           (goes_steps c.args.space.now a a q r (ready_reads c.args.space.now p q c.requires.ready c.look.ensures.frame) c.walk-next.ensures.frame raised
@@ -91,4 +95,8 @@ returns-in-On g c = let few = c.requires.tuned.allowed.most_leaf in let leaf = c
           (c.go_to.ensures.further (reach p.seat.me.0.upper) (let more : reach p.seat.me.0.upper < reach r.seat.me.0.upper = omega arith in more));
       quiet = c.go_to.ensures.quiet;
       unspent = no_run_unspent c.go_to.result a d c.go_to.ensures.no_run;
+      loads = let u = p.seat.me.0.upper in let v = r.seat.me.0.upper in let read = ap (λ (x : MyTree). x.0.upper.loads) still in
+          let now = ap (λ (x : MyTree). x.0.upper.loads) w.now in let few = w.few in
+          gathers_walked z c.go_to.result u v t.seat.me.0.upper (let more : reach u < reach v = omega arith in more)
+          (far_inside z v c.walk-next.result next.0.gone.at) (omega arith) c.go_to.ensures.loads;
     }

@@ -81,3 +81,9 @@ returns-clause-further g c = λ far budget spent less. let p = c.args.pass.now i
         ) in cc;
       },
     )
+
+pub returns-clause-loads : goal.returns-clause-loads
+returns-clause-loads g c = c.give_up.ensures.loads ∙ ap (λ (x : MyTree). x.0.upper.loads) c.is_behind.ensures.frame.still
+
+pub returns-then-is_behind-clause-loads : goal.returns-then-is_behind-clause-loads
+returns-then-is_behind-clause-loads g c = ap (λ (x : MyTree). x.0.upper.loads) c.is_behind.ensures.frame.still

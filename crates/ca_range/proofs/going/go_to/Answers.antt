@@ -18,6 +18,8 @@ use Rattle.ca_range.proofs.NextGathered.{marking_on, next_on}
 use Rattle.ca_range.proofs.OwnSteps.{ended_on, goes_both, goes_over, number_on, ready_on}
 use Rattle.ca_range.proofs.Readied.{ready_after, ready_still}
 use Rattle.ca_range.proofs.SnapshotSteps.{gone_ends, more_turns, no_less, no_less_both, ranges_by_steps}
+use Rattle.ca_range.proofs.Loaded.{ends_after, ends_by, gathers_none, goes_same}
+use Rattle.ca_range.proofs.Ranking.{far_inside}
 use Rattle.ca_range.proofs.going.go_to.Goals as goal
 
 pub use_of-requires-clause-other : goal.use_of-requires-clause-other
@@ -200,3 +202,26 @@ returns-in-Other-clause-no_run g c = no_run_refused c.args.search.now.budget c.h
 
 pub returns-in-Gone-clause-no_run : goal.returns-in-Gone-clause-no_run
 returns-in-Gone-clause-no_run g c = subst (λ (s : Snapped). HasNoRun (further.Ended s)) (sym c.after_help.ensures) (no_run_so c.in-Gone.helped)
+
+pub returns-in-Free-clause-loads : goal.returns-in-Free-clause-loads
+returns-in-Free-clause-loads g c = let z = c.args.space.now.table.shared.key in let u = c.args.pass.now.seat.me.0.upper in
+    gathers_none z c.mark_on.result u c.mark_on.new.pass.seat.me.0.upper (far_inside z u c.args.next c.requires.next.gone.at)
+    (c.mark_on.ensures.loads ∙ c.in-Free.ensures.used.0.loads)
+
+pub returns-in-Own-clause-loads : goal.returns-in-Own-clause-loads
+returns-in-Own-clause-loads g c = let z = c.args.space.now.table.shared.key in let u = c.args.pass.now.seat.me.0.upper in
+    gathers_none z c.follow.result u c.follow.new.pass.seat.me.0.upper (far_inside z u c.args.next c.requires.next.gone.at)
+    (c.follow.ensures.loads ∙ c.in-Own.ensures.used.0.loads)
+
+pub returns-in-Other-clause-loads : goal.returns-in-Other-clause-loads
+returns-in-Other-clause-loads g c = let z = c.args.space.now.table.shared.key in let u = c.args.pass.now.seat.me.0.upper in
+    let v = c.use_of.new.pass.seat.me.0.upper in let w = c.give_up.new.pass.seat.me.0.upper in let e = c.in-Other.ensures.used.0 in
+    let inside = far_inside z u c.args.next c.requires.next.gone.at in let same = far_same u v e.all in
+    let same' = far_same v w (record { notes = c.give_up.ensures.notes.0; ways = c.give_up.ensures.notes.1 }) in
+    let few = c.give_up.ensures.loads in let few' = e.loads in
+    ends_after z u w c.help_first.new.pass.seat.me.0.upper (goes_same z u w (omega arith) (omega arith) (omega arith)) c.help_first.ensures.loads
+
+pub returns-in-Gone-clause-loads : goal.returns-in-Gone-clause-loads
+returns-in-Gone-clause-loads g c = let z = c.args.space.now.table.shared.key in let u = c.args.pass.now.seat.me.0.upper in
+    let both = c.in-Gone.ensures.used.loads in let same = c.give_up-in-Gone.ensures.loads in
+    ends_by z u c.give_up-in-Gone.new.pass.seat.me.0.upper (far_inside z u c.args.next c.requires.next.gone.at) (omega arith)

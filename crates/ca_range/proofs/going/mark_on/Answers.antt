@@ -20,6 +20,7 @@ use Rattle.ca_range.proofs.OwnSteps.{goes_both, goes_over, goes_reads, met_reads
 use Rattle.ca_range.proofs.Readied.{ready_reads}
 use Rattle.ca_range.proofs.SnapshotSteps.{no_less, ranges_by_steps, read_less}
 use Rattle.ca_range.proofs.Stepping.{steps_copied}
+use Rattle.ca_range.proofs.Loaded.{stopped_loads}
 use Rattle.ca_range.proofs.going.mark_on.Goals as goal
 
 pub mark_for-mark-requires-clause-behind : goal.mark_for-mark-requires-clause-behind
@@ -139,3 +140,11 @@ returns-in-Err-clause-further g c = λ far less. let p = c.args.pass.now in let 
 
 pub returns-in-Err-clause-no_run : goal.returns-in-Err-clause-no_run
 returns-in-Err-clause-no_run g c = subst (λ (s : Snapped). HasNoRun (further.Ended s)) (sym c.refusal.ensures) (no_run_stopped c.in-Err.why)
+
+pub returns-in-Ok-clause-loads : goal.returns-in-Ok-clause-loads
+returns-in-Ok-clause-loads g c = ap (λ (u : TreeView). u.loads) c.in-Ok.ensures.marked.now
+    ∙ ap (λ (x : MyTree). x.0.upper.loads) c.mark_for-mark.ensures.frame.still
+
+pub returns-in-Err-clause-loads : goal.returns-in-Err-clause-loads
+returns-in-Err-clause-loads g c = c.give_up.ensures.loads ∙ (ap (λ (u : TreeView). u.loads) c.in-Err.ensures.marked
+    ∙ (stopped_loads c.in-Err.why c.mark_for-mark.new.pass.seat.me.0.upper ∙ ap (λ (x : MyTree). x.0.upper.loads) c.mark_for-mark.ensures.frame.still))

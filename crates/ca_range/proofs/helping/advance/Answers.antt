@@ -15,6 +15,8 @@ use Rattle.ca_range.proofs.Filled.{goes_to, last_shown, passed_on, raised_met, s
 use Rattle.ca_range.proofs.Readied.{ready_reads, ready_still, stays_then}
 use Rattle.ca_range.proofs.Spends.{on_both}
 use Rattle.ca_range.proofs.Stepping.{steps_both}
+use Rattle.ca_range.specs.Loading.{StepsBy}
+use Rattle.ca_range.proofs.Loaded.{ends_after, ends_by, ends_here, steps_after}
 use Rattle.ca_range.proofs.helping.advance.Goals as goal
 
 pub decide-requires-clause-ready : goal.decide-requires-clause-ready
@@ -141,3 +143,17 @@ returns-in-Whole-clause-stepped c = let r = c.in-Whole.ensures.reached in let m 
       }),
       met_both 0 0 0 0 m k n (raised_met m k k.0.upper c.go_along.ensures.raised) c.decide.ensures.pool,
     )
+
+pub returns-in-Over-clause-loads : goal.returns-in-Over-clause-loads
+returns-in-Over-clause-loads c = ends_here c.args.space.now.table.shared.key c.args.pass.now.seat.me.0.upper c.go_along.new.pass.seat.me.0.upper
+    c.go_along.ensures.loads
+
+pub returns-in-Whole-clause-loads : goal.returns-in-Whole-clause-loads
+returns-in-Whole-clause-loads c = let z = c.args.space.now.table.shared.key in let u = c.args.pass.now.seat.me.0.upper in
+    let v = c.go_along.new.pass.seat.me.0.upper in let w = c.decide.new.pass.seat.me.0.upper in let same = c.decide.ensures.loads in
+    let goes = c.go_along.ensures.loads in ends_after z u v w goes (ends_by z v w goes.2 (omega arith))
+
+pub returns-in-Before-clause-loads : goal.returns-in-Before-clause-loads
+returns-in-Before-clause-loads c = let z = c.args.space.now.table.shared.key in let w = c.fill_gap.new.pass.seat.me.0.upper in
+    steps_after z c.fill_gap.result c.args.pass.now.seat.me.0.upper c.go_along.new.pass.seat.me.0.upper w c.go_along.ensures.loads
+    (subst (λ (x : MyTree). StepsBy z c.fill_gap.result x.0.upper w) c.mark_for-mark.ensures.frame.still c.fill_gap.ensures.loads)

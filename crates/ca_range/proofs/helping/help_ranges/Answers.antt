@@ -6,6 +6,7 @@ use Rattle.ca_range.proofs.Ranking.{far_inside}
 use Rattle.ca_range.proofs.Readied.{ready_after, stays_both}
 use Rattle.ca_range.proofs.Spends.{help_turned, on_both, on_still}
 use Rattle.ca_range.proofs.Stepping.{steps_both, steps_none}
+use Rattle.ca_range.proofs.Loaded.{ends_after, ends_here, goes_both, goes_same}
 use Rattle.ca_range.proofs.helping.help_ranges.Goals as goal
 
 pub loop-range-init : goal.loop-range-init
@@ -21,6 +22,8 @@ loop-range-init c = record {
   counted = on_still c.args.account.now.spent c.args.pass.now.seat.me c.args.pass.now.seat.me refl refl;
   at = c.requires.at;
   pool = (omega arith, omega arith);
+  loads = goes_same c.args.space.now.table.shared.key c.args.pass.now.seat.me.0.upper c.args.pass.now.seat.me.0.upper (omega arith)
+      (far_inside c.args.space.now.table.shared.key c.args.pass.now.seat.me.0.upper c.args.from.cursor c.requires.at.at) refl;
   far = omega arith;
 }
 
@@ -39,6 +42,7 @@ loop-range-preserved-in-Marked c = let inv = c.loop-range.invariant in let steps
       counted = on_both c.args.account.now.spent c.loop-range.account.spent c.advance.new.account.spent m k n inv.counted c.advance.ensures.counted;
       at = c.in-Marked.ensures.stepped.0;
       pool = met_both 0 0 0 0 m k n inv.pool c.in-Marked.ensures.stepped.2;
+      loads = goes_both c.args.space.now.table.shared.key m.0.upper k.0.upper n.0.upper inv.loads c.in-Marked.ensures.loads;
       far = let first = inv.far in let more = c.in-Marked.ensures.goes in omega arith;
     }
 
@@ -56,6 +60,7 @@ loop-range-preserved c = let inv = c.loop-range.invariant in let steps = c.in-Me
       counted = on_both c.args.account.now.spent c.loop-range.account.spent c.advance.new.account.spent m k n inv.counted c.advance.ensures.counted;
       at = at_met c.args.space.now.table.shared.key n.0.upper c.in-Met.next stepped.0 stepped.1;
       pool = met_both 0 0 0 0 m k n inv.pool stepped.2;
+      loads = goes_both c.args.space.now.table.shared.key m.0.upper k.0.upper n.0.upper inv.loads c.in-Met.ensures.loads;
       far = let first = inv.far in let more = c.in-Met.ensures.goes in omega arith;
     }
 
@@ -93,3 +98,11 @@ returns-in-Ended-clause-turned c met = let m = c.args.pass.now.seat.me in let k 
     (on_both c.args.account.now.spent c.loop-range.account.spent c.advance.new.account.spent m k n inv.counted c.advance.ensures.counted)
     (helped_after z c.args.from.range c.loop-range.range c.args.budget c.advance.new.account.spent c.in-Ended.helped m k n inv.pool inv.steps
     inv.counted.lost.more c.in-Ended.ensures.steps.helped inv.now inv.far c.in-Ended.ensures.stepped) met
+
+pub returns-in-Ended-clause-loads : goal.returns-in-Ended-clause-loads
+returns-in-Ended-clause-loads c = ends_after c.args.space.now.table.shared.key c.args.pass.now.seat.me.0.upper c.loop-range.pass.seat.me.0.upper
+    c.advance.new.pass.seat.me.0.upper c.loop-range.invariant.loads c.in-Ended.ensures.loads
+
+pub returns-clause-loads : goal.returns-clause-loads
+returns-clause-loads c = ends_here c.args.space.now.table.shared.key c.args.pass.now.seat.me.0.upper c.loop-range.pass.seat.me.0.upper
+    c.loop-range.invariant.loads

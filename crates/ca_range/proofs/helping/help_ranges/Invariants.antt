@@ -9,6 +9,7 @@ use Rattle.ca_base.specs.Spending.{IsSpentOn}
 use Rattle.ca_range.specs.Staying.{OnlySteps}
 use Rattle.ca_range.proofs.Filled.{IsHelpedNow}
 use Rattle.ca_range.proofs.helping.help_ranges.Given as goal
+use Rattle.ca_range.specs.Loading.{GoesBy}
 
 abbrev pub invariant-loop-range : goal.invariant-loop-range
 invariant-loop-range l = record {
@@ -23,6 +24,7 @@ invariant-loop-range l = record {
   counted : IsSpentOn l.fn.account.spent l.account.spent l.fn.pass.seat.me l.pass.seat.me;
   at : IsAtMarked l.space.table.shared.key l.pass.seat.me.0.upper l.range l.cursor;
   pool : HasMet 0 0 l.fn.pass.seat.me l.pass.seat.me;
+  loads : GoesBy l.space.table.shared.key l.fn.pass.seat.me.0.upper l.pass.seat.me.0.upper;
   far : reach l.fn.pass.seat.me.0.upper ≤ reach l.pass.seat.me.0.upper;
 }
 

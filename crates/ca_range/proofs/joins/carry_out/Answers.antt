@@ -15,6 +15,7 @@ pub returns-clause-carried : goal.returns-clause-carried
 returns-clause-carried c = let e = c.finish_join-finish.ensures in record {
   frame = e.frame;
   steps = e.finished.steps;
+  loads = e.finished.loads;
   tried = subst (λ (h : Helped). HasTriedJoin c.args.counted h c.args.pass.now.seat.me c.finish_join-finish.new.pass.seat.me) (sym c.helped_so.ensures)
       (tried_join c.args.space.now.table.shared.key c.args.counted c.finish_join-finish.new.spent c.args.pass.now.seat.me
       c.finish_join-finish.new.pass.seat.me e.counted c.finish_join-finish.result _ refl e.finished);

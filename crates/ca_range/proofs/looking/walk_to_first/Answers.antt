@@ -1,4 +1,4 @@
-use Rattle.std.proofs.Common.{ap, subst, sym}
+use Rattle.std.proofs.Common.{ap, subst, sym, arith}
 use Rattle.ca_model.specs.Edges.{bound_of}
 use Rattle.ca_node.specs.Told.{MyTree}
 use Rattle.ca_node.specs.TreeView.{Note}
@@ -21,3 +21,6 @@ returns-clause-holds c = let w = c.walk.ensures.walked in
 
 pub returns-clause-has : goal.returns-clause-has
 returns-clause-has c = has_first c.args.space.now.table.shared.key _ c.args.pass.now.seat.me c.walk.new.pass.seat.me c.walk.result c.walk.ensures.walked
+
+pub returns-clause-loads : goal.returns-clause-loads
+returns-clause-loads c = let w = c.walk.ensures.walked in let now = ap (λ (x : MyTree). x.0.upper.loads) w.now in let few = w.few in omega arith

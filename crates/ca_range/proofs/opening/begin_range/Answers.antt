@@ -1,11 +1,11 @@
-use Rattle.std.proofs.Common.{◌≡◌, ◌<◌, inl, refl, sym, ap, subst, arith}
+use Rattle.std.proofs.Common.{◌≡◌, ◌<◌, ◌∙◌, inl, refl, sym, ap, subst, arith}
 use mathlib.Core.Option.{some}
 use Rattle.ca_base.specs.Counting.{HasMet, HasStoppedBy, losses}
 use Rattle.ca_base.specs.Putting.{first_note}
 use Rattle.ca_base.specs.declared.stop.Stop.{Stop}
 use Rattle.ca_model.specs.Edges.{bound_of}
 use Rattle.ca_node.specs.Told.{MyTree, IsSettled}
-use Rattle.ca_node.specs.TreeView.{TreeView}
+use Rattle.ca_node.specs.TreeView.{Note, TreeView}
 use Rattle.ca_range.specs.Looking.{IsFirst, IsNotEnough}
 use Rattle.ca_range.proofs.NextNumbers.{numbered_first, taken_goes, taken_met, taken_spent, upper_taken}
 use Rattle.ca_range.proofs.GoingOn.{begun_after}
@@ -16,7 +16,7 @@ use Rattle.ca_range.proofs.opening.begin_range.Goals as goal
 pub returns-in_default-clause-begun : goal.returns-in_default-clause-begun
 returns-in_default-clause-begun g c = let m = c.args.pass.now.seat.me in let sought = c.args.search.now.sought.now in
     subst (λ (x : MyTree). HasMet 0 0 m x × (x.0.upper.ranges.sequence ≡ some last_sequence) × IsNotEnough g.F.Fn sought x.0.upper.last)
-    (sym c.in_default.ensures.numbered) ((omega arith, omega arith), refl, c.requires.needed)
+    (sym c.in_default.ensures.numbered) ((omega arith, omega arith), refl, c.requires.needed.0)
 
 pub begin_with-requires-clause-first : goal.begin_with-requires-clause-first
 begin_with-requires-clause-first g c = let n = c.in-Some.ensures.numbered in let lo = bound_of c.args.search.now.sought.now.lo in
@@ -28,6 +28,12 @@ pub begin_with-requires-clause-settled : goal.begin_with-requires-clause-settled
 begin_with-requires-clause-settled g c = let n = c.in-Some.ensures.numbered in
     subst (λ (u : TreeView). IsSettled u (first_note u.notes).its) (sym (upper_taken c.args.space.now c.args.pass.now c.next_number.new.pass
     c.take_two.new.pass n.0 c.next_number.ensures.frame n.1 c.take_two.ensures.frame)) c.requires.settled
+
+pub begin_with-requires-clause-needed : goal.begin_with-requires-clause-needed
+begin_with-requires-clause-needed g c = let n = c.in-Some.ensures.numbered in
+    subst (λ (u : TreeView). IsNotEnough g.F.Fn c.args.search.now.sought.now (first_note u.notes)) (sym (upper_taken c.args.space.now c.args.pass.now
+    c.next_number.new.pass c.take_two.new.pass n.0 c.next_number.ensures.frame n.1 c.take_two.ensures.frame))
+    (subst (λ (n : Note). IsNotEnough g.F.Fn c.args.search.now.sought.now n) c.requires.needed.1 c.requires.needed.0)
 
 pub returns-in-Ok-clause-frame : goal.returns-in-Ok-clause-frame
 returns-in-Ok-clause-frame g c = let n = c.in-Some.ensures.numbered in
@@ -82,3 +88,26 @@ pub returns-in-Err-Worn-clause-counted : goal.returns-in-Err-Worn-clause-counted
 returns-in-Err-Worn-clause-counted g c = let n = c.in-Some.ensures.numbered in
     taken_spent c.args.space.now c.args.pass.now c.next_number.new.pass c.take_two.new.pass n.0 c.next_number.ensures.frame n.1 c.take_two.ensures.frame
     c.args.account.now.spent c.take_two.new.spent c.take_two.ensures.counted
+
+pub returns-in_default-clause-loads : goal.returns-in_default-clause-loads
+returns-in_default-clause-loads g c = ap (λ (x : MyTree). x.0.upper.loads) c.in_default.ensures.numbered
+
+pub returns-in-Ok-clause-loads : goal.returns-in-Ok-clause-loads
+returns-in-Ok-clause-loads g c = let n = c.in-Some.ensures.numbered in
+    c.begin_with.ensures.loads ∙ ap (λ (u : TreeView). u.loads) (upper_taken c.args.space.now c.args.pass.now c.next_number.new.pass
+    c.take_two.new.pass n.0 c.next_number.ensures.frame n.1 c.take_two.ensures.frame)
+
+pub returns-in-Err-Lost-clause-loads : goal.returns-in-Err-Lost-clause-loads
+returns-in-Err-Lost-clause-loads g c = let n = c.in-Some.ensures.numbered in
+    ap (λ (u : TreeView). u.loads) (upper_taken c.args.space.now c.args.pass.now c.next_number.new.pass
+    c.take_two.new.pass n.0 c.next_number.ensures.frame n.1 c.take_two.ensures.frame)
+
+pub returns-in-Err-Empty-clause-loads : goal.returns-in-Err-Empty-clause-loads
+returns-in-Err-Empty-clause-loads g c = let n = c.in-Some.ensures.numbered in
+    ap (λ (u : TreeView). u.loads) (upper_taken c.args.space.now c.args.pass.now c.next_number.new.pass
+    c.take_two.new.pass n.0 c.next_number.ensures.frame n.1 c.take_two.ensures.frame)
+
+pub returns-in-Err-Worn-clause-loads : goal.returns-in-Err-Worn-clause-loads
+returns-in-Err-Worn-clause-loads g c = let n = c.in-Some.ensures.numbered in
+    ap (λ (u : TreeView). u.loads) (upper_taken c.args.space.now c.args.pass.now c.next_number.new.pass
+    c.take_two.new.pass n.0 c.next_number.ensures.frame n.1 c.take_two.ensures.frame)

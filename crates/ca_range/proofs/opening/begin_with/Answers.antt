@@ -5,9 +5,9 @@ use Rattle.ca_base.proofs.Counts.{met_both}
 use Rattle.ca_model.specs.Edges.{bound_of}
 use Rattle.ca_node.specs.Told.{MyTree, IsSettled}
 use Rattle.ca_node.specs.TreeView.{TreeView, Turns}
-use Rattle.ca_range.specs.Looking.{IsFirst}
+use Rattle.ca_range.specs.Looking.{IsFirst, IsNotEnough}
 use Rattle.ca_range.specs.Opening.{begun_at}
-use Rattle.ca_range.proofs.OwnFirst.{first_begun, first_goes, first_ready, lost_now, met_now, turns_now}
+use Rattle.ca_range.proofs.OwnFirst.{first_begun, first_goes, first_ready, loads_now, lost_now, met_now, turns_now}
 use Rattle.ca_range.proofs.SnapshotSteps.{crossed_turns, more_turns, no_less, no_less_both}
 use Rattle.ca_range.proofs.opening.begin_with.Goals as goal
 
@@ -75,5 +75,18 @@ returns-clause-begun g c = let m = c.args.pass.now.seat.me in let k = c.open_own
     (e.frame.number ∙ (sym o.same_number ∙ sym (ap (λ (x : MyTree). x.0.upper.number) still)))
     (e.range.0 ∙ sym e.frame.number) e.range.1 e.back e.bound c.requires.number.3 c.write_first.ensures.written c.open_own.ensures.opened
     g.F.Fn c.args.search.now.sought.now l c.args.search.now.budget c.put_first.new.spent d refl refl copy.0 copy.1 border.1
-    (subst (λ (n : ℕ). 0 < n) (sym e.frame.number) o.some_number) (subst (λ (n : ℕ). n ≤ 64) (sym e.frame.number) o.few) m
+    (subst (λ (n : ℕ). 0 < n) (sym e.frame.number) o.some_number) (subst (λ (n : ℕ). n ≤ 64) (sym e.frame.number) o.few)
+    (subst (λ (x : MyTree). IsNotEnough g.F.Fn c.args.search.now.sought.now (first_note x.0.upper.notes)) (sym still) c.requires.needed) m
     (met_both 0 0 0 0 m k l met c.put_first.ensures.met) (let h = passed in let h' = passed' in omega arith)
+
+pub returns-then-not-put_first-clause-loads : goal.returns-then-not-put_first-clause-loads
+returns-then-not-put_first-clause-loads g c = loads_now c.args.space.now c.args.pass.now c.first_mark-mark.new.pass c.write_first.new.pass c.open_own.new.pass
+    c.put_first.new.pass false c.args.rows (begun_at c.args.rows.own (bound_of c.args.search.now.sought.now.lo)) c.first_mark-mark.ensures.frame
+    c.write_first.ensures.frame c.write_first.ensures.written.only c.open_own.ensures.frame c.open_own.ensures.opened c.put_first.ensures.frame
+    c.if-not-put_first.ensures.done
+
+pub returns-clause-loads : goal.returns-clause-loads
+returns-clause-loads g c = loads_now c.args.space.now c.args.pass.now c.first_mark-mark.new.pass c.write_first.new.pass c.open_own.new.pass
+    c.put_first.new.pass true c.args.rows (begun_at c.args.rows.own (bound_of c.args.search.now.sought.now.lo)) c.first_mark-mark.ensures.frame
+    c.write_first.ensures.frame c.write_first.ensures.written.only c.open_own.ensures.frame c.open_own.ensures.opened c.put_first.ensures.frame
+    c.if-not-put_first.ensures.done

@@ -83,6 +83,7 @@ returns-then-not-decide_own g c = let p = c.args.pass.now in let q = c.decide_ow
         e.still.0 ∙ ap losses d,
         e.still.1 ∙ ap (λ (x : MyTree). x.0.upper.turns) d,
       );
+      loads = e.loads ∙ ap (λ (x : MyTree). x.0.upper.loads) d;
       ended = settled_on g.F.Fn c.args.sought.now z c.take_run.result p.seat.me q.seat.me r.seat.me
           (over_met c.args.space.now p q _ c.requires.ready c.decide_own.ensures.frame d) e.ended;
     }
@@ -135,6 +136,7 @@ returns g c = let z = c.args.space.now.table.shared.key in let m = c.args.pass.n
       quiet = ap (λ (u : TreeView). u.ranges.own) same ∙ e.quiet;
       steps = subst (λ (u : TreeView). OnlyRanges z m.0.upper u) (sym same) e.only;
       unfinished = ap (λ (u : TreeView). u.ranges.unfinished) same ∙ e.unfinished;
+      loads = ap (λ (u : TreeView). u.loads) same ∙ e.loads;
       still = (c.retire_border.ensures.met.0 ∙ e.lost, ap (λ (u : TreeView). u.turns) same ∙ e.turns);
       ended = (
         met_both 0 0 0 0 m k n (ended_met z m k e) c.retire_border.ensures.met.1,

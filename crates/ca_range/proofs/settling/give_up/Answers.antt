@@ -69,6 +69,7 @@ returns c = let z = c.args.space.now.table.shared.key in let m = c.args.pass.now
       steps = subst (λ (u : TreeView). OnlyRanges z m.0.upper u) (sym same) e.only;
       unfinished = ap (λ (u : TreeView). u.ranges.unfinished) same ∙ e.unfinished;
       notes = (ap (λ (u : TreeView). u.notes) same ∙ e.notes, ap (λ (u : TreeView). u.ways) same ∙ e.ways);
+      loads = ap (λ (u : TreeView). u.loads) same ∙ e.loads;
       still = (c.retire_border.ensures.met.0 ∙ e.lost, ap (λ (u : TreeView). u.turns) same ∙ e.turns);
       met = met_both 0 0 0 0 m c.abort_own.new.pass.seat.me n (ended_met z m c.abort_own.new.pass.seat.me e) c.retire_border.ensures.met.1;
     }

@@ -67,6 +67,7 @@ returns g c = let z = c.args.space.now.table.shared.key in let m = c.args.pass.n
       quiet = ap (λ (u : TreeView). u.ranges.own) same ∙ e.quiet;
       steps = subst (λ (u : TreeView). OnlyRanges z m.0.upper u) (sym same) e.only;
       unfinished = ap (λ (u : TreeView). u.ranges.unfinished) same ∙ e.unfinished;
+      loads = ap (λ (u : TreeView). u.loads) same ∙ e.loads;
       still = (c.retire_border.ensures.met.0 ∙ e.lost, ap (λ (u : TreeView). u.turns) same ∙ e.turns);
       ended = (
         met_both 0 0 0 0 m mid n (ended_met z m mid e) c.retire_border.ensures.met.1,

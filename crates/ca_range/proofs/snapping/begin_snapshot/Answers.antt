@@ -1,4 +1,4 @@
-use Rattle.std.proofs.Common.{Option, List, false, sym, ap, subst, ◌∙◌}
+use Rattle.std.proofs.Common.{Option, List, false, ◌+◌, ◌≤◌, sym, ap, subst, ◌∙◌, arith}
 use Rattle.ca_base.specs.Counting.{HasMet}
 use Rattle.ca_base.specs.Putting.{first_note}
 use Rattle.ca_model.specs.Edges.{bound_of}
@@ -7,21 +7,24 @@ use Rattle.ca_node.specs.TreeView.{Note}
 use Rattle.ca_range.specs.Attempts.{CountsJoin}
 use Rattle.ca_range.specs.Clearing.{HasGone}
 use Rattle.ca_range.specs.Filling.{IsUseOf}
+use Rattle.ca_range.specs.Loading.{begin_loads}
 use Rattle.ca_range.specs.Looking.{HasLooked, IsFirst, IsNotEnough}
 use Rattle.ca_range.specs.Snapping.{snapped_so}
 use Rattle.ca_range.specs.Snapshots.{HasRun, HasSnapped, IsInBudget}
 use Rattle.ca_range.specs.Using.{HasFoundOf}
 use Rattle.ca_range.specs.declared.account.Range.{Range}
+use Rattle.ca_range.specs.declared.gathering.Further.TheVariants as further
 use Rattle.ca_range.specs.declared.looking.Looked.TheVariants as looked
 use Rattle.ca_range.specs.declared.sought.Snapped.{Snapped}
 use Rattle.ca_range.proofs.Filled.{last_shown, raised_met}
 use Rattle.ca_range.proofs.FirstBases.{first_still}
 use Rattle.ca_range.proofs.FirstRuns.{first_run}
-use Rattle.ca_range.proofs.GoingOn.{begun_after, goes_steps}
+use Rattle.ca_range.proofs.GoingOn.{begun_after, goes_steps, no_run_refused, no_run_so, stays_pinned}
 use Rattle.ca_range.proofs.OwnSteps.{goes_reads, pinned_both}
 use Rattle.ca_range.proofs.Readied.{ready_reads, ready_still}
 use Rattle.ca_range.proofs.SnapshotSteps.{budget_refused, budget_so, gone_snaps, met_on, more_turns, no_less_both, ranges_both, ranges_by_steps, refused_after, refused_so, snapped_after, spent_on, steps_on, walked_still}
 use Rattle.ca_range.proofs.Spends.{on_both}
+use Rattle.ca_range.proofs.Loaded.{begins_few, begins_helped, ends_few}
 use Rattle.ca_range.proofs.snapping.begin_snapshot.Goals as goal
 
 pub returns-in-Done-clause-begun : goal.returns-in-Done-clause-begun
@@ -80,13 +83,17 @@ begin_range-requires-clause-settled g c = let z = c.args.space.now.table.shared.
 
 pub begin_range-requires-clause-needed : goal.begin_range-requires-clause-needed
 begin_range-requires-clause-needed g c = let e = c.walk_to_first-first.ensures in
-    let last = c.in-Ok-None.ensures.in_use.0.last ∙ ap (λ (x : MyTree). x.0.upper.last) c.look.ensures.frame.still in
-    subst (λ (n : Note). IsNotEnough g.F.Fn c.args.search.now.sought.now n) (sym last) record {
-      holds = e.holds;
-      counted = c.in-On.field-0;
-      key = c.look.new.key.items;
-      looked = subst (λ (n : Note). HasLooked g.F.Fn c.args.search.now.sought.now 0 (looked.On c.in-On.field-0) c.look.new.key.items n) (sym e.last) c.in-On.ensures.looked;
-    }
+    let last = c.in-Ok-None.ensures.in_use.0.last ∙ ap (λ (x : MyTree). x.0.upper.last) c.look.ensures.frame.still in (
+      subst (λ (n : Note). IsNotEnough g.F.Fn c.args.search.now.sought.now n) (sym last) record {
+        holds = e.holds;
+        counted = c.in-On.field-0;
+        key = c.look.new.key.items;
+        looked = subst (λ (n : Note). HasLooked g.F.Fn c.args.search.now.sought.now 0 (looked.On c.in-On.field-0) c.look.new.key.items n) (sym e.last)
+            c.in-On.ensures.looked;
+      },
+      last ∙ (e.last ∙ (sym (ap (λ (x : MyTree). first_note x.0.upper.notes) c.look.ensures.frame.still)
+          ∙ sym (ap first_note c.in-Ok-None.ensures.in_use.0.all.notes))),
+    )
 
 pub returns-clause-steps : goal.returns-clause-steps
 returns-clause-steps g c = let z = c.args.space.now.table.shared.key in let m = c.args.pass.now.seat.me in
@@ -159,3 +166,41 @@ returns-in-Ok-Some-clause-in_budget g c = budget_refused c.args.search.now.budge
 pub returns-in-Err-clause-in_budget : goal.returns-in-Err-clause-in_budget
 returns-in-Err-clause-in_budget g c = subst (λ (s : Snapped). IsInBudget c.args.search.now.budget c.range_in_use.new.account.spent s) (sym c.after_help.ensures)
     (budget_so c.args.search.now.budget c.range_in_use.new.account.spent c.in-Err.helped)
+
+pub returns-in-Done-clause-loads : goal.returns-in-Done-clause-loads
+returns-in-Done-clause-loads g c = let few = c.walk_to_first-first.ensures.loads in
+    let same = ap (λ (x : MyTree). x.0.upper.loads) c.look.ensures.frame.still in omega arith
+
+pub returns-in-Ok-Some-clause-loads : goal.returns-in-Ok-Some-clause-loads
+returns-in-Ok-Some-clause-loads g c = let z = c.args.space.now.table.shared.key in let v = c.range_in_use.new.pass.seat.me in
+    let w = c.help_first.new.pass.seat.me in let few = c.walk_to_first-first.ensures.loads in
+    let same = ap (λ (x : MyTree). x.0.upper.loads) c.look.ensures.frame.still in let same' = c.in-Ok-Some.ensures.in_use.0.loads in
+    let more = ends_few z v.0.upper w.0.upper c.help_first.ensures.loads in
+    begins_helped z c.help_first.result c.args.pass.now.seat.me.0.upper w.0.upper
+    (no_run_refused c.args.search.now.budget c.help_first.new.account.spent c.help_first.result v w c.help_first.ensures.refused) (omega arith)
+
+pub returns-in-Err-clause-loads : goal.returns-in-Err-clause-loads
+returns-in-Err-clause-loads g c = let z = c.args.space.now.table.shared.key in let u = c.args.pass.now.seat.me.0.upper in
+    let w = c.range_in_use.new.pass.seat.me.0.upper in let few = c.walk_to_first-first.ensures.loads in
+    let same = ap (λ (x : MyTree). x.0.upper.loads) c.look.ensures.frame.still in let both = c.in-Err.ensures.in_use.loads in
+    subst (λ (s : Snapped). w.loads ≤ u.loads + begin_loads z (further.Ended s)) (sym c.after_help.ensures)
+    (begins_helped z (snapped_so c.in-Err.helped) u w (no_run_so c.in-Err.helped) (omega arith))
+
+pub returns-clause-loads : goal.returns-clause-loads
+returns-clause-loads g c = let few = c.walk_to_first-first.ensures.loads in
+    let same = ap (λ (x : MyTree). x.0.upper.loads) c.look.ensures.frame.still in let same' = c.in-Ok-None.ensures.in_use.0.loads in
+    let none = c.begin_range.ensures.loads in
+    begins_few c.args.space.now.table.shared.key c.begin_range.result c.args.pass.now.seat.me.0.upper c.begin_range.new.pass.seat.me.0.upper (omega arith)
+
+pub returns-in-Ok-Some-clause-frame : goal.returns-in-Ok-Some-clause-frame
+returns-in-Ok-Some-clause-frame g c = let space = c.args.space.now in let z = space.table.shared.key in let p = c.args.pass.now in
+    let q = c.walk_to_first-first.new.pass in let r = c.look.new.pass in let t = c.range_in_use.new.pass in let e = c.walk_to_first-first.ensures in
+    let a = c.args.account.now.spent in let b = c.range_in_use.new.account.spent in let learns = c.in-Ok-Some.ensures.in_use.0 in
+    let ready = ready_still space p q c.requires.ready e.frame e.raised e.steps in
+    let walked = walked_still z p.seat.me q.seat.me r.seat.me t.seat.me e.raised e.steps e.turns c.look.ensures.frame.still a in
+    pinned_both space p t c.help_first.new.pass
+    (pinned_both space p r t
+    (pinned_both space p q r (goes_steps space a a p q c.requires.ready e.frame e.raised e.no_join e.steps walked).frame
+    (goes_reads space a q r ready c.look.ensures.frame).frame)
+    (goes_steps space a b r t (ready_reads space q r ready c.look.ensures.frame) learns.frame learns.raised learns.no_join learns.steps
+    c.range_in_use.ensures.counted).frame) (stays_pinned space t c.help_first.new.pass c.help_first.ensures.frame)

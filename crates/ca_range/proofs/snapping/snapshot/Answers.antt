@@ -2,6 +2,7 @@ use Rattle.std.proofs.Common.{arith}
 use Rattle.ca_range.proofs.OwnSteps.{number_on, pinned_both, ready_on, ready_stays, snapped_by}
 use Rattle.ca_range.proofs.SnapshotSteps.{more_turns, ranges_both}
 use Rattle.ca_range.proofs.Spends.{on_both}
+use Rattle.ca_range.proofs.Loaded.{begins_most, ends_few}
 use Rattle.ca_range.proofs.snapping.snapshot.Goals as goal
 
 pub gather-requires-clause-ready : goal.gather-requires-clause-ready
@@ -44,3 +45,11 @@ returns-in-Ended-clause-snapped g c = c.in-Ended.ensures.begun
 
 pub returns-in-Ended-clause-in_budget : goal.returns-in-Ended-clause-in_budget
 returns-in-Ended-clause-in_budget g c = c.in-Ended.ensures.in_budget
+
+pub returns-in-On-clause-loads : goal.returns-in-On-clause-loads
+returns-in-On-clause-loads g c = let z = c.args.space.now.table.shared.key in let few = c.in-On.ensures.loads in
+    let more = ends_few z c.begin_snapshot.new.pass.seat.me.0.upper c.gather.new.pass.seat.me.0.upper c.gather.ensures.loads in omega arith
+
+pub returns-in-Ended-clause-loads : goal.returns-in-Ended-clause-loads
+returns-in-Ended-clause-loads g c = let z = c.args.space.now.table.shared.key in
+    begins_most z c.begin_snapshot.result c.args.pass.now.seat.me.0.upper c.begin_snapshot.new.pass.seat.me.0.upper c.begin_snapshot.ensures.loads

@@ -81,7 +81,8 @@ returns-then-cursor-placed-clause-tried c =
     c.walk-cursor.ensures.walked c.if-cursor-placed.true
     (HasTriedOnce c.args.tree.now.space.table.shared.key c.walk-cursor.new.pass.seat.me.0.upper.last
     c.walk-cursor.new.pass.seat.me.0.upper.renewal.splits c.walk-cursor.new.pass.seat.me.0.upper.splits adapted.Stay
-    × (c.walk-cursor.new.pass.seat.me.0.upper.joins ≡ c.walk-cursor.new.pass.seat.me.0.upper.renewal.joins))
+    × (c.walk-cursor.new.pass.seat.me.0.upper.joins ≡ c.walk-cursor.new.pass.seat.me.0.upper.renewal.joins)
+    × (c.walk-cursor.new.pass.seat.me.0.upper.loads ≡ c.walk-cursor.new.pass.seat.me.0.upper.shown))
 
 pub returns-then-cursor-placed-clause-counted : goal.returns-then-cursor-placed-clause-counted
 returns-then-cursor-placed-clause-counted c =

@@ -1,4 +1,4 @@
-use Rattle.std.proofs.Common.{rules, ◌≡◌, ℕ, List, [], ◌∷◌, length, Option, Some, true, refl, sym, ap, ◌∙◌, subst, arith}
+use Rattle.std.proofs.Common.{rules, ◌≡◌, ◌+◌, ℕ, List, [], ◌∷◌, length, Option, Some, true, refl, sym, ap, ◌∙◌, subst, arith}
 use Rattle.ca_base.specs.Putting.{first_note}
 use Rattle.ca_model.specs.Edges.{Included}
 use Rattle.ca_node.specs.Told.{MyTree}
@@ -7,6 +7,9 @@ use Rattle.ca_node.specs.Walking.{IsLowRoute}
 use Rattle.ca_range.specs.Reaching.{IsKeyShown}
 use Rattle.ca_replace.specs.Aside.{HasGoneLeft, HasLookedLeft, IsEndOfLooks, MayGoLeft}
 use Rattle.ca_replace.proofs.LooksLeft.{aside_bound, aside_low, gone_left, may_go_first, may_go_on, aside_readable, left_none, low_shown, one_more_left}
+use Rattle.ca_replace.specs.Loading.{LoadsFew}
+use Rattle.ca_replace.proofs.Pacing.{paid_more}
+use Rattle.ca_replace.proofs.ReadLoads.{look_more}
 use Rattle.ca_replace.proofs.aside.look_left.Goals as goal
 
 none_there : (objects : List (List ℕ)) → length objects ≡ 0 → objects ≡ []
@@ -22,6 +25,7 @@ loop-cursor-init c = record {
   looked = left_none c.args.space.now.table.shared.key c.args.spent.now c.args.pass.now.seat.me;
   may = may_go_first c.args.space.now.table.shared.key c.args.from c.args.pass.now.seat.me c.requires.from;
   unspent = c.requires.unspent;
+  loads = omega arith;
 }
 
 pub returns-then-spent_in_all-budget-clause-looked : goal.returns-then-spent_in_all-budget-clause-looked
@@ -91,6 +95,9 @@ loop-cursor-preserved c = let z = c.args.space.now.table.shared.key in let m = c
           (none_there (first_note n.0.upper.notes).objects (let many = c.count.ensures.count (first_note n.0.upper.notes)
           (aside_readable z c.loop-cursor.route cursor m n h c.requires.leaf) in let none = c.if-count-gt0.false in omega arith)));
       unspent = omega arith;
+      loads = subst (λ (x : MyTree). LoadsFew (z.levels + 1) 0 x.0.upper.loads c.args.pass.now.seat.me x) (sym c.count.ensures.frame.still)
+          (look_more z c.loop-cursor.route cursor c.args.pass.now.seat.me m n h
+          (paid_more c.args.spent.now a c.args.pass.now.seat.me m c.loop-cursor.invariant.looked.paid) c.loop-cursor.invariant.loads);
     }
 
 pub look_aside-cursor-requires-clause-from : goal.look_aside-cursor-requires-clause-from
@@ -111,3 +118,23 @@ returns-then-count-gt0-clause-gone c = let z = c.args.space.now.table.shared.key
     subst (λ (x : MyTree). HasGoneLeft z c.args.from c.args.pass.now.seat.me x) (sym (c.copy_key.ensures.frame.still ∙ c.count.ensures.frame.still))
     (gone_left z c.loop-cursor.route c.look_aside-cursor.result c.loop-cursor.pass.seat.me c.look_aside-cursor.new.pass.seat.me
     c.look_aside-cursor.ensures.looked c.args.from c.args.pass.now.seat.me c.loop-cursor.invariant.may)
+
+pub returns-then-spent_in_all-budget-clause-loads : goal.returns-then-spent_in_all-budget-clause-loads
+returns-then-spent_in_all-budget-clause-loads c = let z = c.args.space.now.table.shared.key in let m = c.loop-cursor.pass.seat.me in
+    look_more z c.loop-cursor.route c.look_aside-cursor.result c.args.pass.now.seat.me m c.look_aside-cursor.new.pass.seat.me
+    c.look_aside-cursor.ensures.looked
+    (paid_more c.args.spent.now c.loop-cursor.spent c.args.pass.now.seat.me m c.loop-cursor.invariant.looked.paid) c.loop-cursor.invariant.loads
+
+pub returns-in_default-clause-loads : goal.returns-in_default-clause-loads
+returns-in_default-clause-loads c = let z = c.args.space.now.table.shared.key in let m = c.loop-cursor.pass.seat.me in
+    look_more z c.loop-cursor.route c.look_aside-cursor.result c.args.pass.now.seat.me m c.look_aside-cursor.new.pass.seat.me
+    c.look_aside-cursor.ensures.looked
+    (paid_more c.args.spent.now c.loop-cursor.spent c.args.pass.now.seat.me m c.loop-cursor.invariant.looked.paid) c.loop-cursor.invariant.loads
+
+pub returns-then-count-gt0-clause-loads : goal.returns-then-count-gt0-clause-loads
+returns-then-count-gt0-clause-loads c = let z = c.args.space.now.table.shared.key in let m = c.loop-cursor.pass.seat.me in
+    subst (λ (x : MyTree). LoadsFew (z.levels + 1) 0 x.0.upper.loads c.args.pass.now.seat.me x)
+    (sym (c.copy_key.ensures.frame.still ∙ c.count.ensures.frame.still))
+    (look_more z c.loop-cursor.route c.look_aside-cursor.result c.args.pass.now.seat.me m c.look_aside-cursor.new.pass.seat.me
+    c.look_aside-cursor.ensures.looked
+    (paid_more c.args.spent.now c.loop-cursor.spent c.args.pass.now.seat.me m c.loop-cursor.invariant.looked.paid) c.loop-cursor.invariant.loads)

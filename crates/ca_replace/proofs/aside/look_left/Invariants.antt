@@ -1,6 +1,7 @@
-use Rattle.std.proofs.Common.{◌≡◌, ◌-◌, ◌<◌}
+use Rattle.std.proofs.Common.{◌≡◌, ◌+◌, ◌-◌, ◌<◌}
 use Rattle.ca_replace.specs.Aside.{HasLookedLeft, MayGoLeft}
 use Rattle.ca_replace.specs.Attempting.{total}
+use Rattle.ca_replace.specs.Loading.{LoadsFew}
 use Rattle.ca_rows.specs.Calls.{IsSame}
 use Rattle.ca_replace.proofs.aside.look_left.Given as goal
 
@@ -13,6 +14,7 @@ invariant-loop-cursor l = record {
   looked : HasLookedLeft l.space.table.shared.key l.fn.spent l.spent l.fn.pass.seat.me l.pass.seat.me;
   may : MayGoLeft l.space.table.shared.key l.from l.route l.fn.pass.seat.me l.pass.seat.me;
   unspent : total l.spent < l.budget;
+  loads : LoadsFew (l.space.table.shared.key.levels + 1) 0 l.pass.seat.me.0.upper.loads l.fn.pass.seat.me l.pass.seat.me;
 }
 
 abbrev pub decreases-loop-cursor : goal.decreases-loop-cursor

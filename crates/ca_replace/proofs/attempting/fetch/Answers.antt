@@ -1,4 +1,4 @@
-use Rattle.std.proofs.Common.{ℕ, map, Ok, sym, subst, ap, rules}
+use Rattle.std.proofs.Common.{ℕ, map, Ok, sym, subst, ap, arith, rules}
 use Rattle.std.specs.Prelude.{Result}
 use Rattle.ca_model.specs.Places.{IsPlace}
 use Rattle.ca_node.specs.Row.{pair}
@@ -73,3 +73,10 @@ returns-in-Err-clause-looked c =
     HasLooked c.args.space.now c.args.key.now c.find-place.result.0 p c.args.pass.now
     c.find-place.new.pass) c.in-Err.is
     c.find-place.ensures.looked
+
+pub returns-in-Ok-clause-loads : goal.returns-in-Ok-clause-loads
+returns-in-Ok-clause-loads c = let still = ap (λ (m : MyTree). m.0.upper.loads) c.copy_at.ensures.frame.still in let few = c.find-place.ensures.loads in
+    omega arith
+
+pub returns-in-Err-clause-loads : goal.returns-in-Err-clause-loads
+returns-in-Err-clause-loads c = c.find-place.ensures.loads

@@ -1,4 +1,4 @@
-use Rattle.std.proofs.Common.{sym, subst, ap, ◌∙◌, rules}
+use Rattle.std.proofs.Common.{sym, subst, ap, ◌∙◌, rules, arith}
 use Rattle.ca_node.specs.States.{IsUnanswered}
 use Rattle.ca_node.specs.Told.{MyTree}
 use Rattle.ca_replace.specs.Attempting.{IsLooking}
@@ -62,6 +62,8 @@ returns c = record {
         c.walk_again-cursor.new.pass.seat.me c.walk_again-cursor.result c.walk_again-cursor.ensures.walked
         c.requires.unanswered);
   };
+  loads = let still = ap (λ (m : MyTree). m.0.upper.loads) c.search-place.ensures.frame.still in
+      let now = ap (λ (m : MyTree). m.0.upper.loads) c.walk_again-cursor.ensures.walked.now in let few = c.walk_again-cursor.ensures.walked.few in omega arith;
   met = ap (λ (m : MyTree). m.0.upper.ranges.unfinished) c.search-place.ensures.frame.still
       ∙ ap (λ (m : MyTree). m.0.upper.ranges.unfinished) c.walk_again-cursor.ensures.walked.now;
 }

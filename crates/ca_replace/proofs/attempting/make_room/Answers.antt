@@ -13,6 +13,7 @@ use Rattle.ca_replace.proofs.Winning.{room_won}
 use Rattle.ca_replace.specs.declared.adapting.Course.{Course}
 use Rattle.ca_replace.specs.Turning.{IsTurn}
 use Rattle.ca_rows.specs.Told.{met_of}
+use Rattle.ca_replace.proofs.Loads.{room_loads}
 use Rattle.ca_replace.proofs.attempting.make_room.Goals as goal
 
 pub returns-clause-further : goal.returns-clause-further
@@ -43,7 +44,7 @@ returns-clause-turn c key looking full = let z = c.args.tree.now.space.table.sha
     let least = (tuned_on c.args.tree.now).allowed.least_leaf in
     let leaf = (tuned_on c.args.tree.now).leaf in let over = c.requires.many.1 in
     subst (λ (x : Halt × Course). IsTurn {T = Unit {0}} (λ _. true) (Some key) z
-    c.args.tree.now.tuning c.args.course.now x.1 (met_of m') (Err x.0) m m')
+    c.args.tree.now.tuning 0 c.args.course.now x.1 (met_of m') (Err x.0) m m')
     (λ i. (sym c.halt_of.ensures i, sym c.note_split.ensures i)) record {
       met_as = tt;
       gone_on = room_waits c.args.many _ r c.args.course.now.adapting course m.0.upper m'.0.upper
@@ -51,6 +52,7 @@ returns-clause-turn c key looking full = let z = c.args.tree.now.space.table.sha
       counted = room_paid c.args.many _ r c.args.course.now.spent course m m' split
           c.split_at-split.ensures.counted;
       found = room_found c.args.many _ r m m' c.split_at-split.ensures.found split;
+      loads = room_loads z c.args.many _ r m m' split;
       grown = λ alone. made_room z m.0.upper m'.0.upper key c.args.cursor c.args.many _ r looking
           alone c.requires.many.0 (omega arith) (omega arith) split;
       won = λ alone. room_won {T = Unit {0}} (λ _. true) c.args.many _ r m.0.upper m'.0.upper

@@ -1,6 +1,6 @@
 use Rattle.ca_node.specs.declared.cursor.Cursor.{Cursor}
 use Rattle.ca_replace.proofs.Again.{settled_stays}
-use Rattle.std.proofs.Common.{◌≡◌, Option, ◌≤◌, ℕ, ℤ, Result, OnOk, Ok, Err, Some, get_or, to_z, of_z, w32, Bool, true, false, length, sym, ap, ◌∙◌, subst, arith, map, rules}
+use Rattle.std.proofs.Common.{◌≡◌, Option, ◌≤◌, ℕ, ℤ, Result, OnOk, Ok, Err, Some, get_or, to_z, of_z, w32, Bool, true, false, length, sym, ap, ◌∙◌, subst, arith, map, ◌<◌}
 use Rattle.std.proofs.lemmas.Int.{ints, to_z-of_z}
 use Rattle.ca_replace.specs.declared.attempting.Halt.{Halt}
 use Rattle.ca_replace.specs.declared.attempting.Halt.TheVariants as halt
@@ -18,7 +18,7 @@ use Rattle.ca_replace.proofs.GoingOn.{is_new, known_then, settled_found, settled
 use Rattle.ca_replace.proofs.Showing.{shown_last, full_there}
 use Rattle.ca_rows.specs.Told.{met_of}
 use Rattle.ca_replace.proofs.DueCauses.{settled_met}
-use Rattle.ca_replace.proofs.Growing.{come_unsplit, settled_grown}
+use Rattle.ca_replace.proofs.Growing.{come_unsplit, settled_grown, tried_number}
 use Rattle.ca_replace.specs.Cutting.{IsFullFor}
 use Rattle.ca_replace.specs.Turning.{IsTurn}
 use Rattle.ca_replace.proofs.Cutting.{full_for, settled_cut}
@@ -28,6 +28,7 @@ use Rattle.ca_base.specs.Progress.{IsFurther}
 use Rattle.ca_model.specs.Places.{IsPlace}
 use Rattle.ca_replace.specs.Attempting.{IsLooking, StaysAt}
 use Rattle.ca_replace.proofs.Ready.{ready_after, ready_read, reads_both, stays_both, stays_read}
+use Rattle.ca_replace.proofs.Loads.{settled_loads}
 use Rattle.ca_replace.proofs.attempting.put_settled.Goals as goal
 
 no_room : (b : Bool) → b ≡ false → b ≡ true → ⊥
@@ -180,7 +181,14 @@ pub settle-requires-clause-ready : goal.settle-requires-clause-ready
 settle-requires-clause-ready c = ready_after
     (ready_read (reads_both c.count-many.ensures.frame
     c.next_statistic-statistic.ensures.frame) c.requires.ready)
-    c.put_at-tried.ensures.frame (search rules)
+    c.put_at-tried.ensures.frame (subst (λ (n : ℕ). 0 < n)
+    (sym (tried_number c.args.tree.now.space.table.shared.key (event_of c.args.insertion.now
+    (first_note c.next_statistic-statistic.new.pass.seat.me.0.upper.notes).objects) c.put_at-tried.result
+    c.next_statistic-statistic.new.pass.seat.me.0.upper c.put_at-tried.new.pass.seat.me.0.upper
+    c.put_at-tried.ensures.put
+    ∙ ap (λ (m : MyTree). m.0.upper.number) (c.next_statistic-statistic.ensures.frame.still
+    ∙ c.count-many.ensures.frame.still)))
+    c.requires.ready.number)
 
 pub returns-clause-full : goal.returns-clause-full
 returns-clause-full c = λ e. absurd (c.settle.ensures.deep e)
@@ -297,6 +305,7 @@ returns-clause-edited c = record {
         c.put_at-tried.new.pass.seat.me c.settle.new.pass.seat.me
         (c.next_statistic-statistic.ensures.frame.still ∙ c.count-many.ensures.frame.still)
         c.settle.ensures.come c.put_at-tried.ensures.found c.settle.ensures.settled;
+    loads = settled_loads c.put_at-tried.result (settling c);
     grown = settled_grown (settling c) (Some (key_in c.args.insertion.now.keyed))
         c.requires.looking.listed c.settle.ensures.grows;
     won = settled_won (settling c) c.requires.looking.listed c.put_at-tried.ensures.won
@@ -331,7 +340,7 @@ returns-then-not-has_room-clause-edited c = record {
       (λ n. IsRoom c.args.insertion.now.place c.count-many.result n)
       (tuned_on c.args.tree.now).leaf room)))
       (c.count-many.ensures.count (first_note u.notes) c.requires.looking.readable) in
-      subst (λ (m : MyTree). IsTurn {T = Unit {0}} (λ _. true) (Some key) z c.args.tree.now.tuning
+      subst (λ (m : MyTree). IsTurn {T = Unit {0}} (λ _. true) (Some key) z c.args.tree.now.tuning 0
       c.args.course.now c.make_room.new.course (met_of last) (Err c.make_room.result) m last) still
       (c.make_room.ensures.turn key
       (subst (λ (m : MyTree). IsLooking z m.0.upper key c.args.cursor) (sym still)

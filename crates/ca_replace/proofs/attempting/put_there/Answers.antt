@@ -1,4 +1,4 @@
-use Rattle.std.proofs.Common.{◌≡◌, Some, Err, true, false, ap, sym, refl, subst, ◌∙◌}
+use Rattle.std.proofs.Common.{◌≡◌, Some, Err, true, false, ap, sym, refl, subst, ◌∙◌, arith}
 use Rattle.ca_base.proofs.Fronted.{first_noted}
 use Rattle.ca_base.specs.Putting.{first_note}
 use Rattle.ca_base.specs.Targets.{event_of, key_in}
@@ -14,6 +14,7 @@ use Rattle.ca_replace.proofs.Helping.{edited_by_help, halt_of, help_not_deep, he
 use Rattle.ca_replace.proofs.Marking.{marked_look, same_note, still_unmet}
 use Rattle.ca_replace.proofs.Showing.{tried_on}
 use Rattle.ca_replace.proofs.Tuning.{tuned_on}
+use Rattle.ca_node.specs.Told.{MyTree}
 use Rattle.ca_replace.proofs.attempting.put_there.Goals as goal
 
 pub clear-requires-clause-number : goal.clear-requires-clause-number
@@ -76,7 +77,8 @@ returns-in-Free-clause-edited c = let l = c.in-Free.ensures.cleared in let marke
           (λ _. refl) (λ e. still_unmet l.0 l.2 (c.requires.idle.none_met refl) e) did.stays;
       turn = turn_tried look ready known new (λ (_ : Unit {0}). true) (Some (key_in c.args.insertion.now.keyed)) (Some (key_in c.args.insertion.now.keyed)) c.args.tree.now.tuning
           c.args.course.now b _ r (turn_marked (λ (_ : Unit {0}). true) (Some (key_in c.args.insertion.now.keyed)) z c.args.tree.now.tuning c.args.course.now
-          c.put_settled-done.new.course _ r c.clear.new.pass.seat.me new.seat.me marked did.turn);
+          c.put_settled-done.new.course _ r c.clear.new.pass.seat.me new.seat.me marked did.turn)
+          0 (let same = ap (λ (x : MyTree). x.0.upper.loads) l.2.3 in omega arith);
     }
 
 pub returns-in-Helped-clause-edited : goal.returns-in-Helped-clause-edited

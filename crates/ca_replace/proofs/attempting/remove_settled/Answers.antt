@@ -23,6 +23,7 @@ use Rattle.ca_replace.proofs.Winning.{settled_won}
 use Rattle.ca_node.specs.Row.{pair}
 use Rattle.ca_model.specs.Places.{IsPlace}
 use Rattle.ca_replace.proofs.Ready.{ready_after, ready_read, reads_both, stays_both, stays_read}
+use Rattle.ca_replace.proofs.Loads.{settled_loads}
 use Rattle.ca_replace.proofs.attempting.remove_settled.Goals as goal
 
 pub count-many-requires-clause-readable : goal.count-many-requires-clause-readable
@@ -196,6 +197,7 @@ returns-clause-edited c = record {
         c.remove_at-tried.new.pass.seat.me c.settle.new.pass.seat.me
         (c.next_statistic-statistic.ensures.frame.still ∙ c.count-many.ensures.frame.still)
         c.settle.ensures.come c.remove_at-tried.ensures.found c.settle.ensures.settled;
+    loads = settled_loads c.remove_at-tried.result (settling c);
     grown = settled_grown (settling c) None c.requires.looking.listed c.settle.ensures.grows;
     won = settled_won (settling c) c.requires.looking.listed c.remove_at-tried.ensures.won
         c.settle.ensures.won;

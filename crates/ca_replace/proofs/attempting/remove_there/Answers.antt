@@ -1,4 +1,4 @@
-use Rattle.std.proofs.Common.{◌≡◌, None, Some, Ok, Err, true, false, sym, refl, subst, ◌∙◌}
+use Rattle.std.proofs.Common.{◌≡◌, None, Some, Ok, Err, true, false, sym, refl, subst, ◌∙◌, ap, arith}
 use Rattle.ca_base.proofs.Fronted.{first_noted}
 use Rattle.ca_base.specs.Putting.{first_note}
 use Rattle.ca_base.specs.Putting.{object_at}
@@ -10,10 +10,11 @@ use Rattle.ca_replace.specs.declared.adapting.Course.{Course}
 use Rattle.ca_replace.specs.declared.attempting.Halt.{Halt}
 use Rattle.ca_replace.proofs.Again.{stays_behind}
 use Rattle.ca_replace.proofs.Behind.{frame_behind, ready_behind, turn_marked, turn_tried}
-use Rattle.ca_replace.proofs.Helping.{edited_by_help}
+use Rattle.ca_replace.proofs.Helping.{edited_by_help, halt_of, help_not_deep}
 use Rattle.ca_replace.proofs.Marking.{marked_look, same_note, still_unmet}
 use Rattle.ca_replace.proofs.Showing.{tried_on}
 use Rattle.ca_replace.proofs.Tuning.{tuned_on}
+use Rattle.ca_node.specs.Told.{MyTree}
 use Rattle.ca_replace.proofs.attempting.remove_there.Goals as goal
 
 pub clear-requires-clause-number : goal.clear-requires-clause-number
@@ -76,7 +77,8 @@ returns-in-Free-clause-edited c = let l = c.in-Free.ensures.cleared in let marke
           (λ _. refl) (λ e. still_unmet l.0 l.2 (c.requires.idle.none_met refl) e) did.stays;
       turn = turn_tried look ready known new (λ (_ : Unit {0}). true) None None c.args.tree.now.tuning
           c.args.course.now b _ r (turn_marked (λ (_ : Unit {0}). true) None z c.args.tree.now.tuning c.args.course.now
-          c.remove_settled-done.new.course _ r c.clear.new.pass.seat.me new.seat.me marked did.turn);
+          c.remove_settled-done.new.course _ r c.clear.new.pass.seat.me new.seat.me marked did.turn)
+          0 (let same = ap (λ (x : MyTree). x.0.upper.loads) l.2.3 in omega arith);
     }
 
 pub returns-in-Helped-clause-edited : goal.returns-in-Helped-clause-edited
@@ -87,3 +89,6 @@ returns-in-Helped-clause-edited c = let z = c.args.tree.now.space.table.shared.k
     (λ i. (sym c.after_help.ensures.halt i, sym c.after_help.ensures.course i))
     (edited_by_help c.args.tree.now.space c.args.tree.now.tuning (tells (first_note c.args.pass.now.seat.me.0.upper.notes) tt) c.args.removal.now.key.now None
     c.args.course.now c.in-Helped.helped c.in-Helped.spent c.args.pass.now c.clear.new.pass c.in-Helped.ensures.cleared c.requires.looking.known)
+
+pub returns-in-Helped-clause-deep : goal.returns-in-Helped-clause-deep
+returns-in-Helped-clause-deep c = λ e. help_not_deep c.in-Helped.helped (sym c.after_help.ensures.halt ∙ ap halt_of e)

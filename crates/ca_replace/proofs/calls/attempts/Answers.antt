@@ -1,4 +1,4 @@
-use Rattle.std.proofs.Common.{◌≡◌, ℕ, ◌<◌, refl, ap, ◌∙◌, sym, subst, inl, inr, vec_len, Result, false, true, arith}
+use Rattle.std.proofs.Common.{◌≡◌, ℕ, ◌<◌, refl, ap, ◌∙◌, sym, subst, inl, inr, vec_len, Result, false, true, arith, ◌+◌}
 use Rattle.ca_base.specs.declared.stop.Stop.TheVariants as stop
 use Rattle.ca_replace.specs.declared.attempting.Halt.{Halt}
 use Rattle.ca_replace.specs.declared.attempting.Halt.TheVariants as halt
@@ -23,6 +23,10 @@ use Rattle.ca_replace.specs.Cutting.{HasCutFull}
 use Rattle.ca_replace.proofs.Cutting.{cut_refused, cuts_so_far, none_full, stopped_cut}
 use Rattle.ca_replace.proofs.Winning.{stop_won, won_behind, won_refused}
 use Rattle.ca_rows.specs.declared.sizes.Sizes.{Sizes}
+use Rattle.ca_model.specs.declared.outcome.Cause.{Cause}
+use Rattle.ca_range.specs.Loading.{help_loads}
+use Rattle.ca_replace.specs.Loading.{LoadsFew, LoadsInAttempts, loads_until, most_loads, unpaid}
+use Rattle.ca_replace.proofs.Loads.{HasLoadedYet, loads_come, loads_refused, none_loaded}
 use Rattle.ca_replace.proofs.calls.attempts.Goals as goal
 
 -- what an attempt comes to that found no row
@@ -52,6 +56,7 @@ loop-come-init g c = record {
       c.args.pass.now.seat.me.0.upper.cuts refl;
   worn = refl;
   first = inl (refl, refl);
+  loads = none_loaded c.args.tree.now.space.table.shared.key c.args.pass.now.seat.me;
   yet = none_yet _ _ c.args.pass.now.seat.me;
 }
 
@@ -151,6 +156,13 @@ loop-come-preserved g c = let i = c.loop-come.invariant in
       lags = (c.in_default.ensures.again refl).unlagged
           ∙ (c.turns-come.ensures.pinned.lags ∙ i.lags);
       first = inr emptied;
+      loads = let z = c.args.tree.now.space.table.shared.key in let m = c.loop-come.pass.seat.me in let n = c.turns-come.new.pass.seat.me in
+          let p = c.refill.new.pass.seat.me in let edits = λ (x : _). g.A.Attempt.edits c.args.order.now.what.now x in
+          loads_refused z c.args.pass.now.seat.me m n p c.loop-come.invariant.loads c.turns-come.ensures.paced.pins c.turns-come.ensures.paced.more
+          c.refill.ensures.gave.upper c.refill.ensures.gave.bounded.0
+          (paid_more c.turns-come.new.course.spent c.refill.new.spent n p c.refill.ensures.counted) (help_loads z) n.0.upper.loads (omega arith) refl
+          (subst (λ (x : Result _ Halt). LoadsFew (most_loads z) ((z.levels + 1) + unpaid z x) (loads_until edits x n.0.upper) m n)
+          (c.if-is_empty.ensures.0 refl) c.turns-come.ensures.loads);
       yet = bounded_yet (vec_len c.loop-come.pass.kept.rows) (vec_len c.args.pass.now.kept.rows) start before behind last i.yet
           c.turns-come.ensures.paced c.turns-come.ensures.pinned.looks c.refill.ensures.gave.bounded.0 c.refill.ensures.gave.bounded.1
           c.refill.ensures.gave.lags.1
@@ -400,3 +412,21 @@ returns-else-is_empty-clause-turns g c = record {
       c.turns-come.new.pass.seat.me.0.upper c.loop-come.invariant.full
       c.turns-come.ensures.turns.cut);
 }
+
+pub returns-in-Err-clause-loads : goal.returns-in-Err-clause-loads
+returns-in-Err-clause-loads g c = (let z = c.args.tree.now.space.table.shared.key in let m = c.loop-come.pass.seat.me in let n = c.turns-come.new.pass.seat.me in
+    let p = c.refill.new.pass.seat.me in let edits = λ (x : _). g.A.Attempt.edits c.args.order.now.what.now x in
+    loads_refused z c.args.pass.now.seat.me m n p c.loop-come.invariant.loads c.turns-come.ensures.paced.pins c.turns-come.ensures.paced.more
+    c.refill.ensures.gave.upper c.refill.ensures.gave.bounded.0
+    (paid_more c.turns-come.new.course.spent c.refill.new.spent n p c.refill.ensures.counted) (help_loads z) n.0.upper.loads (omega arith) refl
+    (subst (λ (x : Result _ Halt). LoadsFew (most_loads z) ((z.levels + 1) + unpaid z x) (loads_until edits x n.0.upper) m n)
+    (c.if-is_empty.ensures.0 refl) c.turns-come.ensures.loads)).few
+
+pub returns-else-is_empty-clause-loads : goal.returns-else-is_empty-clause-loads
+returns-else-is_empty-clause-loads g c = let z = c.args.tree.now.space.table.shared.key in let k = c.args.pass.now.seat.me in
+    let m = c.loop-come.pass.seat.me in let n = c.turns-come.new.pass.seat.me in let p = c.keep_few.new.pass.seat.me in
+    let edits = λ (x : _). g.A.Attempt.edits c.args.order.now.what.now x in
+    subst (λ (x : Result _ Cause). LoadsInAttempts edits z x k p) (sym c.or_refusal.ensures)
+    (loads_come z k m n p c.loop-come.invariant.loads c.turns-come.ensures.paced.pins c.turns-come.ensures.paced.more c.keep_few.ensures.gave.upper
+    c.keep_few.ensures.gave.bounded.0 (kept_more c.keep_few.result n p c.keep_few.ensures.gave c.keep_few.ensures.lost) edits c.turns-come.result _ _
+    c.turns-come.ensures.loads)

@@ -8,6 +8,7 @@ use Rattle.ca_replace.specs.Cutting.{HasCutFull}
 use Rattle.ca_replace.specs.Growing.{HasWaited}
 use Rattle.ca_replace.specs.Resting.{IsResting}
 use Rattle.ca_replace.proofs.Pacing.{IsBoundedYet}
+use Rattle.ca_replace.proofs.Loads.{HasLoadedYet}
 use Rattle.ca_replace.proofs.calls.attempts.Given as goal
 
 abbrev pub invariant-loop-come : goal.invariant-loop-come
@@ -36,6 +37,7 @@ invariant-loop-come g l = record {
       × (l.pass.seat.me.0.pin.looks ≢ l.pass.seat.me.0.pin.begun_at));
   unspent : total l.course.spent < l.order.budget;
   lags : l.pass.seat.me.0.pin.lags ≡ l.fn.pass.seat.me.0.pin.lags;
+  loads : HasLoadedYet l.tree.space.table.shared.key l.fn.pass.seat.me l.pass.seat.me;
   yet : IsBoundedYet (vec_len l.pass.kept.rows) (vec_len l.fn.pass.kept.rows) l.fn.pass.seat.me l.pass.seat.me;
 }
 

@@ -14,10 +14,11 @@ use Rattle.ca_rows.specs.declared.tally.Tally.{Tally}
 use Rattle.ca_replace.specs.Resting.{IsResting}
 use Rattle.ca_replace.proofs.Turns.{MySeat}
 use Rattle.ca_replace.proofs.Alone.{first_number, lone_cause}
-use Rattle.ca_replace.proofs.Growing.{done_grows, refused_grows}
+use Rattle.ca_replace.proofs.Growing.{refused_grows}
 use Rattle.ca_replace.proofs.OneHand.{seen_still}
 use Rattle.ca_replace.proofs.Cutting.{refused_cuts}
 use Rattle.ca_replace.proofs.Winning.{refused_wins}
+use Rattle.ca_replace.proofs.Loads.{loads_told}
 use Rattle.ca_replace.proofs.calls.call.Goals as goal
 
 -- The pass is alone where the space is for one pass.
@@ -40,15 +41,15 @@ returns-in-Ok-clause-told g c = let space = c.args.tree.now.space.table.shared i
         c.attempts.ensures.lags,
       );
       bounded = c.attempts.ensures.bounded;
+      loads = c.in-Ok.ensures.loads;
       adapted = goes_leaves (g.A.Attempt.edits c.args.order.now.what.now c.in-Ok.answer)
           space.key c.args.tree.now.tuning
           (record { lost = false; last = c.args.last.now }) c.attempts.new.course.adapting
           pass.seat.me.0.upper last.seat.me.0.upper refl turns.gone_on;
       met_as = turns.met_as;
-      grows = λ one. done_grows space.key (g.A.Attempt.adds c.args.order.now.what.now)
-          pass.seat.me.0.upper last.seat.me.0.upper (turns.grown
+      grows = λ one. turns.grown
           (alone space.table_id space.key pass.number pass.tally pass.kept pass.seat
-          c.requires.resting one));
+          c.requires.resting one);
       wins = λ one. turns.won
           (alone space.table_id space.key pass.number pass.tally pass.kept pass.seat
           c.requires.resting one);
@@ -92,14 +93,18 @@ returns-in-Err-clause-told g c = let space = c.args.tree.now.space.table.shared 
       );
       bounded = bounded_as (vec_len pass.kept.rows) pass.seat.me last.seat.me behind.seat.me c.attempts.ensures.bounded
           (ap (λ (m : MyTree). m.0.pin) c.give_up.ensures.counted) (ap turns_at c.give_up.ensures.counted);
+      loads = loads_told edits space.key c.in-Err.why c.outcome_by.result pass.seat.me last.seat.me behind.seat.me c.outcome_by.ensures
+          (ap (λ (m : MyTree). m.0.upper.loads) c.give_up.ensures.counted) (ap (λ (m : MyTree). m.0.pin) c.give_up.ensures.counted)
+          (ap turns_at c.give_up.ensures.counted) c.in-Err.ensures.loads;
       adapted = leaves_refused edits space.key c.args.tree.now.tuning c.args.last.now c.in-Err.why
           c.outcome_by.result pass.seat.me.0.upper behind.seat.me.0.upper c.outcome_by.ensures
           (ap (λ (m : MyTree). m.0.upper.renewal) c.give_up.ensures.counted ∙ turns.gone_on.1)
           (ap (λ (m : MyTree). m.0.upper.tries) c.give_up.ensures.counted ∙ turns.gone_on.3);
       met_as = none_met_as edits c.args.last.now c.in-Err.why c.outcome_by.result behind.seat.me
           c.outcome_by.ensures;
-      grows = λ one. refused_grows space.key adds _ pass.seat.me.0.upper last.seat.me
-          behind.seat.me (turns.grown (here one)) c.give_up.ensures.counted;
+      grows = λ one. refused_grows space.key adds _ c.in-Err.why c.outcome_by.result pass.seat.me.0.upper
+          last.seat.me behind.seat.me c.outcome_by.ensures (turns.grown (here one))
+          c.give_up.ensures.counted;
       wins = λ one. refused_wins edits c.in-Err.why c.outcome_by.result pass.seat.me.0.upper
           behind.seat.me.0.upper c.outcome_by.ensures
           (ap (λ (m : MyTree). m.0.upper.lost) c.give_up.ensures.counted ∙ turns.won (here one));

@@ -7,7 +7,8 @@ use Rattle.ca_replace.proofs.Again.{known_since, may_follow, next_since, tried_s
 use Rattle.ca_replace.proofs.Between.{announced, first_since, may_first, paced_once}
 use Rattle.ca_replace.proofs.Counted.{met_then, met_turn, one_turn_less, paid_before, paid_turn}
 use Rattle.ca_replace.proofs.Meeting.{further_on}
-use Rattle.ca_replace.proofs.Pacing.{paced_next, paced_on, paid_to_more, turn_more}
+use Rattle.ca_replace.proofs.Loads.{loads_last}
+use Rattle.ca_replace.proofs.Pacing.{paced_next, paced_on, paid_more, paid_to_more, turn_more}
 use Rattle.ca_replace.proofs.Pinning.{pinned_as, pinned_once, pinned_still}
 use Rattle.ca_replace.proofs.Turns.{rests_again, rests_as, tried_unpinned, turn_further}
 use Rattle.ca_replace.proofs.Waiting.{moved_further, moved_quiet, turn_unpinned, turns_left, waits_more, waits_none, waits_quiet}
@@ -37,6 +38,7 @@ loop-course-init g c = let z = c.args.tree.now.space.table.shared.key in
       waiting = waits_none z (g.A.Attempt.adds c.args.order.now.what.now) _ _ k m (refl, refl)
           (moved_quiet k m pin u.seen [] [] ranges is)
           (ap (λ (x : MyTree). x.0.upper.seen) is)
+          (ap (λ (x : MyTree). x.0.upper.loads) is)
           (moved_further k m pin u.seen [] [] ranges is);
     }
 
@@ -106,7 +108,7 @@ loop-course-preserved g c = let z = c.args.tree.now.space.table.shared.key in
           let most = c.budget-budget.type_inv in let is = c.budget-budget.ensures in
           let same = ap total c.go_on.ensures.course.1 in omega arith;
       waiting = waits_quiet z adds c.args.course.now c.attempt-tried.new.course c.go_on.new.course
-          k n p c.go_on.ensures.course more on.quiet on.seen on.further;
+          k n p c.go_on.ensures.course more on.quiet on.seen on.loads on.further;
     }
 
 pub loop-course-smaller : goal.loop-course-smaller
@@ -215,3 +217,13 @@ returns-then-not-has_next-clause-turns g c = let z = c.args.tree.now.space.table
     c.loop-course.pass.seat.me c.attempt-tried.new.pass.seat.me c.unpin.new.pass.seat.me
     c.requires.resting.known c.loop-course.invariant.may.known c.loop-course.invariant.waiting
     c.attempt-tried.ensures.tried c.attempt-tried.ensures.turn c.unpin.ensures.unpinned
+
+pub returns-then-not-has_next-clause-loads : goal.returns-then-not-has_next-clause-loads
+returns-then-not-has_next-clause-loads g c = let z = c.args.tree.now.space.table.shared.key in let k = c.args.pass.now.seat.me in
+    let m = c.loop-course.pass.seat.me in let p = c.unpin.new.pass.seat.me in let x = c.loop-course.invariant.waiting in
+    let i = turn_unpinned (λ (y : _). g.A.Attempt.edits c.args.order.now.what.now y) z (g.A.Attempt.adds c.args.order.now.what.now)
+    c.args.tree.now.tuning c.loop-course.course c.attempt-tried.new.course c.attempt-tried.result m c.attempt-tried.new.pass.seat.me p
+    c.attempt-tried.ensures.turn c.unpin.ensures.unpinned in
+    loads_last (λ (y : _). g.A.Attempt.edits c.args.order.now.what.now y) z c.attempt-tried.result k m p
+    (paid_more c.args.course.now.spent c.loop-course.course.spent k m x.counted)
+    (paid_to_more c.attempt-tried.result c.loop-course.course.spent c.attempt-tried.new.course.spent m p i.counted) x.loads i.loads

@@ -2,6 +2,7 @@ use Rattle.std.proofs.Common.{◌≡◌, ◌<◌, ◌∙◌, ℕ, Err, Ok, ap, a
 use Rattle.ca_base.specs.Progress.{IsFurther}
 use Rattle.ca_model.specs.declared.outcome.Cause.{Cause}
 use Rattle.ca_node.specs.TreeView.{TreeView}
+use Rattle.ca_replace.specs.Acts.{acts_of}
 use Rattle.ca_replace.specs.Attempting.{total}
 use Rattle.ca_replace.specs.Causes.{IsRefill}
 use Rattle.ca_replace.specs.Ranging.{HasMissed, IsRangeCaused}
@@ -14,6 +15,7 @@ use Rattle.ca_replace.proofs.Pacing.{bounded_by, bounded_yet, kept_more, looked_
 use Rattle.ca_replace.proofs.Pinning.{begun_with, empty_before}
 use Rattle.ca_replace.proofs.Turns.{no_further}
 use Rattle.ca_rows.specs.declared.view.Met.{Met}
+use Rattle.ca_replace.proofs.ReadLoads.{none_read, read_both, read_still}
 use Rattle.ca_replace.proofs.ranging.attempts.Goals as goal
 
 pub loop-answer-init : goal.loop-answer-init
@@ -21,7 +23,7 @@ loop-answer-init g c = let m = c.args.pass.now.seat.me in record {
   number = refl;
   resting = c.requires.resting;
   further = no_further m.0.upper;
-  untried = refl;
+  acts = refl;
   counted = none_paid c.args.spent.now m m refl refl;
   looks = omega arith;
   worn = refl;
@@ -29,6 +31,7 @@ loop-answer-init g c = let m = c.args.pass.now.seat.me in record {
   unspent = let none = c.requires.none in let some = c.requires.budget in omega (arith, none.0, none.1, none.2);
   lags = refl;
   yet = none_yet _ _ m;
+  read = none_read c.args.tree.now.space.table.shared.key m;
 }
 
 pub tries-requires-clause-resting : goal.tries-requires-clause-resting
@@ -47,7 +50,7 @@ pub returns-in-Ok-clause-come : goal.returns-in-Ok-clause-come
 returns-in-Ok-clause-come g c = let z = c.args.tree.now.space.table.shared.key in
     let on = ranged_on (λ (x : _). g.L.Look.tells c.args.order.now.what.now z x c.tries.new.left) z (Ok c.in-Ok.answer)
     c.args.pass.now.seat.me.0.upper c.loop-answer.pass.seat.me.0.upper c.tries.new.pass.seat.me.0.upper
-    c.loop-answer.invariant.further c.loop-answer.invariant.untried c.in-Ok.ensures.tried in
+    c.loop-answer.invariant.further c.loop-answer.invariant.acts c.in-Ok.ensures.tried in
     (on.0, on.2)
 
 pub returns-in-Ok-clause-lags : goal.returns-in-Ok-clause-lags
@@ -96,10 +99,10 @@ returns-then-not-is_without_row-clause-rests g c = record {
 
 pub returns-then-not-is_without_row-clause-come : goal.returns-then-not-is_without_row-clause-come
 returns-then-not-is_without_row-clause-come g c = let u = c.args.pass.now.seat.me.0.upper in
-    subst (λ (v : TreeView). IsFurther u v × (v.tries ≡ u.tries)) (sym c.keep_few.ensures.gave.upper) (
+    subst (λ (v : TreeView). IsFurther u v × (acts_of v ≡ acts_of u)) (sym c.keep_few.ensures.gave.upper) (
       further_on u c.loop-answer.pass.seat.me.0.upper c.tries.new.pass.seat.me.0.upper c.loop-answer.invariant.further
           c.in-Err.ensures.tried.0,
-      c.in-Err.ensures.tried.2 ∙ c.loop-answer.invariant.untried,
+      c.in-Err.ensures.tried.2 ∙ c.loop-answer.invariant.acts,
     )
 
 pub returns-then-not-is_without_row-clause-caused :
@@ -145,10 +148,10 @@ returns-in-Err-refill-clause-rests g c = record {
 
 pub returns-in-Err-refill-clause-come : goal.returns-in-Err-refill-clause-come
 returns-in-Err-refill-clause-come g c = let u = c.args.pass.now.seat.me.0.upper in
-    subst (λ (v : TreeView). IsFurther u v × (v.tries ≡ u.tries)) (sym c.refill.ensures.gave.upper) (
+    subst (λ (v : TreeView). IsFurther u v × (acts_of v ≡ acts_of u)) (sym c.refill.ensures.gave.upper) (
       further_on u c.loop-answer.pass.seat.me.0.upper c.tries.new.pass.seat.me.0.upper c.loop-answer.invariant.further
           c.in-Err.ensures.tried.0,
-      c.in-Err.ensures.tried.2 ∙ c.loop-answer.invariant.untried,
+      c.in-Err.ensures.tried.2 ∙ c.loop-answer.invariant.acts,
     )
 
 pub returns-in-Err-refill-clause-caused : goal.returns-in-Err-refill-clause-caused
@@ -216,7 +219,7 @@ loop-answer-preserved g c = let i = c.loop-answer.invariant in let again = c.in_
       resting = c.refill.ensures.frame.resting;
       further = subst (IsFurther start.0.upper) (sym c.refill.ensures.gave.upper)
           (further_on start.0.upper before.0.upper behind.0.upper i.further c.in-Err.ensures.tried.0);
-      untried = ap (λ (v : TreeView). v.tries) c.refill.ensures.gave.upper ∙ (c.in-Err.ensures.tried.2 ∙ i.untried);
+      acts = ap acts_of c.refill.ensures.gave.upper ∙ (c.in-Err.ensures.tried.2 ∙ i.acts);
       counted = paid_both c.args.spent.now c.tries.new.spent c.refill.new.spent start behind last
           (paid_both c.args.spent.now c.loop-answer.spent c.tries.new.spent start before behind i.counted
           c.tries.ensures.counted) c.refill.ensures.counted;
@@ -230,6 +233,14 @@ loop-answer-preserved g c = let i = c.loop-answer.invariant in let again = c.in_
           (let found = emptied.0 in omega arith) emptied.1 (let looked = c.refill.ensures.looked in omega arith);
       unspent = again.unspent;
       lags = again.unlagged ∙ (c.tries.ensures.pinned.lags ∙ i.lags);
+      read = let z = c.args.tree.now.space.table.shared.key in
+          read_still z start behind last (ap (λ (v : TreeView). v.loads) c.refill.ensures.gave.upper) c.refill.ensures.gave.bounded.0
+          (paid_more c.tries.new.spent c.refill.new.spent behind last c.refill.ensures.counted)
+          (read_both z start before behind i.read record {
+            pins = let more = c.tries.ensures.paced.pins in omega arith;
+            turns = c.tries.ensures.paced.more;
+            few = c.tries.ensures.loads;
+          });
     }
 
 pub returns-in-Ok-clause-unspent : goal.returns-in-Ok-clause-unspent
@@ -240,3 +251,31 @@ returns-in-Ok-clause-unspent g c = let start = c.args.pass.now.seat.me in let be
       counted = paid_both c.args.spent.now c.loop-answer.spent c.tries.new.spent start c.loop-answer.pass.seat.me behind c.loop-answer.invariant.counted
           c.tries.ensures.counted;
     } c.in-Ok.ensures.in_budget
+
+pub returns-in-Ok-clause-loads : goal.returns-in-Ok-clause-loads
+returns-in-Ok-clause-loads g c = (
+    read_both c.args.tree.now.space.table.shared.key c.args.pass.now.seat.me c.loop-answer.pass.seat.me c.tries.new.pass.seat.me c.loop-answer.invariant.read record {
+      pins = let more = c.tries.ensures.paced.pins in omega arith;
+      turns = c.tries.ensures.paced.more;
+      few = c.tries.ensures.loads;
+    }).few
+
+pub returns-then-not-is_without_row-clause-loads : goal.returns-then-not-is_without_row-clause-loads
+returns-then-not-is_without_row-clause-loads g c = (read_still c.args.tree.now.space.table.shared.key c.args.pass.now.seat.me c.tries.new.pass.seat.me
+    c.keep_few.new.pass.seat.me (ap (λ (v : TreeView). v.loads) c.keep_few.ensures.gave.upper) c.keep_few.ensures.gave.bounded.0
+    (kept_more c.keep_few.result c.tries.new.pass.seat.me c.keep_few.new.pass.seat.me c.keep_few.ensures.gave c.keep_few.ensures.lost)
+    (read_both c.args.tree.now.space.table.shared.key c.args.pass.now.seat.me c.loop-answer.pass.seat.me c.tries.new.pass.seat.me c.loop-answer.invariant.read record {
+      pins = let more = c.tries.ensures.paced.pins in omega arith;
+      turns = c.tries.ensures.paced.more;
+      few = c.tries.ensures.loads;
+    })).few
+
+pub returns-in-Err-refill-clause-loads : goal.returns-in-Err-refill-clause-loads
+returns-in-Err-refill-clause-loads g c = (read_still c.args.tree.now.space.table.shared.key c.args.pass.now.seat.me c.tries.new.pass.seat.me
+    c.refill.new.pass.seat.me (ap (λ (v : TreeView). v.loads) c.refill.ensures.gave.upper) c.refill.ensures.gave.bounded.0
+    (paid_more c.tries.new.spent c.refill.new.spent c.tries.new.pass.seat.me c.refill.new.pass.seat.me c.refill.ensures.counted)
+    (read_both c.args.tree.now.space.table.shared.key c.args.pass.now.seat.me c.loop-answer.pass.seat.me c.tries.new.pass.seat.me c.loop-answer.invariant.read record {
+      pins = let more = c.tries.ensures.paced.pins in omega arith;
+      turns = c.tries.ensures.paced.more;
+      few = c.tries.ensures.loads;
+    })).few

@@ -5,6 +5,7 @@ use Rattle.ca_range.specs.Clearing.{turns_at}
 use Rattle.ca_replace.proofs.Misses.{range_still}
 use Rattle.ca_replace.proofs.Pacing.{bounded_as}
 use Rattle.ca_rows.specs.declared.kept.KeptRows.{KeptRows}
+use Rattle.ca_replace.proofs.ReadLoads.{read_refused}
 use Rattle.ca_replace.proofs.ranging.read_or_refuse.Goals as goal
 
 pub returns-in-Err-clause-caused : goal.returns-in-Err-clause-caused
@@ -18,3 +19,8 @@ pub returns-in-Err-clause-bounded : goal.returns-in-Err-clause-bounded
 returns-in-Err-clause-bounded g c = let last = c.attempts.new.pass in let counted = c.give_up.ensures.counted in
     bounded_as (vec_len c.args.pass.now.kept.rows) c.args.pass.now.seat.me last.seat.me c.give_up.new.pass.seat.me c.attempts.ensures.bounded
     (ap (λ (m : MyTree). m.0.pin) counted) (ap turns_at counted)
+
+pub returns-in-Err-clause-loads : goal.returns-in-Err-clause-loads
+returns-in-Err-clause-loads g c = let counted = c.give_up.ensures.counted in
+    read_refused c.args.tree.now.space.table.shared.key c.args.pass.now.seat.me c.attempts.new.pass.seat.me c.give_up.new.pass.seat.me
+    (ap (λ (m : MyTree). m.0.upper.loads) counted) (ap (λ (m : MyTree). m.0.pin) counted) (ap turns_at counted) c.attempts.ensures.loads

@@ -9,6 +9,7 @@ use Rattle.ca_replace.proofs.Misses.{err_then, missed_behind, ok_then, ranged_on
 use Rattle.ca_replace.proofs.Pacing.{paced_by, paced_then, paid_more}
 use Rattle.ca_replace.proofs.Pinning.{pinned_both}
 use Rattle.ca_replace.proofs.Turns.{no_further}
+use Rattle.ca_replace.proofs.ReadLoads.{none_read, read_both}
 use Rattle.ca_replace.proofs.ranging.tries.Goals as goal
 
 pub loop-spent-init : goal.loop-spent-init
@@ -16,12 +17,13 @@ loop-spent-init g c = let m = c.args.pass.now.seat.me in record {
   number = refl;
   resting = c.requires.resting;
   further = no_further m.0.upper;
-  untried = refl;
+  acts = refl;
   counted = none_paid c.args.spent.now m m refl refl;
   met = none_met m;
   unspent = c.requires.unspent;
   pinned = λ n h. h;
   paced = λ n h. h;
+  read = none_read c.args.tree.now.space.table.shared.key m;
 }
 
 pub try_once-tried-requires-clause-resting : goal.try_once-tried-requires-clause-resting
@@ -48,7 +50,7 @@ pub returns-then-not-is_again-clause-tried : goal.returns-then-not-is_again-clau
 returns-then-not-is_again-clause-tried g c = let z = c.args.tree.now.space.table.shared.key in
     ranged_on (λ (x : _). g.L.Look.tells c.args.order.now.what.now z x c.try_once-tried.new.left) z c.try_once-tried.result
     c.args.pass.now.seat.me.0.upper c.loop-spent.pass.seat.me.0.upper c.try_once-tried.new.pass.seat.me.0.upper
-    c.loop-spent.invariant.further c.loop-spent.invariant.untried c.try_once-tried.ensures.tried
+    c.loop-spent.invariant.further c.loop-spent.invariant.acts c.try_once-tried.ensures.tried
 
 pub returns-then-not-is_again-clause-counted : goal.returns-then-not-is_again-clause-counted
 returns-then-not-is_again-clause-counted g c = paid_both c.args.spent.now c.loop-spent.spent c.try_once-tried.new.spent
@@ -90,11 +92,25 @@ loop-spent-preserved g c = let again = c.if-not-is_again.ensures.0 refl in let i
       number = rests.number ∙ i.number;
       resting = rests.resting;
       further = further_on k.0.upper m.0.upper n.0.upper i.further further.0;
-      untried = further.2 ∙ i.untried;
+      acts = further.2 ∙ i.acts;
       counted = paid_both c.args.spent.now c.loop-spent.spent c.try_once-tried.new.spent k m n i.counted did.counted;
       met = met_both 0 0 0 0 k m n i.met missed.0;
       unspent = let room = c.if-spent_in_all-budget.false in let all = c.spent_in_all.ensures in
           let most = c.budget.type_inv in let is = c.budget.ensures in omega arith;
       pinned = λ x h. i.pinned x (pinned_both m n x did.pinned h);
       paced = λ x h. i.paced x (paced_then m n x did.once.0 missed.1 (let none = missed.0.0 in omega arith) h);
+      read = read_both z k m n i.read record {
+        pins = let once = did.once.0 in omega arith;
+        turns = paid_more c.loop-spent.spent c.try_once-tried.new.spent m n did.counted;
+        few = did.loads;
+      };
     }
+
+pub returns-then-not-is_again-clause-loads : goal.returns-then-not-is_again-clause-loads
+returns-then-not-is_again-clause-loads g c = let m = c.loop-spent.pass.seat.me in let n = c.try_once-tried.new.pass.seat.me in
+    let did = c.try_once-tried.ensures in
+    (read_both c.args.tree.now.space.table.shared.key c.args.pass.now.seat.me m n c.loop-spent.invariant.read record {
+      pins = let once = did.once.0 in omega arith;
+      turns = paid_more c.loop-spent.spent c.try_once-tried.new.spent m n did.counted;
+      few = did.loads;
+    }).few

@@ -1,7 +1,10 @@
-use Rattle.std.proofs.Common.{◌∙◌, Err, Ok, ap, sym}
+use Rattle.std.proofs.Common.{◌∙◌, Err, Ok, ap, refl, sym}
 use Rattle.ca_node.specs.Told.{MyTree}
+use Rattle.ca_replace.specs.Acts.{acts_of}
 use Rattle.ca_replace.proofs.Misses.{further_pinned, missed_further, missed_left, missed_pinned, now_by, now_left, paid_left, paid_pinned, pinned_by, pinned_left, ranged_on}
 use Rattle.ca_replace.proofs.Working.{work_after, work_first, work_left}
+use Rattle.ca_range.specs.Clearing.{turns_at}
+use Rattle.ca_replace.proofs.ReadLoads.{look_pinned}
 use Rattle.ca_replace.proofs.ranging.try_once.Goals as goal
 
 pub look-requires-clause-work : goal.look-requires-clause-work
@@ -30,7 +33,7 @@ returns-in-Ok-clause-tried g c = let z = c.args.tree.now.space.table.shared.key 
     ranged_on (λ (x : _). g.L.Look.tells c.args.order.now.what.now z x c.look.new.left) z (Ok c.in-Ok.answer)
     c.args.pass.now.seat.me.0.upper c.pin.new.pass.seat.me.0.upper c.look.new.pass.seat.me.0.upper
     (further_pinned c.pin.ensures.pinned.0 c.pin.ensures.pinned.1 c.args.pass.now.seat.me c.pin.new.pass.seat.me
-    c.pin.ensures.pinned.3) (ap (λ (m : MyTree). m.0.upper.tries) c.pin.ensures.pinned.3) c.in-Ok.ensures.tried
+    c.pin.ensures.pinned.3) (ap (λ (m : MyTree). acts_of m.0.upper) c.pin.ensures.pinned.3) c.in-Ok.ensures.tried
 
 pub returns-in-Ok-clause-counted : goal.returns-in-Ok-clause-counted
 returns-in-Ok-clause-counted g c = paid_pinned c.args.spent.now c.look.new.spent c.pin.ensures.pinned.0 c.pin.ensures.pinned.1
@@ -63,7 +66,7 @@ returns-in-Err-clause-tried g c = let z = c.args.tree.now.space.table.shared.key
     (ranged_on (λ (x : _). g.L.Look.tells c.args.order.now.what.now z x c.look.new.left) z (Err c.in-Err.why)
     u c.pin.new.pass.seat.me.0.upper v
     (further_pinned c.pin.ensures.pinned.0 c.pin.ensures.pinned.1 c.args.pass.now.seat.me c.pin.new.pass.seat.me
-    c.pin.ensures.pinned.3) (ap (λ (m : MyTree). m.0.upper.tries) c.pin.ensures.pinned.3) c.in-Err.ensures.tried)
+    c.pin.ensures.pinned.3) (ap (λ (m : MyTree). acts_of m.0.upper) c.pin.ensures.pinned.3) c.in-Err.ensures.tried)
 
 pub returns-in-Err-clause-counted : goal.returns-in-Err-clause-counted
 returns-in-Err-clause-counted g c = paid_left c.args.spent.now c.look.new.spent c.args.pass.now.seat.me c.look.new.pass.seat.me
@@ -81,3 +84,15 @@ pub returns-in-Err-clause-pinned : goal.returns-in-Err-clause-pinned
 returns-in-Err-clause-pinned g c = pinned_left c.args.pass.now.seat.me c.look.new.pass.seat.me c.unpin.new.pass.seat.me
     c.unpin.ensures.unpinned (pinned_by c.pin.ensures.pinned.0 c.pin.ensures.pinned.1 c.args.pass.now.seat.me
     c.pin.new.pass.seat.me c.look.new.pass.seat.me c.pin.ensures.pinned.3 c.look.ensures.frame.pin.1)
+
+pub returns-in-Ok-clause-loads : goal.returns-in-Ok-clause-loads
+returns-in-Ok-clause-loads g c = let k = c.args.pass.now.seat.me in let is = c.pin.ensures.pinned.3 in let n = c.look.new.pass.seat.me in
+    look_pinned c.args.tree.now.space.table.shared.key k c.pin.new.pass.seat.me n n (ap (λ (m : MyTree). m.0.upper.loads) is) (ap turns_at is)
+    c.look.ensures.loads refl refl (now_by c.pin.ensures.pinned.0 c.pin.ensures.pinned.1 k c.pin.new.pass.seat.me n is c.look.ensures.frame.pin.1).0
+
+pub returns-in-Err-clause-loads : goal.returns-in-Err-clause-loads
+returns-in-Err-clause-loads g c = let k = c.args.pass.now.seat.me in let is = c.pin.ensures.pinned.3 in let n = c.look.new.pass.seat.me in
+    let p = c.unpin.new.pass.seat.me in let left = c.unpin.ensures.unpinned in
+    look_pinned c.args.tree.now.space.table.shared.key k c.pin.new.pass.seat.me n p (ap (λ (m : MyTree). m.0.upper.loads) is) (ap turns_at is)
+    c.look.ensures.loads (ap (λ (m : MyTree). m.0.upper.loads) left) (ap turns_at left)
+    (now_left k n p left (now_by c.pin.ensures.pinned.0 c.pin.ensures.pinned.1 k c.pin.new.pass.seat.me n is c.look.ensures.frame.pin.1)).0

@@ -2,7 +2,8 @@ use Rattle.std.proofs.Common.{vec_len}
 use Rattle.ca_model.specs.Edges.{bound_of}
 use Rattle.ca_replace.specs.Ranging.{IsRangeCaused}
 use Rattle.ca_replace.specs.Within.{NeedsBelow}
-use Rattle.ca_replace.proofs.Leaving.{caused_behind, unspent_behind, untried_behind, bounded_behind}
+use Rattle.ca_replace.proofs.Leaving.{caused_behind, unspent_behind, acts_behind, bounded_behind}
+use Rattle.ca_replace.proofs.ReadLoads.{rests_loads}
 use Rattle.ca_replace.proofs.reading.below.Goals as goal
 
 pub returns-clause-caused : goal.returns-clause-caused
@@ -17,13 +18,18 @@ returns-clause-unspent c = let m = c.args.pass.now.seat.me in let read = c.read_
     unspent_behind m read.seat.me last.seat.me read.kept.rows last.kept.rows c.args.budget c.read_range-outcome.result c.rest_after.ensures.done
     c.read_range-outcome.ensures.unspent
 
-pub returns-clause-untried : goal.returns-clause-untried
-returns-clause-untried c = let m = c.args.pass.now.seat.me in let read = c.read_range-outcome.new.pass in let last = c.rest_after.new.pass in
-    untried_behind m read.seat.me last.seat.me read.kept.rows last.kept.rows c.read_range-outcome.result c.rest_after.ensures.done
-    c.rest_after.ensures.refused c.read_range-outcome.ensures.untried
+pub returns-clause-acts : goal.returns-clause-acts
+returns-clause-acts c = let m = c.args.pass.now.seat.me in let read = c.read_range-outcome.new.pass in let last = c.rest_after.new.pass in
+    acts_behind m read.seat.me last.seat.me read.kept.rows last.kept.rows c.read_range-outcome.result c.rest_after.ensures.done
+    c.rest_after.ensures.refused c.read_range-outcome.ensures.acts
 
 pub returns-clause-bounded : goal.returns-clause-bounded
 returns-clause-bounded c = let m = c.args.pass.now.seat.me in let read = c.read_range-outcome.new.pass in let last = c.rest_after.new.pass in
     bounded_behind m read.seat.me last.seat.me read.kept.rows last.kept.rows (vec_len c.args.pass.now.kept.rows) c.read_range-outcome.result
     c.rest_after.ensures.done c.rest_after.ensures.refused c.rest_after.ensures.frame.resting.left_before c.read_range-outcome.ensures.looked
     c.read_range-outcome.ensures.bounded
+
+pub returns-clause-loads : goal.returns-clause-loads
+returns-clause-loads c = let m = c.args.pass.now.seat.me in let read = c.read_range-outcome.new.pass in let last = c.rest_after.new.pass in
+    rests_loads c.args.tree.now.space.table.shared.key m read.seat.me last.seat.me read.kept.rows last.kept.rows c.read_range-outcome.result
+    c.rest_after.ensures.done c.rest_after.ensures.refused c.rest_after.ensures.frame.resting.left_before c.read_range-outcome.ensures.loads

@@ -212,22 +212,22 @@ put_there-requires-clause-ready g c =
 pub returns-in_default-clause-turn : goal.returns-in_default-clause-turn
 returns-in_default-clause-turn g c =
     turn_entered c.fetch-place.ensures.looked c.requires.ready c.requires.known c.enter.new.pass _ c.enter.ensures.frame c.enter.ensures.entered
-    is_put None c.args.tree.now.tuning c.args.course.now _ changed.Absent refl
+    is_put None c.args.tree.now.tuning c.args.course.now _ changed.Absent refl _ c.fetch-place.ensures.loads
 
 pub returns-then-not-f-clause-turn : goal.returns-then-not-f-clause-turn
 returns-then-not-f-clause-turn g c =
     turn_entered c.fetch-place.ensures.looked c.requires.ready c.requires.known c.enter-then-not-f.new.pass _ c.enter-then-not-f.ensures.frame c.enter-then-not-f.ensures.entered
-    is_put None c.args.tree.now.tuning c.args.course.now _ changed.Kept refl
+    is_put None c.args.tree.now.tuning c.args.course.now _ changed.Kept refl _ c.fetch-place.ensures.loads
 
 pub returns-in-Ok-put_there-clause-turn : goal.returns-in-Ok-put_there-clause-turn
 returns-in-Ok-put_there-clause-turn g c =
     turn_edited c.fetch-place.ensures.looked c.requires.ready c.requires.known c.put_there.new.pass is_put (Some _) None
-    c.args.tree.now.tuning c.args.course.now c.put_there.new.course _ changed.Put refl c.in-Ok-put_there.ensures.edited.turn
+    c.args.tree.now.tuning c.args.course.now c.put_there.new.course _ changed.Put refl c.in-Ok-put_there.ensures.edited.turn _ c.fetch-place.ensures.loads
 
 pub returns-in-Err-clause-turn : goal.returns-in-Err-clause-turn
 returns-in-Err-clause-turn g c =
     turn_halted c.fetch-place.ensures.looked c.requires.ready c.requires.known c.put_there.new.pass is_put (Some _) None
-    c.args.tree.now.tuning c.args.course.now c.put_there.new.course _ c.in-Err.stop (λ e. absurd (c.in-Err.ensures.no_split (ap Err e))) c.in-Err.ensures.edited.turn
+    c.args.tree.now.tuning c.args.course.now c.put_there.new.course _ c.in-Err.stop (λ e. absurd (c.in-Err.ensures.no_split (ap Err e))) c.in-Err.ensures.edited.turn _ c.fetch-place.ensures.loads
 
 pub returns-in-Err-clause-stays : goal.returns-in-Err-clause-stays
 returns-in-Err-clause-stays g c = let key : List ℕ = c.args.self.now.key.now in

@@ -1,14 +1,15 @@
-use Rattle.std.proofs.Common.{◌≡◌, ◌∙◌, ◌∷◌, Bool, Err, List, None, Option, Some, ap, false, inr, refl, subst, sym, true, ℕ}
+use Rattle.std.proofs.Common.{◌≡◌, ◌∙◌, ◌∷◌, Bool, Err, List, None, Option, Some, ap, arith, false, inr, refl, subst, sym, true, ℕ}
 use Rattle.std.specs.Prelude.{cond, map}
 use Rattle.ca_base.specs.Putting.{first_note}
 use Rattle.ca_model.specs.Edges.{Bound, Included, Unbounded, bound_of, last_object, up_to}
 use Rattle.ca_node.specs.Row.{pair}
 use Rattle.ca_node.specs.States.{IsReadSince}
 use Rattle.ca_node.specs.Told.{IsKnown, MyTree}
-use Rattle.ca_node.specs.TreeView.{Note}
+use Rattle.ca_node.specs.TreeView.{Note, TreeView}
 use Rattle.ca_node.specs.Walking.{IsLowRoute}
 use Rattle.ca_base.specs.Progress.{IsFurther}
 use Rattle.ca_range.proofs.Filled.{raised_met}
+use Rattle.ca_replace.specs.Acts.{acts_of}
 use Rattle.ca_replace.specs.Attempting.{IsPaid}
 use Rattle.ca_replace.specs.Within.{HasAllUpTo, HasLearnt, HasVanished, NeedsBelow, below_event, spot_at}
 use Rattle.ca_replace.specs.Aside.{IsEndOfLooks}
@@ -21,6 +22,11 @@ use Rattle.ca_replace.proofs.Misses.{again_then, missed_behind}
 use Rattle.ca_replace.proofs.Ready.{stays_both, stays_then_read}
 use Rattle.ca_replace.proofs.Runs.{finds_below, last_inside, learnt_done, learnt_unanswered, ready_entered}
 use Rattle.ca_replace.proofs.lasts.BelowCallLook.look.Goals.{else-bounded-via-then-bounded+else-not-found, else-bounded-via-else-bounded}
+use Rattle.ca_range.specs.Clearing.{turns_at}
+use Rattle.ca_replace.specs.Loading.{LoadsInLook}
+use Rattle.ca_replace.proofs.Pacing.{paid_more}
+use Rattle.ca_replace.proofs.ReadLoads.{look_still, looks_behind, looks_snapped}
+use Rattle.ca_replace.proofs.Working.{work_after}
 use Rattle.ca_replace.proofs.lasts.BelowCallLook.look.Goals as goal
 
 pub enter_last-requires-clause-answer : goal.enter_last-requires-clause-answer
@@ -69,7 +75,7 @@ returns-in_default-look_left-clause-tried c = let z = c.args.tree.now.space.tabl
     let k = c.look_left.new.pass.seat.me in let a = c.args.spent.now in let b = c.look_left.new.spent in
     let learnt = left_learnt z a b m k (left_behind z a b (spot_at c.args.self.now.hi) m c.look_near-near.new.pass.seat.me k c.look_near-near.result.0
     c.look_near-near.ensures.walked c.look_left.ensures.looked) c.requires.work.known in
-    (learnt.further, learnt.known, learnt.tries)
+    (learnt.further, learnt.known, learnt.acts)
 
 pub returns-then-not-found-clause-frame : goal.returns-then-not-found-clause-frame
 returns-then-not-found-clause-frame c = let z = c.args.tree.now.space.table.shared.key in let m = c.args.pass.now.seat.me in
@@ -85,8 +91,8 @@ returns-then-not-found-clause-tried c = let z = c.args.tree.now.space.table.shar
     let looked = left_behind z a b (spot_at c.args.self.now.hi) m c.look_near-near.new.pass.seat.me k c.look_near-near.result.0
     c.look_near-near.ensures.walked c.look_left.ensures.looked in
     let learnt = learnt_both z m.0.upper k.0.upper v.0.upper (left_learnt z a b m k looked c.requires.work.known) c.take_run.ensures.learnt in
-    subst (λ (x : MyTree). IsFurther m.0.upper x.0.upper × IsKnown z x.0.upper × (x.0.upper.tries ≡ m.0.upper.tries))
-    (sym c.last_within-found.ensures.frame.still) (learnt.further, learnt.known, learnt.tries)
+    subst (λ (x : MyTree). IsFurther m.0.upper x.0.upper × IsKnown z x.0.upper × (acts_of x.0.upper ≡ acts_of m.0.upper))
+    (sym c.last_within-found.ensures.frame.still) (learnt.further, learnt.known, learnt.acts)
 
 pub returns-then-not-found-clause-counted : goal.returns-then-not-found-clause-counted
 returns-then-not-found-clause-counted c = let z = c.args.tree.now.space.table.shared.key in let m = c.args.pass.now.seat.me in
@@ -165,7 +171,7 @@ returns-in-Err-clause-tried c = let z = c.args.tree.now.space.table.shared.key i
     c.look_near-near.ensures.walked c.look_left.ensures.looked in
     let learnt = learnt_both z m.0.upper k.0.upper c.take_run.new.pass.seat.me.0.upper (left_learnt z a b m k looked c.requires.work.known)
     c.take_run.ensures.learnt in
-    (learnt.further, learnt.known, learnt.tries)
+    (learnt.further, learnt.known, learnt.acts)
 
 pub returns-in-Err-clause-counted : goal.returns-in-Err-clause-counted
 returns-in-Err-clause-counted c = let z = c.args.tree.now.space.table.shared.key in let m = c.args.pass.now.seat.me in
@@ -213,3 +219,60 @@ returns-in-Err-clause-again c = let z = c.args.tree.now.space.table.shared.key i
     let looked = left_behind z a b (spot_at c.args.self.now.hi) m c.look_near-near.new.pass.seat.me k c.look_near-near.result.0
     c.look_near-near.ensures.walked c.look_left.ensures.looked in
     again_then (HasVanished c.args.self.now.hi z) a b c.in-Err.why m k c.take_run.new.pass.seat.me looked.paid c.in-Err.ensures.again
+
+pub returns-then-near-clause-loads : goal.returns-then-near-clause-loads
+returns-then-near-clause-loads c = let walk = c.look_near-near.ensures.walked in let few = walk.few in
+    let now = ap (λ (x : MyTree). x.0.upper.loads) walk.now in let same = ap (λ (x : MyTree). x.0.upper.loads) c.enter_last.ensures.entered.now in omega arith
+
+pub returns-in_default-clause-loads : goal.returns-in_default-clause-loads
+returns-in_default-clause-loads c = let walk = c.look_near-near.ensures.walked in let few = walk.few in
+    let now = ap (λ (x : MyTree). x.0.upper.loads) walk.now in
+    let same = ap (λ (x : MyTree). x.0.upper.loads) c.enter_last-in_default.ensures.entered.now in omega arith
+
+pub returns-in_default-look_left-clause-loads : goal.returns-in_default-look_left-clause-loads
+returns-in_default-look_left-clause-loads c = let z = c.args.tree.now.space.table.shared.key in let m = c.args.pass.now.seat.me in
+    let k = c.look_left.new.pass.seat.me in let a = c.args.spent.now in let b = c.look_left.new.spent in let near = c.look_near-near.new.pass.seat.me in
+    let place = spot_at c.args.self.now.hi in let cursor = c.look_near-near.result.0 in let walk = c.look_near-near.ensures.walked in
+    let looks = looks_behind z place a b m near k cursor walk c.look_left.ensures.looked c.look_left.ensures.loads in
+    let paid = paid_more a b m k (left_behind z a b place m near k cursor walk c.look_left.ensures.looked).paid in
+    omega arith
+
+pub returns-then-not-found-clause-loads : goal.returns-then-not-found-clause-loads
+returns-then-not-found-clause-loads c = let z = c.args.tree.now.space.table.shared.key in let m = c.args.pass.now.seat.me in
+    let k = c.look_left.new.pass.seat.me in let a = c.args.spent.now in let b = c.look_left.new.spent in let near = c.look_near-near.new.pass.seat.me in
+    let place = spot_at c.args.self.now.hi in let cursor = c.look_near-near.result.0 in let walk = c.look_near-near.ensures.walked in
+    let looks = looks_behind z place a b m near k cursor walk c.look_left.ensures.looked c.look_left.ensures.loads in
+    let paid = paid_more a b m k (left_behind z a b place m near k cursor walk c.look_left.ensures.looked).paid in
+    let v = c.take_run.new.pass.seat.me in
+    let all = looks_snapped z m k v paid (paid_more b c.take_run.new.spent k v c.take_run.ensures.counted) looks c.take_run.ensures.loads in
+    subst (λ (x : MyTree). LoadsInLook z m x) (sym c.last_within-found.ensures.frame.still) all
+
+pub returns-else-bounded-clause-loads : goal.returns-else-bounded-clause-loads
+returns-else-bounded-clause-loads c = let z = c.args.tree.now.space.table.shared.key in let m = c.args.pass.now.seat.me in
+    let k = c.look_left.new.pass.seat.me in let a = c.args.spent.now in let b = c.look_left.new.spent in let near = c.look_near-near.new.pass.seat.me in
+    let place = spot_at c.args.self.now.hi in let cursor = c.look_near-near.result.0 in let walk = c.look_near-near.ensures.walked in
+    let looks = looks_behind z place a b m near k cursor walk c.look_left.ensures.looked c.look_left.ensures.loads in
+    let paid = paid_more a b m k (left_behind z a b place m near k cursor walk c.look_left.ensures.looked).paid in
+    let v = c.take_run.new.pass.seat.me in
+    let all = looks_snapped z m k v paid (paid_more b c.take_run.new.spent k v c.take_run.ensures.counted) looks c.take_run.ensures.loads in
+    let read = c.last_within-found.new.pass.seat.me in let now = c.enter_last-in-Ok.ensures.entered.now in
+    look_still z m read c.enter_last-in-Ok.new.pass.seat.me (ap (λ (x : MyTree). x.0.upper.loads) now) (ap turns_at now)
+    (subst (λ (x : MyTree). LoadsInLook z m x) (sym c.last_within-found.ensures.frame.still) all)
+
+pub returns-in-Err-clause-loads : goal.returns-in-Err-clause-loads
+returns-in-Err-clause-loads c = let z = c.args.tree.now.space.table.shared.key in let m = c.args.pass.now.seat.me in
+    let k = c.look_left.new.pass.seat.me in let a = c.args.spent.now in let b = c.look_left.new.spent in let near = c.look_near-near.new.pass.seat.me in
+    let place = spot_at c.args.self.now.hi in let cursor = c.look_near-near.result.0 in let walk = c.look_near-near.ensures.walked in
+    let looks = looks_behind z place a b m near k cursor walk c.look_left.ensures.looked c.look_left.ensures.loads in
+    let paid = paid_more a b m k (left_behind z a b place m near k cursor walk c.look_left.ensures.looked).paid in
+    let v = c.take_run.new.pass.seat.me in
+    let all = looks_snapped z m k v paid (paid_more b c.take_run.new.spent k v c.take_run.ensures.counted) looks c.take_run.ensures.loads in
+    all
+
+pub take_run-requires-clause-work : goal.take_run-requires-clause-work
+take_run-requires-clause-work c = let z = c.args.tree.now.space.table.shared.key in let m = c.args.pass.now.seat.me in
+    let k = c.look_left.new.pass.seat.me in let a = c.args.spent.now in let b = c.look_left.new.spent in let work = c.requires.work in
+    let looked = left_behind z a b (spot_at c.args.self.now.hi) m c.look_near-near.new.pass.seat.me k c.look_near-near.result.0
+    c.look_near-near.ensures.walked c.look_left.ensures.looked in
+    work_after work (left_stays work.ready (keeps_both c.look_near-near.ensures.frame c.look_left.ensures.frame) looked)
+    (left_learnt z a b m k looked work.known).known (ap (λ (u : TreeView). u.number) looked.steps.only)

@@ -37,7 +37,7 @@ pub returns-clause-turn : goal.returns-clause-turn
 returns-clause-turn c =
     turn_tried c.find-place.ensures.looked c.requires.ready c.requires.known c.put_there.new.pass (λ (_ : Unit {0}). true)
     (Some (slice_range c.args.self.now.keyed.object.now c.args.self.now.keyed.key_at c.args.self.now.keyed.key_end)) (Some (slice_range c.args.self.now.keyed.object.now c.args.self.now.keyed.key_at c.args.self.now.keyed.key_end))
-    c.args.tree.now.tuning c.args.course.now c.put_there.new.course _ c.put_there.result c.put_there.ensures.edited.turn
+    c.args.tree.now.tuning c.args.course.now c.put_there.new.course _ c.put_there.result c.put_there.ensures.edited.turn _ c.find-place.ensures.loads
 
 pub returns-clause-stays : goal.returns-clause-stays
 returns-clause-stays c = stays_behind c.args.tree.now.space.table.shared.key

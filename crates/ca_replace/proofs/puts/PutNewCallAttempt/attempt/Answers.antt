@@ -85,17 +85,17 @@ put_there-requires-clause-ready c =
 pub returns-then-is_ok-clause-turn : goal.returns-then-is_ok-clause-turn
 returns-then-is_ok-clause-turn c =
     turn_entered c.find-place.ensures.looked c.requires.ready c.requires.known c.enter.new.pass _ c.enter.ensures.frame c.enter.ensures.entered
-    (λ (new : Bool). new) (Some (slice_range c.args.self.now.keyed.object.now c.args.self.now.keyed.key_at c.args.self.now.keyed.key_end)) c.args.tree.now.tuning c.args.course.now _ false refl
+    (λ (new : Bool). new) (Some (slice_range c.args.self.now.keyed.object.now c.args.self.now.keyed.key_at c.args.self.now.keyed.key_end)) c.args.tree.now.tuning c.args.course.now _ false refl _ c.find-place.ensures.loads
 
 pub returns-in-Ok-clause-turn : goal.returns-in-Ok-clause-turn
 returns-in-Ok-clause-turn c =
     turn_edited c.find-place.ensures.looked c.requires.ready c.requires.known c.put_there.new.pass (λ (new : Bool). new) (Some (slice_range c.args.self.now.keyed.object.now c.args.self.now.keyed.key_at c.args.self.now.keyed.key_end)) (Some (slice_range c.args.self.now.keyed.object.now c.args.self.now.keyed.key_at c.args.self.now.keyed.key_end))
-    c.args.tree.now.tuning c.args.course.now c.put_there.new.course _ true refl c.in-Ok.ensures.edited.turn
+    c.args.tree.now.tuning c.args.course.now c.put_there.new.course _ true refl c.in-Ok.ensures.edited.turn _ c.find-place.ensures.loads
 
 pub returns-in-Err-clause-turn : goal.returns-in-Err-clause-turn
 returns-in-Err-clause-turn c =
     turn_halted c.find-place.ensures.looked c.requires.ready c.requires.known c.put_there.new.pass (λ (new : Bool). new) (Some (slice_range c.args.self.now.keyed.object.now c.args.self.now.keyed.key_at c.args.self.now.keyed.key_end)) (Some (slice_range c.args.self.now.keyed.object.now c.args.self.now.keyed.key_at c.args.self.now.keyed.key_end))
-    c.args.tree.now.tuning c.args.course.now c.put_there.new.course _ c.in-Err.stop (λ _. refl) c.in-Err.ensures.edited.turn
+    c.args.tree.now.tuning c.args.course.now c.put_there.new.course _ c.in-Err.stop (λ _. refl) c.in-Err.ensures.edited.turn _ c.find-place.ensures.loads
 
 pub returns-in-Err-clause-stays : goal.returns-in-Err-clause-stays
 returns-in-Err-clause-stays c = (

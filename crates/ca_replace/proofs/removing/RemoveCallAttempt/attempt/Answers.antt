@@ -91,17 +91,17 @@ remove_there-requires-clause-ready c =
 pub returns-in_default-clause-turn : goal.returns-in_default-clause-turn
 returns-in_default-clause-turn c =
     turn_entered c.fetch-place.ensures.looked c.requires.ready c.requires.known c.enter.new.pass _ c.enter.ensures.frame c.enter.ensures.entered
-    (λ (was : Bool). was) None c.args.tree.now.tuning c.args.course.now _ false refl
+    (λ (was : Bool). was) None c.args.tree.now.tuning c.args.course.now _ false refl _ c.fetch-place.ensures.loads
 
 pub returns-in-Ok-remove_there-clause-turn : goal.returns-in-Ok-remove_there-clause-turn
 returns-in-Ok-remove_there-clause-turn c =
     turn_edited c.fetch-place.ensures.looked c.requires.ready c.requires.known c.remove_there.new.pass (λ (was : Bool). was) None None
-    c.args.tree.now.tuning c.args.course.now c.remove_there.new.course _ true refl c.in-Ok-remove_there.ensures.edited.turn
+    c.args.tree.now.tuning c.args.course.now c.remove_there.new.course _ true refl c.in-Ok-remove_there.ensures.edited.turn _ c.fetch-place.ensures.loads
 
 pub returns-in-Err-clause-turn : goal.returns-in-Err-clause-turn
 returns-in-Err-clause-turn c =
     turn_halted c.fetch-place.ensures.looked c.requires.ready c.requires.known c.remove_there.new.pass (λ (was : Bool). was) None None
-    c.args.tree.now.tuning c.args.course.now c.remove_there.new.course _ c.in-Err.stop (λ _. refl) c.in-Err.ensures.edited.turn
+    c.args.tree.now.tuning c.args.course.now c.remove_there.new.course _ c.in-Err.stop (λ _. refl) c.in-Err.ensures.edited.turn _ c.fetch-place.ensures.loads
 
 pub returns-in-Err-clause-stays : goal.returns-in-Err-clause-stays
 returns-in-Err-clause-stays c = (

@@ -1,11 +1,12 @@
-use Rattle.std.proofs.Common.{true, false, refl, ap, inl, ◌∙◌, ◌≡◌, ◌+◌, None, sym, subst}
+use Rattle.std.proofs.Common.{true, false, refl, ap, arith, inl, ◌∙◌, ◌≡◌, ◌+◌, None, sym, subst}
 use Rattle.ca_node.specs.Place.{all_keys}
 use Rattle.ca_node.specs.Told.{MyTree}
 use Rattle.ca_rows.specs.Told.{begun_of, met_of}
 use Rattle.ca_node.proofs.Tallies.{tallied_still, led_counts}
-use Rattle.ca_node.specs.TreeView.{pinned, left_over}
+use Rattle.ca_node.specs.TreeView.{TreeView, pinned, left_over}
 use Rattle.ca_rows.specs.declared.sizes.Sizes.{Sizes}
 use Rattle.ca_replace.proofs.Entries.{held_upper}
+use Rattle.ca_replace.proofs.ReadLoads.{led_once}
 use Rattle.ca_replace.proofs.Showing.{led_further}
 use Rattle.ca_replace.proofs.Turns.{none_pinned, rests_as, rests_again}
 use Rattle.ca_replace.specs.Resting.{StoreAndRun, knows}
@@ -94,3 +95,9 @@ invariant_of-self c = between_rests (store_of c.self.inside.tree.now c.keep_few.
 pub returns-clause-closed : goal.returns-clause-closed
 returns-clause-closed c = closed_still c.self.inside.pass.seat.me.0.upper c.keep_few.new.pass.seat.me.0.upper c.self.inside.run
     (subst (λ (s : StoreAndRun). (knows s).run ≡ None) (sym c.self.view_is) c.requires.closed)
+
+pub returns-clause-loads : goal.returns-clause-loads
+returns-clause-loads c = let one = led_once false root_word c.pin.new.pass.seat.me c.load_link.new.pass.seat.me c.load_link.result c.load_link.ensures.led in
+    let before = ap (λ (m : MyTree). m.0.upper.loads) c.learn.ensures.learnt in let pin = ap (λ (m : MyTree). m.0.upper.loads) c.pin.ensures.pinned.3 in
+    let left = ap (λ (m : MyTree). m.0.upper.loads) c.unpin.ensures.unpinned in let kept = ap (λ (u : TreeView). u.loads) c.keep_few.ensures.gave.upper in
+    subst (λ (s : StoreAndRun). c.keep_few.new.pass.seat.me.0.upper.loads ≡ s.store.seat.me.0.upper.loads + 1) c.self.view_is (omega arith)

@@ -2,6 +2,7 @@ use Rattle.std.proofs.Common.{Bool, ◌∙◌, ◌≡◌, ℕ, List, None, ap, r
 use Rattle.ca_model.specs.Answer.{FoundAbove, IfDone, IfRefused}
 use Rattle.ca_model.specs.Edges.{bound_of}
 use Rattle.ca_model.specs.Known.{Declines, Known}
+use Rattle.ca_node.specs.TreeView.{Tries}
 use Rattle.ca_replace.specs.Attempting.{HasDoneSuch}
 use Rattle.ca_replace.specs.Causes.{IsSparing}
 use Rattle.ca_replace.specs.TreePromises.{HasRead, WasInBudget}
@@ -62,7 +63,8 @@ returns-clause-promised c = let tree = c.self.inside.tree.now in let last = c.se
         unchanged = record {
           same = record { table = refl; sizes = refl; tuning = refl; number = done.frame.number };
           last = refl;
-          untried = done.untried;
+          untried = ap (λ (acts : Tries × ℕ). acts.0) done.acts;
+          unsplit = ap (λ (acts : Tries × ℕ). acts.1) done.acts;
         };
         caused = done.caused;
         alone = λ one. let z = tree.space.table.shared.key in let pass = c.self.inside.pass in let u = pass.seat.me.0.upper in
@@ -72,6 +74,7 @@ returns-clause-promised c = let tree = c.self.inside.tree.now in let last = c.se
             (first_number tree.space.table.shared.table_id z pass.number pass.tally pass.kept.rows pass.seat
             (rests_of before c.self.inside.run c.self.invariant closed) one) done.caused;
         bounded = done.bounded;
+        loads = done.loads;
       },
       (done.few, done.frame.resting.few.ever, done.lags),
       done.unspent,

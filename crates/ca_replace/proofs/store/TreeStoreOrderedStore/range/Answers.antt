@@ -1,4 +1,4 @@
-use Rattle.std.proofs.Common.{◌∙◌, ◌≡◌, None, Some, ap, refl, subst, sym}
+use Rattle.std.proofs.Common.{◌∙◌, ◌≡◌, ℕ, None, Some, ap, refl, subst, sym}
 use Rattle.ca_base.specs.Progress.{IsRefused}
 use Rattle.ca_model.specs.Answer.{IfRefused}
 use Rattle.ca_model.specs.declared.outcome.Outcome.TheVariants as outcome
@@ -8,6 +8,7 @@ use Rattle.ca_model.specs.Known.{Declines, Known}
 use Rattle.ca_model.specs.Runs.{Opens}
 use Rattle.ca_range.specs.Looking.{IsNotEnough}
 use Rattle.ca_range.specs.declared.sought.Sought.{Sought}
+use Rattle.ca_node.specs.TreeView.{Tries}
 use Rattle.ca_replace.specs.Ranging.{IsRangeCaused}
 use Rattle.ca_replace.specs.Resting.{StoreAndRun, known_of, knows, run_left}
 use Rattle.ca_replace.specs.Running.{left_of}
@@ -19,7 +20,7 @@ use Rattle.ca_replace.proofs.Alone.{first_number, lone_read}
 use Rattle.ca_replace.proofs.Misses.{if_caused_by, if_not_done, if_refused_by, range_needs}
 use Rattle.ca_replace.proofs.Needing.{too_soon}
 use Rattle.ca_replace.proofs.OpenStores.{knows_closed, of_both, rests_of}
-use Rattle.ca_replace.proofs.Opening.{opens}
+use Rattle.ca_replace.proofs.Opening.{at_run, opens}
 use Rattle.ca_replace.proofs.Turns.{if_declined}
 use Rattle.ca_replace.proofs.store.TreeStoreOrderedStore.range.Goals as goal
 
@@ -66,7 +67,8 @@ returns-in-Err-clause-promised g c = let tree = c.self.inside.tree.now in let la
         unchanged = record {
           same = record { table = refl; sizes = refl; tuning = refl; number = done.rests.number };
           last = refl;
-          untried = c.range.ensures.untried;
+          untried = ap (λ (acts : Tries × ℕ). acts.0) c.range.ensures.acts;
+          unsplit = ap (λ (acts : Tries × ℕ). acts.1) c.range.ensures.acts;
         };
         caused = if_caused_by (λ why. IsRangeCaused (EndsTooSoon (bound_of c.args.lo) (bound_of c.args.hi)) tree.space.table.shared.key pass.number c.args.budget why pass.seat.me
             pass.kept.rows new.seat.me new.kept.rows) c.in-Err.why c.outcome_by.result c.outcome_by.ensures caused;
@@ -78,6 +80,7 @@ returns-in-Err-clause-promised g c = let tree = c.self.inside.tree.now in let la
             (if_caused_by (λ why. IsRangeCaused (EndsTooSoon (bound_of c.args.lo) (bound_of c.args.hi)) z pass.number c.args.budget why pass.seat.me pass.kept.rows new.seat.me new.kept.rows) c.in-Err.why
             c.outcome_by.result c.outcome_by.ensures caused);
         bounded = c.range.ensures.bounded;
+        loads = c.range.ensures.loads;
       },
       if_refused_by (λ _. IsSparing before behind) c.in-Err.why c.outcome_by.result c.outcome_by.ensures
           (done.few, done.rests.resting.few.ever, c.range.ensures.lags),
@@ -93,12 +96,18 @@ returns-in-Ok-clause-promised g c = let tree = c.self.inside.tree.now in let las
         unchanged = record {
           same = record { table = refl; sizes = refl; tuning = refl; number = done.works.number };
           last = refl;
-          untried = c.range.ensures.untried;
+          untried = ap (λ (acts : Tries × ℕ). acts.0) c.range.ensures.acts;
+          unsplit = ap (λ (acts : Tries × ℕ). acts.1) c.range.ensures.acts;
         };
         caused = tt;
         alone = λ one. tt;
         bounded = c.range.ensures.bounded;
+        loads = c.range.ensures.loads;
       },
       tt,
       done.unspent,
     )
+
+pub invariant_of-self : goal.invariant_of-self
+invariant_of-self g c = let done = c.in-Ok.ensures in
+    at_run c.self.inside.pass.seat.me c.range.new.run done.works.at_work c.range.ensures.lags done.all_seen done.done.1.opened

@@ -1,9 +1,10 @@
-use Rattle.std.proofs.Common.{rules, refl}
+use Rattle.std.proofs.Common.{rules, refl, ap, arith}
 use Rattle.ca_model.specs.Edges.{bound_of}
 use Rattle.ca_replace.specs.Within.{NeedsAbove, above_event}
 use Rattle.ca_replace.proofs.Misses.{missed_needs}
 use Rattle.ca_replace.proofs.Needing.{needs_above}
 use Rattle.ca_replace.proofs.Runs.{finds_above, first_read, learnt_done, learnt_unanswered, run_ordered}
+use Rattle.ca_node.specs.Told.{MyTree}
 use Rattle.ca_replace.proofs.within.AboveCallLook.look.Goals as goal
 
 pub read_first-requires-clause-ordered : goal.read_first-requires-clause-ordered
@@ -27,3 +28,9 @@ returns-in-Ok-clause-tried c = let lo = bound_of c.args.self.now.lo in
 pub returns-in-Err-clause-missed : goal.returns-in-Err-clause-missed
 returns-in-Err-clause-missed c = missed_needs _ (NeedsAbove (bound_of c.args.self.now.lo)) (λ note n. needs_above _ _ note n refl refl (λ o says. search rules)) c.args.budget
     c.snap.new.spent c.in-Err.why c.args.pass.now.seat.me c.snap.new.pass.seat.me c.in-Err.ensures.missed
+
+pub returns-in-Ok-clause-loads : goal.returns-in-Ok-clause-loads
+returns-in-Ok-clause-loads c = let few = c.snap.ensures.loads in let same = ap (λ (x : MyTree). x.0.upper.loads) c.read_first.ensures.entered.now in omega arith
+
+pub returns-in-Err-clause-loads : goal.returns-in-Err-clause-loads
+returns-in-Err-clause-loads c = let few = c.snap.ensures.loads in omega arith

@@ -1,9 +1,10 @@
-use Rattle.std.proofs.Common.{◌≡◌, ◌∙◌, List, ℕ, ap, subst, sym}
+use Rattle.std.proofs.Common.{◌≡◌, ◌∙◌, List, ℕ, ap, subst, sym, arith}
 use Rattle.ca_model.specs.Edges.{Bound, bound_of, objects_of, within}
 use Rattle.ca_model.specs.Event.{Range}
 use Rattle.ca_model.specs.StoreMap.{IsStoreMap}
 use Rattle.ca_node.specs.Told.{IsKnown, MyTree}
 use Rattle.ca_range.specs.Snapshots.{IsRemembered}
+use Rattle.ca_replace.specs.Acts.{acts_of}
 use Rattle.ca_replace.specs.Attempting.{HasDoneSuch}
 use Rattle.ca_replace.specs.Running.{IsOpenRun, all_of, left_of}
 use Rattle.ca_replace.specs.Within.{HasOpened, cut_of, range_event}
@@ -48,7 +49,7 @@ returns-in-Ok-clause-tried g c = let z = c.args.tree.now.space.table.shared.key 
     c.open_run.ensures.left
     ∙ (ap (λ (b : Bound). objects_of (within lo b (all_of run u))) c.end_of-end.ensures ∙ ap objects_of (run_end _ _ h)) in
     subst (λ (x : MyTree). HasDoneSuch (HasOpened g.F.Fn sought z run.whole opened x.0.upper) before x.0.upper × IsKnown z x.0.upper
-    × (x.0.upper.tries ≡ before.tries))
+    × (acts_of x.0.upper ≡ acts_of before))
     (sym (c.warm.ensures.frame.still ∙ c.open_run.ensures.frame.still)) (
       (
         event,
@@ -63,3 +64,10 @@ returns-in-Ok-clause-tried g c = let z = c.args.tree.now.space.table.shared.key 
       done.1,
       done.2,
     )
+
+pub returns-in-Ok-clause-loads : goal.returns-in-Ok-clause-loads
+returns-in-Ok-clause-loads g c = let few = c.snap.ensures.loads in let same = ap (λ (x : MyTree). x.0.upper.loads) c.enter_run.ensures.entered.now in
+    let read = ap (λ (x : MyTree). x.0.upper.loads) (c.warm.ensures.frame.still ∙ c.open_run.ensures.frame.still) in omega arith
+
+pub returns-in-Err-clause-loads : goal.returns-in-Err-clause-loads
+returns-in-Err-clause-loads g c = let few = c.snap.ensures.loads in omega arith
