@@ -6,6 +6,7 @@ pub mod Cuts
 pub mod Finished
 pub mod FirstZero
 pub mod NearZeros
+pub mod ZeroLanes
 pub mod Fronts
 pub mod Integers
 pub mod Items

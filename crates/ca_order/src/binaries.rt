@@ -6,7 +6,7 @@ ghost use Rattle.ca_order.specs.Zeros.{HasNoZero, opened};
 ghost use Rattle.ca_order.specs.Reads.{IsReadFault, IsStuckFault, BeginsWithTerm, BeginsWithBytes};
 
 use crate::fault::{ReadFault, stuck};
-use crate::zeros::{Escape, after_zero, split_at_first_zero, split_at_zero};
+use crate::zeros::{Escape, after_zero, split_at_first_few, split_at_first_zero, split_at_zero};
 use ca_term::{Term, bin, bin_of};
 use std::alloc::{AllocError, Global};
 
@@ -35,6 +35,18 @@ pub(crate) fn run_to_end(bytes: &[u8]) -> Option<(&[u8], &[u8])>
     ensures { IfSome result (λ p. HasNoZero p.0.now × BeginsWithBytes bytes.now p.0.now p.1.now) }
 {
     let (run, behind) = split_at_first_zero(bytes)?;
+    match after_zero(behind) {
+        Escape::End(rest) => Some((run, rest)),
+        Escape::Zero(_) | Escape::Neither => None,
+    }
+}
+
+// The same, where they end among the first few. It is told without a call, so that nothing of it goes through memory.
+#[inline(always)]
+pub(crate) fn short_run_to_end(bytes: &[u8]) -> Option<(&[u8], &[u8])>
+    ensures { IfSome result (λ p. HasNoZero p.0.now × BeginsWithBytes bytes.now p.0.now p.1.now) }
+{
+    let (run, behind) = split_at_first_few(bytes)?;
     match after_zero(behind) {
         Escape::End(rest) => Some((run, rest)),
         Escape::Zero(_) | Escape::Neither => None,

@@ -65,13 +65,40 @@ fn behind_few<'a>(bytes: &'a [u8], front: &[u8]) -> Option<&'a [u8]>
     Some(rest)
 }
 
-// How many bytes of two codes are compared one by one: most parts differ among them, and the comparison of slices begins slowly.
-const NEAR: usize = 16;
+// How many bytes of two codes are compared without a call: small integers of different lengths differ in the first one.
+const FIRST: usize = 2;
+
+// How many of those behind them are compared one by one: most parts differ among them, and the comparison of slices begins slowly.
+const NEAR: usize = 14;
 
 // How bytes stand to others.
 #[inline(always)]
 #[tactic(auto, using(crate::proofs::ByteOrder::byte_orders))]
 fn order_of(bytes: &[u8], others: &[u8]) -> Ordering
+    ensures { result ≡ slice_cmp nat_cmp bytes.now others.now }
+{
+    let mut left = bytes;
+    let mut right = others;
+    for _ in 0..FIRST {
+        let Some((byte, more)) = left.split_first() else {
+            return order_behind(left, right);
+        };
+        let Some((other, rest)) = right.split_first() else {
+            return order_behind(left, right);
+        };
+        if *byte != *other {
+            return byte.cmp(other);
+        }
+        left = more;
+        right = rest;
+    }
+    order_behind(left, right)
+}
+
+// The same, where the first ones are the same.
+#[inline(never)]
+#[tactic(auto, using(crate::proofs::ByteOrder::byte_orders))]
+fn order_behind(bytes: &[u8], others: &[u8]) -> Ordering
     ensures { result ≡ slice_cmp nat_cmp bytes.now others.now }
 {
     let mut left = bytes;

@@ -6,7 +6,7 @@ ghost use Rattle.ca_term.specs.Tree.{Tree, IsTerm};
 ghost use Rattle.ca_order.specs.KeyParts.{IsKeyParts, IsNoObject, IsSplit, HasCodes};
 ghost use Rattle.ca_order.specs.Languages.{IsTermCode};
 
-use crate::binaries::{read_escaped, run_to_end};
+use crate::binaries::{read_escaped, run_to_end, short_run_to_end};
 use crate::tags::{ATOM, BINARY, CONS, NIL, TUPLE};
 
 /// Where the code of a tuple's element `keypos`, counted from 1, stands in the tuple's code: its start and its end in bytes.
@@ -111,9 +111,22 @@ pub(crate) fn split_size(bytes: &[u8]) -> (usize, &[u8])
     (usize::from(size[3]), rest)
 }
 
-// The bytes behind escaped ones and their end, which is looked for once where no zero byte is among them.
+// The bytes behind escaped ones and their end.
 #[inline(always)]
 fn skip_escaped(bytes: &[u8]) -> &[u8]
+    requires { (inside : List ℕ) × (end : List ℕ) × (bytes.now ≡ escaped inside ++ end) }
+    ensures rest { (inside end : List ℕ) → bytes.now ≡ escaped inside ++ end → result.now ≡ end }
+    ensures shorter { length result.now ≤ length bytes.now }
+{
+    match short_run_to_end(bytes) {
+        Some((_, rest)) => rest,
+        None => skip_long_escaped(bytes),
+    }
+}
+
+// The same, where they may be many. The end is looked for once where no zero byte is among them.
+#[inline(never)]
+fn skip_long_escaped(bytes: &[u8]) -> &[u8]
     requires { (inside : List ℕ) × (end : List ℕ) × (bytes.now ≡ escaped inside ++ end) }
     ensures rest { (inside end : List ℕ) → bytes.now ≡ escaped inside ++ end → result.now ≡ end }
     ensures shorter { length result.now ≤ length bytes.now }

@@ -4,6 +4,7 @@ ghost use Rattle.ca_order.specs.Zeros.{HasNoZero, IsZeroAt};
 ghost use Rattle.ca_order.specs.Escapes.{IsEscape};
 
 use memchr::memchr;
+use std::simd::prelude::*;
 
 // The bytes before the first zero byte and those behind it, or None where there is no zero byte.
 pub(crate) fn split_at_zero(bytes: &[u8]) -> Option<(&[u8], &[u8])>
@@ -15,7 +16,7 @@ pub(crate) fn split_at_zero(bytes: &[u8]) -> Option<(&[u8], &[u8])>
     }
 }
 
-// How many bytes are looked at one by one without asking for the end of them.
+// How many bytes are looked at at once.
 const NEAR: usize = 16;
 
 // How many bytes are looked at one by one: most texts and binaries end among them, and a search for a byte begins slowly.
@@ -47,12 +48,46 @@ fn near_zero(bytes: &[u8]) -> Option<usize>
     ensures { IfSome result (λ at. IsZeroAt bytes.now at) }
 {
     match bytes.split_first_chunk::<NEAR>() {
-        Some((near, _)) => match zero_in(near) {
+        Some((near, _)) => match zero_among(near) {
             Some(at) => Some(at),
             None => some_zero(bytes),
         },
         None => zero_in(bytes),
     }
+}
+
+// The bytes before the first zero byte and those behind it, where there are so many bytes and it is one of the first few. It is told without a call.
+#[inline(always)]
+pub(crate) fn split_at_first_few(bytes: &[u8]) -> Option<(&[u8], &[u8])>
+    ensures { IfSome result (λ p. HasNoZero p.0.now × (bytes.now ≡ p.0.now ++ 0 ∷ p.1.now)) }
+{
+    let at = zero_of_few(bytes)?;
+    Some((&bytes[..at], &bytes[at + 1..]))
+}
+
+// The place of the first zero byte, where there are so many bytes and it is one of the first few.
+#[inline(always)]
+fn zero_of_few(bytes: &[u8]) -> Option<usize>
+    ensures { IfSome result (λ at. IsZeroAt bytes.now at) }
+{
+    match bytes.split_first_chunk::<NEAR>() {
+        Some((near, _)) => zero_among(near),
+        None => None,
+    }
+}
+
+// The place of the first zero byte among these, which are compared with zero at once.
+#[inline(always)]
+fn zero_among(near: &[u8; NEAR]) -> Option<usize>
+    ensures { IfSome result (λ at. IsZeroAt near.now at) }
+{
+    let zeros = u8x16::from_array(*near)
+        .simd_eq(u8x16::splat(0))
+        .to_bitmask();
+    if zeros == 0 {
+        return None;
+    }
+    Some(zeros.trailing_zeros() as usize)
 }
 
 // The same among some bytes more.

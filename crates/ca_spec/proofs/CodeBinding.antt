@@ -1,12 +1,12 @@
 -- Parts of heads against codes.
-use Rattle.std.proofs.Common.{◌≡◌, ◌≢◌, ℕ, zero, suc, ◌≤◌, ◌<◌, ◌+◌, Bool, true, false, List, [], ◌∷◌, length, take, drop, get_or, Option, Some, None, refl, ap, sym, ◌∙◌, arith, length-append, append_assoc, append-nil, replicate, ◌++◌}
+use Rattle.std.proofs.Common.{◌≡◌, ◌≢◌, ℕ, zero, suc, ◌≤◌, ◌<◌, ◌+◌, Bool, true, false, List, [], ◌∷◌, length, take, drop, get_or, Option, Some, None, refl, ap, sym, ◌∙◌, arith, length-append, append_assoc, append-nil, replicate, ◌++◌, ◌-◌, subst}
 use Rattle.std.proofs.Math.Seq.{take-append_seam, drop-append_seam}
 use Rattle.std.proofs.lemmas.List.{length-take-le, length-drop, length-replicate, take-append-drop}
 use Rattle.std.specs.Prelude.{IfSome, codes, if◌then◌else◌, option_and_then}
 use Rattle.std.specs.Ordering.{is_eq, ordering_reverse}
 use Rattle.std.specs.declared.cmp.Ordering.{Ordering}
 use Rattle.std.specs.declared.cmp.Ordering.TheVariants.{Less, Equal, Greater}
-use Rattle.ca_term.specs.Tree.{Tree, Row, Integer, Atom, Tuple, Nil, Cons, Binary, is_cell, row_of}
+use Rattle.ca_term.specs.Tree.{Tree, Row, Integer, Atom, Tuple, Nil, Cons, Binary, is_cell, list_of, row_of}
 use Rattle.ca_term.specs.Order.{term_cmp}
 use Rattle.ca_term.proofs.TotalOrder.{tree_flip, tree_same}
 use Rattle.ca_term.proofs.Rows.{nodes_item}
@@ -14,7 +14,7 @@ use Rattle.ca_match.specs.Match.{Bindings, bind, bind_row, where_equal}
 use Rattle.ca_match.specs.Operators.{is_tuple}
 use Rattle.ca_order.specs.Codes.{BeginsOtherwise, HasNoCell, HasNoTuple, IsOpened, IsOpenedCell}
 use Rattle.ca_spec.specs.Parts.{tail_le-list}
-use Rattle.ca_spec.specs.PartBound.{IsAsked, first, others}
+use Rattle.ca_spec.specs.PartBound.{AreAsked, IsAsked, elements_of, first, others, parts_in}
 use Rattle.ca_spec.specs.Places.{row_places}
 use Rattle.ca_spec.proofs.Binding.{anything_fits, cell_end, cell_none, cell_step, cell_stop, cells_from, head_nodes, head_places, tail_places, equal_fits, no_tuple_fits, part_places, rows_from, row_at, row_end, sizes_differ, tuple_fits, variable_fits}
 
@@ -290,6 +290,50 @@ asked_more parts front others last a e f = record {
 -- All parts are asked for at first.
 pub asked_all : (parts : List Tree) → IsAsked parts parts
 asked_all parts = record { more = 0; parts_are = sym (append-nil parts) }
+
+elements_back : (ts : List Tree) → elements_of (row_of ts) ≡ ts
+elements_back [] = refl
+elements_back (t ∷ ts) = ap (λ (x : List Tree). t ∷ x) (elements_back ts)
+
+asked_same : (items parts : List Tree) (asked : ℕ) → items ≡ parts
+    → (asked ≤ length items) × IsAsked items (take asked items) → (asked ≤ length parts) × IsAsked parts (take asked parts)
+asked_same items parts asked e a = subst (λ (x : List Tree). (asked ≤ length x) × IsAsked x (take asked x)) e a
+
+-- The parts of a tuple that are asked for.
+pub asked_of : (head : Tree) (items : List Tree) (asked : ℕ) → Tuple (row_of items) ≡ head → AreAsked head asked
+    → (asked ≤ length items) × IsAsked items (take asked items)
+asked_of head items asked e a =
+    let all = parts_in head in
+    asked_same all items asked (sym (ap parts_in e) ∙ elements_back items) (
+      a.0,
+      record {
+        more = length all - asked;
+        parts_are = sym (take-append-drop asked all) ∙ ap (λ (x : List Tree). take asked all ++ x) a.1;
+      },
+    )
+
+-- So many are asked for as stand before the last ones that are '_'.
+pub asked_many : (head : Tree) (items asked : List Tree) → Tuple (row_of items) ≡ head → IsAsked items asked → AreAsked head (length asked)
+asked_many head items asked e a =
+    let n = length asked in
+    let long : length items ≡ n + a.more = asked_length items asked a in
+    let behind : drop n items ≡ replicate (length items - n) (Atom (codes "_")) =
+    ap (drop n) a.parts_are ∙ drop-append_seam asked (any_parts a.more)
+    ∙ ap (λ (k : ℕ). replicate k (Atom (codes "_"))) (omega (arith, long)) in
+    subst (λ (x : List Tree). (n ≤ length x) × (drop n x ≡ replicate (length x - n) (Atom (codes "_"))))
+    (sym (elements_back items) ∙ ap parts_in e) (omega (arith, long), behind)
+
+-- Of a head that is no tuple none may be.
+pub asked_none : (head : Tree) → parts_in head ≡ [] → AreAsked head 0
+asked_none head e =
+    subst (λ (x : List Tree). (0 ≤ length x) × (drop 0 x ≡ replicate (length x - 0) (Atom (codes "_")))) (sym e) (omega arith, refl)
+
+no_parts : (heads : List Tree) (tail : Tree) → 0 < length heads → parts_in (list_of heads tail) ≡ []
+no_parts [] tail h = absurd (omega arith)
+no_parts (t ∷ ts) tail h = refl
+
+pub asked_list : (head : Tree) (heads : List Tree) (tail : Tree) → 0 < length heads → list_of heads tail ≡ head → AreAsked head 0
+asked_list head heads tail h e = asked_none head (sym (ap parts_in e) ∙ no_parts heads tail h)
 
 -- A tuple of another size doesn't fit, nor does another term.
 pub other_count : (p object : Tree) (row terms inside : List Tree) (count : ℕ) (b : Bindings) → Tuple (row_of row) ≡ p → terms ≡ object ∷ []

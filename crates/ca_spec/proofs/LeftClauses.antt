@@ -55,6 +55,11 @@ pub left_lack : (clauses left others : List Clause) (clause : Clause) (object : 
     → left ≡ clause ∷ others → MayFitBy (clause ∷ others) object → MayFitBy clauses object
 left_lack clauses left others clause object l e m = l.may_fit (subst (λ (x : List Clause). MayFitBy x object) (sym e) m)
 
+-- So it is where what they give is told of all at once.
+pub left_same : (clauses left : List Clause) (object : Tree) (r : Option Tree) → IsLeft clauses left object
+    → r ≡ result_by left object → r ≡ result_by clauses object
+left_same clauses left object r l e = e ∙ sym l.same
+
 -- The first clause has the result, or those behind it.
 pub first_holds : (clause : Clause) (others : List Clause) (object v : Tree) → Some v ≡ clause_result (tree_of_clause clause) object
     → Some v ≡ result_by (clause ∷ others) object
@@ -99,7 +104,7 @@ pub left_lacks : {T E : Type 0} (r : Result T E) (clauses left others : List Cla
 left_lacks r clauses left others clause object l e m = on_err r _ (left_lack clauses left others clause object l e (inl m))
 
 -- Clauses that are passed over.
-pub ruleset left_clauses = (left_all, left_behind, left_none)
+pub ruleset left_clauses = (left_all, left_behind, left_none, left_same)
 
 -- The first clause and those behind it.
 pub ruleset first_clause = (first_holds, first_fails)

@@ -1,6 +1,8 @@
 -- The bindings that a table of parts of a code holds.
-use Rattle.std.specs.Prelude.{◌≡◌, ℕ, ◌-◌, codes, List, ◌++◌, length, map, drop, replicate, slice_index_or, Option, None, option_map}
-use Rattle.ca_term.specs.Tree.{Tree, Atom, Nil}
+use Rattle.std.specs.Prelude.{◌≡◌, ℕ, ◌-◌, ◌≤◌, codes, List, [], ◌∷◌, ◌++◌, length, map, drop, replicate, slice_index_or, Option, None, option_map}
+use Rattle.std.specs.Coded.{×_prop, le_prop, Coded-set, coded_list}
+use Rattle.ca_term.specs.Stored.{tree_stored}
+use Rattle.ca_term.specs.Tree.{Tree, Row, Integer, Atom, Tuple, Nil, Cons, Binary, Ends, More}
 use Rattle.ca_match.specs.Match.{Bindings, Scene}
 use Rattle.ca_order.specs.declared.codes.Part.{Part}
 use Rattle.ca_order.specs.CodesView.{tree_of}
@@ -28,3 +30,26 @@ others terms = drop 1 terms
 pub record IsAsked (parts asked : List Tree) : Type 0 where
   pub more : ℕ
   pub parts_are : parts ≡ asked ++ replicate more (Atom (codes "_"))
+
+abbrev pub elements_of : Row → List Tree
+elements_of Ends = []
+elements_of (More t row) = t ∷ elements_of row
+
+-- the elements of a tuple
+abbrev pub parts_in : Tree → List Tree
+parts_in (Integer n) = []
+parts_in (Atom text) = []
+parts_in (Tuple row) = elements_of row
+parts_in Nil = []
+parts_in (Cons head tail) = []
+parts_in (Binary bytes) = []
+
+-- The first so many parts of a head are asked for: those behind them are '_'.
+abbrev pub AreAsked : Tree → ℕ → Type 0
+AreAsked head asked =
+    (asked ≤ length (parts_in head)) × (drop asked (parts_in head) ≡ replicate (length (parts_in head) - asked) (Atom (codes "_")))
+
+pub AreAsked-prop : (head : Tree) (asked : ℕ) → IsProp (AreAsked head asked)
+AreAsked-prop head asked =
+    ×_prop le_prop
+    (Coded-set (coded_list tree_stored) (drop asked (parts_in head)) (replicate (length (parts_in head) - asked) (Atom (codes "_"))))

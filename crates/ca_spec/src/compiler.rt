@@ -10,6 +10,7 @@ use crate::clause::Clause;
 use crate::expression::Expression;
 use crate::expressions::expression;
 use crate::fault::{SpecFault, SpecWhy, Stop};
+use crate::fitting::asked_parts;
 use crate::heads::head;
 use crate::held::Variables;
 use crate::scope::{Part, Scope};
@@ -119,11 +120,13 @@ fn clause_with(alloc: Global, first: &Term, second: &Term, third: &Term) -> Resu
     let head = head(alloc, first, &mut variables)?;
     let guards = guards(alloc, first, &variables, second)?;
     let body = body(alloc, first, &variables, third)?;
+    let asked = asked_parts(&head);
     Ok(Clause {
         head,
         guards,
         body,
         places: variables.places(),
+        asked,
     })
 }
 

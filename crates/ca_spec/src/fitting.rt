@@ -1,10 +1,10 @@
 //! Heads against objects' codes, of which nothing is decoded.
 ghost use Rattle.std.specs.Prelude.{◌≡◌, ◌≤◌, ◌<◌, None, Some, IfSome, IsSome, true, length, take, drop, if◌then◌else◌};
 ghost use Rattle.ca_term.specs.Object.{fits};
-ghost use Rattle.ca_term.specs.Tree.{list_of, row_of};
+ghost use Rattle.ca_term.specs.Tree.{Tuple, list_of, row_of};
 ghost use Rattle.ca_match.specs.Match.{bind, bind_row, bind_variable, bound, where_equal, Bindings};
 ghost use Rattle.ca_order.specs.CodesView.{terms_of, tree_of};
-ghost use Rattle.ca_spec.specs.PartBound.{IsAsked, first, others, parts_of};
+ghost use Rattle.ca_spec.specs.PartBound.{AreAsked, IsAsked, first, others, parts_of};
 ghost use Rattle.ca_spec.specs.Places.{places, row_places};
 ghost use Rattle.ca_spec.specs.Reached.{AreShort, IsShortRow};
 
@@ -12,15 +12,28 @@ use crate::constant::Constant;
 use crate::pattern::{Pattern, Shape};
 use ca_order::{Codes, Part};
 
-// Whether a head fits an object; then its variables are bound in the table. The elements behind the last one that isn't '_' are not looked at.
+// How many parts of a head are asked for.
+pub(crate) fn asked_parts(head: &Pattern) -> usize
+    ensures { AreAsked head.now result }
+{
+    match &head.shape {
+        Shape::Tuple(parts) => asked(parts.as_slice()).len(),
+        Shape::List(_, _) => 0,
+        Shape::Anything | Shape::Variable(_) | Shape::Equal(_) => 0,
+    }
+}
+
+// Whether a head, of which so many parts are asked for, fits an object; then its variables are bound in the table. The other parts are not looked at.
 #[tactic(auto, using(crate::proofs::CodeBinding::object_fits))]
 #[inline(always)]
 pub(crate) fn fit_object<'a>(
     head: &Pattern,
+    asked: usize,
     object: Part<'a>,
     table: &mut [Option<Part<'a>>],
 ) -> Option<bool>
-    requires { places head.now ≤ length table.old }
+    requires front { AreAsked head.now asked }
+    requires room { places head.now ≤ length table.old }
     ensures told { IfSome result (λ fits.
         bind head.now (tree_of object.entry) (parts_of table.old) ≡ (if fits then Some (parts_of table.new) else None)) }
     ensures known { AreShort head.now → IsSome result }
@@ -36,8 +49,17 @@ pub(crate) fn fit_object<'a>(
         return Some(false);
     }
     codes = inside;
-    let asked = asked(parts.as_slice());
-    fit_all(asked, asked.len(), &mut codes, table)
+    let front = first_parts(parts.as_slice(), asked);
+    fit_all(front, front.len(), &mut codes, table)
+}
+
+// The first so many parts, those that are asked for.
+#[inline(always)]
+fn first_parts(parts: &[Pattern], asked: usize) -> &[Pattern]
+    requires { (asked ≤ length parts.now) × IsAsked parts.now (take asked parts.now) }
+    ensures { IsAsked parts.now result.now }
+{
+    &parts[..asked]
 }
 
 // A head that is no tuple. It stands apart, since it fits few objects.
@@ -59,7 +81,6 @@ fn fit_other<'a>(
 
 // The parts up to the last one that isn't '_'.
 #[tactic(auto, using(crate::proofs::CodeBinding::asked_parts))]
-#[inline(always)]
 fn asked(parts: &[Pattern]) -> &[Pattern]
     ensures { IsAsked parts.now result.now }
 {
@@ -93,14 +114,44 @@ fn fit<'a>(pattern: &Pattern, codes: &mut Codes<'a>, table: &mut [Option<Part<'a
         }
         Shape::Variable(number) => Some(fit_variable(*number as usize, codes, table)),
         Shape::Equal(own) => fit_equal(own, codes),
-        Shape::Tuple(parts) => match codes.open_tuple() {
-            Some((count, inside)) => {
-                *codes = inside;
-                fit_all(parts.as_slice(), count, codes, table)
-            }
-            None => Some(false),
-        },
-        Shape::List(heads, tail) => fit_cells(heads.as_slice(), tail, codes, table),
+        // What is handed to a call lies in memory, so that is a copy.
+        Shape::Tuple(parts) => {
+            let mut left = *codes;
+            let told = fit_tuple(parts.as_slice(), &mut left, table);
+            *codes = left;
+            told
+        }
+        Shape::List(heads, tail) => {
+            let mut left = *codes;
+            let told = fit_cells(heads.as_slice(), tail, &mut left, table);
+            *codes = left;
+            told
+        }
+    }
+}
+
+// A tuple of these parts inside a head.
+#[cycle(fit)]
+#[inline(never)]
+#[tactic(auto, using(crate::proofs::CodeBinding::part_fits))]
+fn fit_tuple<'a>(
+    parts: &[Pattern],
+    codes: &mut Codes<'a>,
+    table: &mut [Option<Part<'a>>],
+) -> Option<bool>
+    requires some { 1 ≤ length (terms_of codes.old) }
+    requires room { row_places (row_of parts.now) ≤ length table.old }
+    ensures told { IfSome result (λ fits.
+        bind (Tuple (row_of parts.now)) (first (terms_of codes.old)) (parts_of table.old) ≡ (if fits then Some (parts_of table.new) else None)) }
+    ensures known { IsShortRow (row_of parts.now) → IsSome result }
+    ensures rest { result ≡ Some true → terms_of codes.new ≡ others (terms_of codes.old) }
+{
+    match codes.open_tuple() {
+        Some((count, inside)) => {
+            *codes = inside;
+            fit_all(parts, count, codes, table)
+        }
+        None => Some(false),
     }
 }
 
@@ -147,6 +198,7 @@ fn fit_equal(constant: &Constant, codes: &mut Codes<'_>) -> Option<bool>
 
 // Elements against so many codes, from the left.
 #[cycle(fit)]
+#[inline(always)]
 #[tactic(auto, using(crate::proofs::CodeBinding::rows_fit))]
 fn fit_all<'a>(
     parts: &[Pattern],
@@ -164,17 +216,20 @@ fn fit_all<'a>(
     if parts.len() != count {
         return Some(false);
     }
+    let mut rest = *codes;
     for part in parts {
-        match fit(part, codes, table) {
+        match fit(part, &mut rest, table) {
             Some(true) => {}
             told => return told,
         }
     }
+    *codes = rest;
     Some(true)
 }
 
 // List cells, head by head, and what stands behind the last cell. It goes along the tail in a loop: a list may be longer than the stack is deep.
 #[cycle(fit)]
+#[inline(never)]
 #[tactic(auto, using(crate::proofs::CodeBinding::cells_fit))]
 fn fit_cells<'a>(
     heads: &[Pattern],

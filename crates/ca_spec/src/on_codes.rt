@@ -8,7 +8,7 @@ ghost use Rattle.ca_order.specs.Languages.{IsTermCode};
 ghost use Rattle.ca_spec.specs.ClauseView.{tree_of_clause, trees_of_clauses};
 ghost use Rattle.ca_spec.specs.PartBound.{parts_of, scene_in};
 ghost use Rattle.ca_spec.specs.Places.{places};
-ghost use Rattle.ca_spec.specs.QuickView.{IsTold};
+ghost use Rattle.ca_spec.specs.QuickView.{IsKnown, IsTold};
 ghost use Rattle.ca_spec.specs.Reached.{IsReached, MayFit, SomeMayFit};
 
 use crate::clause::Clause;
@@ -16,7 +16,7 @@ use crate::evaluation::{pass, value};
 use crate::expression::Expression;
 use crate::fitted::Fitted;
 use crate::fitting::fit_object;
-use crate::quick::{self, Quick, quick_result};
+use crate::quick::{self, Quick, passed, quick_result, result_where};
 use crate::results::{FEW, result_of_clause};
 use crate::spec::Spec;
 use ca_order::Part;
@@ -77,7 +77,7 @@ fn holds<'a>(alloc: Global, clause: &'a Clause, object: Part<'a>) -> Result<bool
     }
 }
 
-// The result of the first clause that holds. Clauses that are told to have none are passed over here, where nothing is kept for a result.
+// The result of the first clause that holds. Clauses that are known to have none are passed over here, where nothing is kept for a result.
 #[tactic(auto, using(crate::proofs::LeftClauses::left_clauses))]
 #[inline(always)]
 fn result_of_clauses<'a>(
@@ -90,15 +90,19 @@ fn result_of_clauses<'a>(
 {
     let mut left = clauses;
     while let Some((clause, others)) = left.split_first() {
-        match told(clause, object) {
-            Quick::None => left = others,
-            known => return result_from(alloc, clause, others, object, known),
+        if clause.places > FEWER {
+            return first_result(alloc, left, object);
+        }
+        let mut table: [Option<Part<'a>>; FEWER] = [None; FEWER];
+        match passed(clause, object, &mut table) {
+            Some(false) => left = others,
+            known => return result_from(alloc, clause, others, object, known, &table),
         }
     }
     Ok(None)
 }
 
-// The result of the first one of some clauses that holds. Of the first one this is told.
+// The result of the first one of some clauses that holds. Of the first one this is known, with what its head bound in this table.
 #[inline(never)]
 #[tactic(auto, using(crate::proofs::LeftClauses::first_clause))]
 fn result_from<'a>(
@@ -106,14 +110,15 @@ fn result_from<'a>(
     clause: &'a Clause,
     others: &'a [Clause],
     object: Part<'a>,
-    told: Quick<'a>,
+    known: Option<bool>,
+    table: &[Option<Part<'a>>],
 ) -> Result<Option<Term>, AllocError>
-    requires told { IsTold told (clause_result (tree_of_clause clause.now) (tree_of object)) }
-    requires reached { IsReached told clause.now.head (tree_of object) }
+    requires { IsKnown known clause.now object table.now }
     ensures found { IfOk result (λ found.
         found ≡ result_of (list_of (trees_of_clauses (clause.entry.now ∷ others.entry.now)) Nil) (tree_of object.entry)) }
     ensures lack { OnErr result (SomeMayFit (list_of (trees_of_clauses (clause.entry.now ∷ others.entry.now)) Nil) (tree_of object.entry)) }
 {
+    let told = result_where(known, clause, object, table);
     if let Some(found) = result_told(alloc, clause, object, told)? {
         return Ok(Some(found));
     }
@@ -232,7 +237,7 @@ fn valued_with<'a>(
     ensures found { IfOk result (λ found. found ≡ clause_result (tree_of_clause clause.entry.now) (tree_of object.entry)) }
     ensures lack { OnErr result (MayFit clause.entry.now.head (tree_of object.entry)) }
 {
-    match fit_object(&clause.head, object, table) {
+    match fit_object(&clause.head, clause.asked, object, table) {
         Some(true) => body_term(alloc, clause, object, table),
         Some(false) => Ok(None),
         None => decoded_result(alloc, clause, object),

@@ -8,7 +8,7 @@ ghost use Rattle.ca_order.specs.CodesView.{tree_of};
 ghost use Rattle.ca_spec.specs.ClauseView.{tree_of_clause};
 ghost use Rattle.ca_spec.specs.PartBound.{parts_of, scene_in};
 ghost use Rattle.ca_spec.specs.Places.{places};
-ghost use Rattle.ca_spec.specs.QuickView.{IsTold};
+ghost use Rattle.ca_spec.specs.QuickView.{IsKnown, IsTold};
 ghost use Rattle.ca_spec.specs.Reached.{IsReached};
 
 use crate::clause::Clause;
@@ -197,9 +197,47 @@ pub(crate) enum Quick<'a> {
     Unknown,
 }
 
+// Whether a clause's head fits an object and its guards are all true, where the object's code tells; with this table, which is empty.
+#[inline(always)]
+#[tactic(auto, using(crate::proofs::QuickResults::known_clauses))]
+pub(crate) fn passed<'a>(
+    clause: &'a Clause,
+    object: Part<'a>,
+    table: &mut [Option<Part<'a>>],
+) -> Option<bool>
+    requires room { places clause.now.head ≤ length table.old }
+    requires none { parts_of table.old ≡ no_bindings }
+    ensures { IsKnown result clause.entry.now object.entry table.new }
+{
+    match fit_object(&clause.head, clause.asked, object, table) {
+        Some(true) => pass(clause.guards.as_slice(), object, table),
+        Some(false) => Some(false),
+        None => None,
+    }
+}
+
+// What is told of a clause's result where that is known of its head and its guards.
+#[inline(always)]
+#[tactic(auto, using(crate::proofs::QuickResults::told_clauses))]
+pub(crate) fn result_where<'a>(
+    known: Option<bool>,
+    clause: &'a Clause,
+    object: Part<'a>,
+    table: &[Option<Part<'a>>],
+) -> Quick<'a>
+    requires { IsKnown known clause.now object table.now }
+    ensures told { IsTold result (clause_result (tree_of_clause clause.entry.now) (tree_of object.entry)) }
+    ensures reached { IsReached result clause.entry.now.head (tree_of object.entry) }
+{
+    match known {
+        Some(true) => told_value(&clause.body, object, table),
+        Some(false) => Quick::None,
+        None => Quick::Unknown,
+    }
+}
+
 // What is told of a clause's result by the object's code, with this table, which is empty.
 #[inline(always)]
-#[tactic(auto, using(crate::proofs::QuickResults::quick_results, crate::proofs::Reaching::reached))]
 pub(crate) fn quick_result<'a>(
     clause: &'a Clause,
     object: Part<'a>,
@@ -210,17 +248,8 @@ pub(crate) fn quick_result<'a>(
     ensures told { IsTold result (clause_result (tree_of_clause clause.entry.now) (tree_of object.entry)) }
     ensures reached { IsReached result clause.entry.now.head (tree_of object.entry) }
 {
-    match fit_object(&clause.head, object, table) {
-        Some(true) => {}
-        Some(false) => return Quick::None,
-        None => return Quick::Unknown,
-    }
-    match pass(clause.guards.as_slice(), object, table) {
-        Some(true) => {}
-        Some(false) => return Quick::None,
-        None => return Quick::Unknown,
-    }
-    told_value(&clause.body, object, table)
+    let known = passed(clause, object, table);
+    result_where(known, clause, object, table)
 }
 
 // What is told of a body's value.

@@ -24,7 +24,7 @@ fit-returns-in-Equal-clause-told t c =
 
 pub fit_all-loop-part-preserved : goal.fit_all-loop-part-preserved
 fit_all-loop-part-preserved t c =
-    let left = terms_of c.loop-part.codes in
+    let left = terms_of c.loop-part.rest in
     let terms = terms_of c.args.codes.now in
     record {
       told = place_step c.args.parts.now terms left c.args.count c.loop-part.part-index c.part-item.result _ (parts_of c.loop-part.table)

@@ -12,11 +12,14 @@ decreases-fit l = 3 * nodes l.pattern.now + 2
 abbrev pub decreases-fit_all : goal.decreases-fit_all
 decreases-fit_all l = 3 * row_nodes (row_of l.parts.now) + 3
 
+abbrev pub decreases-fit_tuple : goal.decreases-fit_tuple
+decreases-fit_tuple l = 3 * row_nodes (row_of l.parts.now) + 4
+
 abbrev pub invariant-fit_all-loop-part : goal.invariant-fit_all-loop-part
 invariant-fit_all-loop-part l = record {
-  told : from_place l.parts (terms_of l.initial.codes) l.count 0 (parts_of l.initial.table)
-      ≡ from_place l.parts (terms_of l.initial.codes) l.count l.part-index (parts_of l.table);
-  left : terms_of l.codes ≡ drop l.part-index (terms_of l.initial.codes);
+  told : from_place l.parts (terms_of l.codes) l.count 0 (parts_of l.initial.table)
+      ≡ from_place l.parts (terms_of l.codes) l.count l.part-index (parts_of l.table);
+  left : terms_of l.rest ≡ drop l.part-index (terms_of l.codes);
 }
 
 abbrev pub decreases-fit_cells : goal.decreases-fit_cells
