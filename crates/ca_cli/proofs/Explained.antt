@@ -1,30 +1,35 @@
 -- A run that was printed is explained.
-use Rattle.std.proofs.Common.{◌≡◌, ℕ, List, subst}
+use Rattle.std.proofs.Common.{◌≡◌, ℕ, List, ◌++◌, ◌∙◌, ap, subst}
 use Rattle.std.specs.Prelude.{Option, None, Some}
 use Rattle.ca_term.specs.Tree.{Tree}
 use Rattle.ca_ets.specs.Command.{Answer}
 use Rattle.ca_explain.specs.Explaining.{merge_of}
+use Rattle.ca_client.specs.Ran.{answers_in}
 use Rattle.ca_client.specs.declared.running.Ran.{Ran}
 use Rattle.ca_cli.specs.Call.{Call, Change, Adds}
 use Rattle.ca_cli.specs.Causes.{IsCause}
 use Rattle.ca_cli.specs.Headline.{Prints}
+use Rattle.ca_cli.specs.Printed.{shape_text}
 use Rattle.ca_cli.specs.Run.{HasPlayed}
 use Rattle.ca_cli.specs.Written.{IsOutcome}
+use Rattle.ca_cli.proofs.Texts.{told_is}
 use Rattle.ca_cli.specs.declared.status.Status.{Status}
 use Rattle.ca_cli.specs.declared.status.Status.TheVariants.{Done}
 
 printed : (call : Call) (output : Change ℕ) (ran : Ran) (bytes : List ℕ) → HasPlayed call ran bytes → Adds output bytes
     → (answers : List (List Answer)) × (table : List Tree) × (bytes : List ℕ) × Prints call output answers table bytes
 printed call output ran bytes h taken = (
-  _,
-  _,
+  answers_in h.run.played.clients,
+  ran.table,
   bytes,
   record {
     accepted = h.accepted;
     explained = (merge_of h.run.played.history h.run.played.clients, h.run.played.explained);
     splits = ran.splits;
     joins = ran.joins;
-    written = h.written;
+    written = h.written
+        ∙ ap (λ (text : List ℕ). text ++ shape_text h.accepted.options ran.splits ran.joins)
+        (told_is h.accepted.request h.accepted.lines (answers_in h.run.played.clients) ran.answers.items ran.table h.run.played.are_told);
     taken = taken;
   },
 )

@@ -1,9 +1,7 @@
 pub mod Accepted
 pub mod Bounded
-pub mod Crossing
 pub mod Explained
 pub mod Firsts
-pub mod Left
 pub mod Made
 pub mod Openings
 pub mod Texts

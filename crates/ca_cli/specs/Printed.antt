@@ -6,7 +6,8 @@ use Rattle.ca_cmd.specs.File.{Numbered}
 use Rattle.ca_cmd.specs.Output.{text_of_run}
 use Rattle.ca_words.specs.Grammar.{Request, Files, Generated}
 use Rattle.ca_words.specs.declared.tree.TreeOptions.{TreeOptions}
-use Rattle.ca_cli.specs.Summary.{number_line, refusals, summary_text}
+use Rattle.ca_cmd.specs.Answers.{refusals}
+use Rattle.ca_cli.specs.Summary.{number_line, summary_text}
 
 -- which element of an object is its key, counted from 1: in lines from a seed it is the first
 abbrev pub keypos_of : Request → ℕ

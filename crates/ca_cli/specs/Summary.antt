@@ -1,8 +1,7 @@
 -- The summary of a run of generated lines.
-use Rattle.std.specs.Prelude.{ℕ, zero, suc, ◌+◌, ℤ, pos, ◌+ℤ◌, List, [], ◌∷◌, ◌++◌, length, fold, codes, decimal, Ok, Err}
+use Rattle.std.specs.Prelude.{ℕ, zero, suc, ◌+◌, ℤ, pos, ◌+ℤ◌, List, [], ◌∷◌, ◌++◌, length, fold, codes, decimal}
 use Rattle.std.specs.Fmt.{signed_decimal}
 use Rattle.ca_term.specs.Tree.{Tree, Integer, Atom, Tuple, Nil, Cons, Binary, elements}
-use Rattle.ca_ets.specs.Command.{Answer}
 use Rattle.ca_cmd.specs.File.{Numbered}
 use Rattle.ca_cmd.specs.Generator.{generated}
 
@@ -10,12 +9,6 @@ use Rattle.ca_cmd.specs.Generator.{generated}
 abbrev pub clients_from : ℕ → ℕ → ℕ → ℕ → List (List Numbered)
 clients_from seed count client zero = []
 clients_from seed count client (suc more) = generated seed client count ∷ clients_from seed count (client + 1) more
-
--- how many commands were refused
-abbrev pub refusals : List Answer → ℕ
-refusals [] = 0
-refusals (Ok response ∷ answers) = refusals answers
-refusals (Err refusal ∷ answers) = suc (refusals answers)
 
 -- the integer that a term is, else 0
 abbrev pub integer_of : Tree → ℤ

@@ -1,11 +1,10 @@
 //! What is printed of runs of lines that are made from a seed.
-ghost use Rattle.std.specs.Prelude.{◌≡◌, [], ◌∷◌, ◌++◌, codes, sum_by, IfOk, OnOk};
-ghost use Rattle.ca_cmd.specs.Answers.{answer_of, answers_of};
-ghost use Rattle.ca_client.specs.Ran.{all_answers_of};
-ghost use Rattle.ca_cli.specs.Summary.{generated_line, integer_of, number_line, refusals, second_in, second_of, sum_line, sum_of, summary_text};
+ghost use Rattle.std.specs.Prelude.{◌≡◌, ◌++◌, codes, IfOk, OnOk};
+ghost use Rattle.ca_cli.specs.Summary.{generated_line, integer_of, number_line, second_in, second_of, sum_line, sum_of, summary_text};
+ghost use Rattle.ca_cli.specs.Texts.{told_refusals};
 
 use ca_client::ClosedTable;
-use ca_cmd::{Answer, Answers};
+use ca_cmd::Answers;
 use ca_term::{Kind, Term};
 use ca_text::{put, put_number};
 use itoa::Buffer;
@@ -52,34 +51,13 @@ fn sum(alloc: Global, table: &ClosedTable) -> Result<i128, AllocError>
     Ok(sum)
 }
 
-// 1 where a command was refused, else 0.
-fn refusal(answer: &Answer) -> u64
-    ensures { result ≡ refusals (answer_of answer.now ∷ []) }
-{
-    match answer {
-        Answer::Replied(_) => 0,
-        Answer::Full | Answer::Deep | Answer::Worn => 1,
-    }
-}
-
-// How many of a client's commands were refused.
-fn refusals(answers: &[Answer]) -> u64
-    ensures { result ≡ refusals (answers_of answers.now) }
-{
-    let mut count = 0;
-    for answer in answers {
-        count += refusal(answer);
-    }
-    count
-}
-
-// How many commands were refused. A client has fewer than 2^63 answers, and there are fewer than 2^63 clients.
+// How many commands were refused. A client tells fewer than 2^64 of them, and there are fewer than 2^63 clients.
 fn all_refusals(all: &[Answers]) -> u128
-    ensures { result ≡ sum_by refusals (all_answers_of all.now) }
+    ensures { result ≡ told_refusals all.now }
 {
     let mut count = 0;
-    for answers in all {
-        count += u128::from(refusals(answers.as_slice()));
+    for told in all {
+        count += u128::from(told.refused);
     }
     count
 }
@@ -102,7 +80,7 @@ pub fn put_number_line(name: &[u8], n: u64, into: &mut Vec<u8>) -> Result<(), Al
 }
 
 fn put_refused(all: &[Answers], into: &mut Vec<u8>) -> Result<(), AllocError>
-    ensures { OnOk result (into.new.items ≡ into.old.items ++ number_line (codes "refused ") (sum_by refusals (all_answers_of all.now))) }
+    ensures { OnOk result (into.new.items ≡ into.old.items ++ number_line (codes "refused ") (told_refusals all.now)) }
 {
     put(b"refused ", into)?;
     put(Buffer::new().format(all_refusals(all)).as_bytes(), into)?;
@@ -128,7 +106,7 @@ pub fn put_summary(
     into: &mut Vec<u8>,
 ) -> Result<(), AllocError>
     ensures { OnOk result (into.new.items
-        ≡ into.old.items ++ summary_text clients lines (sum_by refusals (all_answers_of all.now)) table.now) }
+        ≡ into.old.items ++ summary_text clients lines (told_refusals all.now) table.now) }
 {
     put_generated(clients, lines, into)?;
     put_refused(all, into)?;

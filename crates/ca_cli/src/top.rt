@@ -67,12 +67,12 @@ fn play<R: Threads + Wait + Sync, G: Gate + Sync>(
     requires clients { (1 ≤ length files.now) × (length files.now ≤ 64) }
     ensures run { IfOk result (λ report. IsRunOf (request_in line.entry.request) line.entry.tree (map numbered files.now) report.ran) }
     ensures bytes { IfOk result (λ report. report.bytes.items
-        ≡ text_of_ran (request_in line.entry.request) line.entry.tree (map numbered files.now) report.ran) }
+        ≡ text_of_ran (request_in line.entry.request) line.entry.tree report.ran) }
 {
     let keypos = keypos_of(line.request);
     let tree = open_tree(alloc, keypos, line.tree, files)?;
     let ran = run_clients(rt, alloc, tree, files, keypos, gate)?;
-    let bytes = printed(rt, alloc, line, files, &ran)?;
+    let bytes = printed(alloc, line, &ran)?;
     Ok(Report { ran, bytes })
 }
 

@@ -6,7 +6,6 @@ use Rattle.std.proofs.Crossing.{crosses as of_std}
 use Rattle.std.proofs.string.String.TheSendSync as string
 use Rattle.ca_term.proofs.term.Term.TheLaws.TheKnot.{crosses as of_terms}
 use Rattle.ca_term.specs.contracts.term.Term as term
-use Rattle.ca_ets.proofs.Crossing.{term_send, terms_send}
 use Rattle.ca_model.specs.declared.store.OrderedStore.{Ghosts}
 use Rattle.ca_table.proofs.Crossing.{spec_send}
 use Rattle.ca_table.specs.contracts.table.Table as table
@@ -21,7 +20,7 @@ pub lines_sync : IsSync lines.the_row
 lines_sync = search (sendable, of_std, term_sync) depth 40
 
 pub answers_send : IsSend answers.the_row
-answers_send = search (sendable, of_std, term_send, terms_send) depth 40
+answers_send = search (sendable, of_std) depth 40
 
 pub table_send : (T : RattleType) (g : Ghosts T.Denot) → IsSend T → IsSend (table.the_row T g)
 table_send T g s = search (sendable, of_std, spec_send) depth 40

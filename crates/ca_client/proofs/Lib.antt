@@ -6,4 +6,5 @@ pub mod OneHistory
 pub mod Refusals
 pub mod Shares
 pub mod Sharing
+mod Telling
 pub mod Trying

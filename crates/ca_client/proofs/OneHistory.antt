@@ -1,7 +1,7 @@
 -- The logs of a run's passes tell its history.
 use Rattle.std.proofs.Common.{◌≡◌, ◌∙◌, ℕ, zero, suc, ◌≤◌, ◌<◌, ◌==◌, Bool, true, false, nat_lt, List, [], ◌∷◌, length, get_or, refl, sym, ap, subst, arith, if◌then◌else◌}
 use Rattle.std.proofs.lemmas.Bool.Decides.{nat_tests}
-use Rattle.ca_ets.specs.Command.{Command}
+use Rattle.ca_cmd.specs.File.{Numbered}
 use Rattle.ca_ets.specs.Merge.{items_of}
 use Rattle.ca_model.specs.Event.{Entry}
 use Rattle.ca_model.specs.History.{Edit, History, AreByPasses}
@@ -95,13 +95,13 @@ log_at first (c ∷ clients) (p ∷ passes) played zero l = played.0.log
 log_at first (c ∷ clients) (p ∷ passes) played (suc k) l = log_at (suc first) clients passes played.1 k (omega (arith, l))
 
 -- The edits of a client's pass, in a history for which the logs are lawful, are the updates of the pass's log.
-own_told : (keypos : ℕ) (commands : List (List Command)) (ran : Ran) (run : HasRun keypos commands ran) (k : ℕ) → k < length run.clients
+own_told : (keypos : ℕ) (lines : List (List Numbered)) (ran : Ran) (run : HasRun keypos lines ran) (k : ℕ) → k < length run.clients
     → items_of (suc k) (numbered 0 run.history) ≡ updates (get_or ran.past.passes k no_pass).log
-own_told keypos commands ran run k l =
+own_told keypos lines ran run k l =
     places_agree (suc k) run.history (log_of (get_or run.clients k nobody).parts) (run.logs.lawful (suc k) (omega arith) (omega (arith, l)))
     ∙ ap (λ (log : List Entry). updates log) (sym (log_at 1 run.clients ran.past.passes run.played k l))
 
-module _ (keypos : ℕ) (commands : List (List Command)) (ran : Ran) (one other : HasRun keypos commands ran) where
+module _ (keypos : ℕ) (lines : List (List Numbered)) (ran : Ran) (one other : HasRun keypos lines ran) where
   many : length one.clients ≡ length other.clients
   many = as_many 1 one.clients ran.past.passes one.played ∙ sym (as_many 1 other.clients ran.past.passes other.played)
 
@@ -117,8 +117,8 @@ module _ (keypos : ℕ) (commands : List (List Command)) (ran : Ran) (one other 
       by : (b : Bool) → nat_lt k (length one.clients) ≡ b → items_of (suc k) (numbered 0 one.history) ≡ items_of (suc k) (numbered 0 other.history)
       by true is =
           let l : k < length one.clients = grind (arith, nat_tests) in
-          own_told keypos commands ran one k l ∙ sym (own_told keypos commands ran other k (omega (arith, l, many)))
+          own_told keypos lines ran one k l ∙ sym (own_told keypos lines ran other k (omega (arith, l, many)))
       by false is = let l : length one.clients ≤ k = grind (arith, nat_tests) in out_of (suc k) (λ low high. absurd (omega (arith, l, high)))
 
 pub one_history : HaveOneHistory
-one_history keypos commands ran one other = same_history 0 one.history other.history (each keypos commands ran one other)
+one_history keypos lines ran one other = same_history 0 one.history other.history (each keypos lines ran one other)

@@ -6,12 +6,12 @@ use Rattle.std.proofs.lemmas.List.Elements.{All-cons}
 use Rattle.std.proofs.Math.Seq.{take-append_seam}
 use Rattle.atomic_table.specs.Seated.{TableId}
 use Rattle.ca_term.specs.Tree.{Tree}
-use Rattle.ca_ets.specs.Command.{Command, Never, Answer as PlainAnswer}
+use Rattle.ca_ets.specs.Command.{Command, Never, Answer}
 use Rattle.ca_ets.specs.Explained.{ExplainedBy}
-use Rattle.ca_cmd.specs.Answers.{answers_of}
-use Rattle.ca_cmd.specs.File.{commands_in}
+use Rattle.ca_cmd.specs.File.{Numbered, commands_in}
 use Rattle.ca_cmd.specs.Lines.{numbered}
-use Rattle.ca_cmd.specs.declared.answer.Answer.{Answer}
+use Rattle.ca_cmd.specs.Told.{AreTold, AreAllTold}
+use Rattle.ca_cmd.specs.declared.answers.Answers.{Answers}
 use Rattle.ca_cmd.specs.declared.line.Line.{Line}
 use Rattle.ca_model.specs.Event.{Entry}
 use Rattle.ca_model.specs.History.{History, after, AreByPasses}
@@ -34,7 +34,8 @@ use Rattle.ca_explain.specs.Stands.{Stands}
 use Rattle.ca_explain.proofs.Explains.{explains}
 use Rattle.ca_client.specs.Clients.{IsBehind, HavePlayed}
 use Rattle.ca_client.specs.Played.{AreCounted, HasPlayed}
-use Rattle.ca_client.specs.Ran.{HasRun, IsPlayedBy, ArePlayedBy, all_answers_of, splits_of, joins_of}
+use Rattle.ca_client.specs.Told.{HasTold}
+use Rattle.ca_client.specs.Ran.{HasRun, IsPlayedBy, ArePlayedBy, answers_in, splits_of, joins_of}
 use Rattle.ca_client.specs.Sharing.{IsReady, AreReady, IsPart, AreParts, AreLeft}
 use Rattle.ca_client.specs.declared.clients.Client.{Client}
 use Rattle.ca_client.specs.declared.running.Parts.{Parts}
@@ -54,38 +55,45 @@ one_table a b e = λ i. record {
 }
 
 -- What a client's play on its pass comes to: it played these lines, by this pass, which is one of the table and isn't pinned.
-pub record IsShare {R : Type 0} (table : TableId) (z : Sizes) (number : ℕ) (file : List Line) (answers : List Answer) (pass : Pass R TreeView) : Type 0 where
+pub record IsShare {R : Type 0} (table : TableId) (z : Sizes) (number : ℕ) (file : List Line) (told : Answers) (pass : Pass R TreeView) : Type 0 where
+  pub answers : List Answer
+  pub are_told : AreTold (numbered file) answers told
   pub parts : List Part
-  pub plays : Plays z.keypos Never (commands_in (numbered file)) (answers_of answers) parts
-  pub played : IsPlayedBy number (record { commands = commands_in (numbered file); answers = answers_of answers; parts = parts }) (left_by pass)
+  pub plays : Plays z.keypos Never (commands_in (numbered file)) answers parts
+  pub played : IsPlayedBy number (record { commands = commands_in (numbered file); answers = answers; parts = parts }) (left_by pass)
   pub closable : IsClosable table pass.seat
 
 module _ {R : Type 0} (table : TableId) (z : Sizes) where
   -- So it is with clients, of which the first has this number.
-  abbrev pub AreShares : ℕ → List (List Line) → List (List Answer) → List (Pass R TreeView) → Type 0
+  abbrev pub AreShares : ℕ → List (List Line) → List Answers → List (Pass R TreeView) → Type 0
   AreShares first [] [] [] = Unit {0}
-  AreShares first (file ∷ files) (answers ∷ all) (pass ∷ passes) = IsShare table z first file answers pass × AreShares (suc first) files all passes
+  AreShares first (file ∷ files) (told ∷ all) (pass ∷ passes) = IsShare table z first file told pass × AreShares (suc first) files all passes
   AreShares first files all passes = ⊥
 
 module _ {S R : Type 0} (table : TableId) (z : Sizes) where
-  module _ (number : ℕ) (file : List Line) (a b : Client S) (answers : List Answer) (pass : Pass R TreeView)
-      (ready : IsReady table z number file a) (behind : IsBehind a b) (part : IsPart b answers pass) where
-    play : HasPlayed a.table b.table (commands_in (numbered a.lines.now)) (answers_of answers)
-    play = behind.played answers part.answered
+  module _ (number : ℕ) (file : List Line) (a b : Client S) (told : Answers) (pass : Pass R TreeView)
+      (ready : IsReady table z number file a) (behind : IsBehind a b) (part : IsPart b told pass) where
+    tells : HasTold a.table b.table (numbered a.lines.now) told
+    tells = behind.played told part.answered
+
+    play : HasPlayed a.table b.table (commands_in (numbered a.lines.now)) tells.answers
+    play = tells.played
 
     -- What a pass that was just made played is its client's share.
-    pub share : IsShare table z number file answers pass
+    pub share : IsShare table z number file told pass
     unfolding play
     share = record {
+      answers = tells.answers;
+      are_told = subst (λ (l : List Line). AreTold (numbered l) tells.answers told) ready.lines tells.are_told;
       parts = play.parts;
-      plays = subst (λ (l : List Line). Plays z.keypos Never (commands_in (numbered l)) (answers_of answers) play.parts) ready.lines
-          (subst (λ (k : Known). Plays k.keypos Never (commands_in (numbered a.lines.now)) (answers_of answers) play.parts) ready.begins play.plays);
+      plays = subst (λ (l : List Line). Plays z.keypos Never (commands_in (numbered l)) tells.answers play.parts) ready.lines
+          (subst (λ (k : Known). Plays k.keypos Never (commands_in (numbered a.lines.now)) tells.answers play.parts) ready.begins play.plays);
       played = record {
         number_is = sym (ap (λ (k : Known). k.pass) part.knows) ∙ play.grown.same.pass ∙ ap (λ (k : Known). k.pass) ready.begins;
-        log = log_of_parts a.table b.table (commands_in (numbered a.lines.now)) (answers_of answers) [] (tree_of pass).seen (tree_of pass).log play
+        log = log_of_parts a.table b.table (commands_in (numbered a.lines.now)) tells.answers [] (tree_of pass).seen (tree_of pass).log play
             (ap (λ (k : Known). k.seen) ready.begins) (ap (λ (k : Known). k.seen) part.knows);
-        counted = subst (λ (k : Known). AreCounted no_refusals k.counts (answers_of answers)) part.knows
-            (subst (λ (k : Known). AreCounted k.counts b.table.counts (answers_of answers)) ready.begins play.counted);
+        counted = subst (λ (k : Known). AreCounted no_refusals k.counts tells.answers) part.knows
+            (subst (λ (k : Known). AreCounted k.counts b.table.counts tells.answers) ready.begins play.counted);
       };
       closable = (
         one_table pass.seat.table_id table
@@ -95,7 +103,7 @@ module _ {S R : Type 0} (table : TableId) (z : Sizes) where
     }
 
   -- What these played is their clients' shares.
-  pub shares : (first : ℕ) (files : List (List Line)) (olds news : List (Client S)) (all : List (List Answer)) (passes : List (Pass R TreeView))
+  pub shares : (first : ℕ) (files : List (List Line)) (olds news : List (Client S)) (all : List Answers) (passes : List (Pass R TreeView))
       → length news ≡ length olds → AreReady table z first files olds → HavePlayed olds news → AreParts news all passes → AreShares table z first files all passes
   shares first [] [] [] [] [] e ready played parts = tt
   shares first [] [] [] [] (p ∷ passes) e ready played parts = absurd parts
@@ -127,18 +135,18 @@ pub closed_map : (past : TreePast) (objects : StoreMap) → IsClosed past object
 closed_map past objects closed = let keypos = past.sizes.keypos in
     subst (λ (m : StoreMap). IsStoreMap keypos m) (sym closed.has) (map_after keypos closed.history [] closed.edits tt)
 
--- Clients that played these files by these passes, with these answers.
-pub record ArePlayers (keypos first : ℕ) (files : List (List Line)) (all : List (List Answer)) (passes : List Ended) : Type 0 where
+-- Clients that played these files by these passes, and were told so.
+pub record ArePlayers (keypos first : ℕ) (files : List (List Line)) (all : List Answers) (passes : List Ended) : Type 0 where
   pub clients : List Player
   pub count : length clients ≡ length files
   pub commands_are : map (λ (c : Player). c.commands) clients ≡ map commands_in (map numbered files)
-  pub answers_are : map (λ (c : Player). c.answers) clients ≡ all_answers_of all
+  pub are_told : AreAllTold (map numbered files) (answers_in clients) all
   pub played : ArePlayedBy first clients passes
   pub plays : All (λ (c : Player). Plays keypos Never c.commands c.answers c.parts) clients
 
 module _ {R : Type 0} (table : TableId) (z : Sizes) where
   -- The passes of such clients may be closed with the table.
-  pub closable : (first : ℕ) (files : List (List Line)) (all : List (List Answer)) (passes : List (Pass R TreeView))
+  pub closable : (first : ℕ) (files : List (List Line)) (all : List Answers) (passes : List (Pass R TreeView))
       → AreShares table z first files all passes → All (λ (pass : Pass R TreeView). IsClosable table pass.seat) passes
   closable first [] [] [] shares = λ k d l. absurd (omega (arith, l))
   closable first [] [] (p ∷ passes) shares = absurd shares
@@ -148,22 +156,22 @@ module _ {R : Type 0} (table : TableId) (z : Sizes) where
   closable first (f ∷ files) (x ∷ all) (p ∷ passes) shares =
       All-cons (λ (pass : Pass R TreeView). IsClosable table pass.seat) p passes shares.0.closable (closable (suc first) files all passes shares.1)
 
-  pub players : (first : ℕ) (files : List (List Line)) (all : List (List Answer)) (passes : List (Pass R TreeView))
+  pub players : (first : ℕ) (files : List (List Line)) (all : List Answers) (passes : List (Pass R TreeView))
       → AreShares table z first files all passes → ArePlayers z.keypos first files all (map left_by passes)
   players first [] [] [] shares =
-      record { clients = []; count = refl; commands_are = refl; answers_are = refl; played = tt; plays = λ k d l. absurd (omega (arith, l)) }
+      record { clients = []; count = refl; commands_are = refl; are_told = tt; played = tt; plays = λ k d l. absurd (omega (arith, l)) }
   players first [] [] (p ∷ passes) shares = absurd shares
   players first [] (x ∷ all) passes shares = absurd shares
   players first (f ∷ files) [] passes shares = absurd shares
   players first (f ∷ files) (x ∷ all) [] shares = absurd shares
   players first (f ∷ files) (x ∷ all) (p ∷ passes) shares =
       let rest = players (suc first) files all passes shares.1 in
-      let player : Player = record { commands = commands_in (numbered f); answers = answers_of x; parts = shares.0.parts } in
+      let player : Player = record { commands = commands_in (numbered f); answers = shares.0.answers; parts = shares.0.parts } in
       record {
         clients = player ∷ rest.clients;
         count = ap (λ (n : ℕ). suc n) rest.count;
         commands_are = ap (λ (cs : List (List Command)). commands_in (numbered f) ∷ cs) rest.commands_are;
-        answers_are = ap (λ (xs : List (List PlainAnswer)). answers_of x ∷ xs) rest.answers_are;
+        are_told = (shares.0.are_told, rest.are_told);
         played = (shares.0.played, rest.played);
         plays = All-cons (λ (c : Player). Plays z.keypos Never c.commands c.answers c.parts) player rest.clients shares.0.plays rest.plays;
       }
@@ -211,23 +219,22 @@ module _ {R : Type 0} (table : TableId) (z : Sizes) (files : List (List Line)) (
       (players table z 1 files ran.answers.items passes shares)
 
   pub has_run : ran.splits ≡ splits_of (map left_by passes) → ran.joins ≡ joins_of (map left_by passes)
-      → HasRun z.keypos (map commands_in (map numbered files)) ran
+      → HasRun z.keypos (map numbered files) ran
   has_run splits joins =
       let p = players_are in
       let logs = have_logs z.keypos ran.past p.clients objects ran.table closed (made ∙ sym p.count) p.played p.plays stands in
       let merge = merge_of closed.history p.clients in
       let terms = ran.table in
       record {
-        made = made ∙ sym p.count ∙ sym (length-map p.clients (λ (c : Player). c.commands)) ∙ ap (λ (cs : List (List Command)). length cs) p.commands_are;
+        made = made ∙ sym (length-map files numbered);
         history = closed.history;
         clients = p.clients;
         commands_are = p.commands_are;
-        answers_are = p.answers_are;
+        are_told = p.are_told;
         logs = logs;
         played = p.played;
         splits_are = splits ∙ ap (λ (xs : List Ended). splits_of xs) (sym left);
         joins_are = joins ∙ ap (λ (xs : List Ended). joins_of xs) (sym left);
-        explained = subst (λ (cs : List (List Command)). ExplainedBy z.keypos cs (all_answers_of ran.answers.items) merge terms) p.commands_are
-            (subst (λ (xs : List (List PlainAnswer)). ExplainedBy z.keypos (map (λ (c : Player). c.commands) p.clients) xs merge terms) p.answers_are
-            (explains z.keypos closed.history p.clients terms logs));
+        explained = subst (λ (cs : List (List Command)). ExplainedBy z.keypos cs (answers_in p.clients) merge terms) p.commands_are
+            (explains z.keypos closed.history p.clients terms logs);
       }

@@ -4,7 +4,7 @@ use Rattle.std.specs.Prelude.{sum_by}
 use Rattle.std.proofs.lemmas.List.{map-append}
 use Rattle.std.proofs.lemmas.List.Sums.{sum_by_push}
 use Rattle.atomic_table.specs.Seated.{TableId}
-use Rattle.ca_cmd.specs.declared.answer.Answer.{Answer}
+use Rattle.ca_cmd.specs.declared.answers.Answers.{Answers}
 use Rattle.ca_cmd.specs.declared.line.Line.{Line}
 use Rattle.ca_node.specs.TreePasses.{tree_of}
 use Rattle.ca_node.specs.TreeView.{Ended, TreeView}
@@ -32,7 +32,7 @@ module _ {S : Type 0} (table : TableId) (z : Sizes) where
       (all.0, ready_more (suc first) number files clients file client (omega (arith, e)) all.1 ready)
 
 module _ {S R : Type 0} where
-  pub parts_more : (clients : List (Client S)) (all : List (List Answer)) (passes : List (Pass R TreeView)) (client : Client S) (answers : List Answer)
+  pub parts_more : (clients : List (Client S)) (all : List Answers) (passes : List (Pass R TreeView)) (client : Client S) (answers : Answers)
       (pass : Pass R TreeView) → AreParts clients all passes → IsPart client answers pass
       → AreParts (clients ++ client ∷ []) (all ++ answers ∷ []) (passes ++ pass ∷ [])
   parts_more [] [] [] client answers pass parts part = (part, tt)

@@ -1,11 +1,11 @@
 -- What a run of clients on one tree comes to.
 use Rattle.std.specs.Prelude.{◌≡◌, ℕ, suc, min, List, [], ◌∷◌, length, map, sum_by}
-use Rattle.ca_ets.specs.Command.{Command, Answer as PlainAnswer}
+use Rattle.ca_ets.specs.Command.{Answer}
 use Rattle.ca_ets.specs.Explained.{ExplainedBy}
 use Rattle.ca_model.specs.History.{History}
 use Rattle.ca_node.specs.TreeView.{Ended, no_refusals}
-use Rattle.ca_cmd.specs.Answers.{answers_of}
-use Rattle.ca_cmd.specs.declared.answer.Answer.{Answer}
+use Rattle.ca_cmd.specs.File.{Numbered, commands_in}
+use Rattle.ca_cmd.specs.Told.{AreAllTold}
 use Rattle.ca_explain.specs.Clients.{Client, log_of}
 use Rattle.ca_explain.specs.Explaining.{HaveLogs, merge_of}
 use Rattle.ca_replace.specs.Past.{TreePast}
@@ -14,9 +14,9 @@ use Rattle.ca_replace.specs.declared.tree.Tree.{Tree}
 use Rattle.ca_client.specs.Played.{AreCounted}
 use Rattle.ca_client.specs.declared.running.Ran.{Ran}
 
--- the answers to each client as plain data
-abbrev pub all_answers_of : List (List Answer) → List (List PlainAnswer)
-all_answers_of all = map answers_of all
+-- the answers to each client
+abbrev pub answers_in : List Client → List (List Answer)
+answers_in clients = map (λ client. client.answers) clients
 
 -- how many splits and how many joins these passes carried out together, each up to the last number that 64 bits hold
 abbrev pub splits_of : List Ended → ℕ
@@ -44,20 +44,21 @@ pub record IsPastOf (tree : Tree) (past : TreePast) : Type 0 where
   pub sizes : past.sizes ≡ tree.space.sizes
   pub tuning : past.tuning ≡ tree.tuning
 
--- The clients played by the passes of the closed tree, which made one for each, and no other. There is one history for which the passes' logs are lawful,
--- and whose last state stands for the table; so the merge by places explains the answers and the table. Splits and joins are those of the passes.
-pub record HasRun (keypos : ℕ) (commands : List (List Command)) (ran : Ran) : Type 0 where
-  pub made : ran.past.made ≡ length commands
+-- The clients played these lines by the passes of the closed tree, which made one for each, and no other. There is one history for which the passes' logs
+-- are lawful, and whose last state stands for the table; so the merge by places explains the answers and the table. What is told of the answers is their
+-- printed lines, and how many of them refuse. Splits and joins are those of the passes.
+pub record HasRun (keypos : ℕ) (lines : List (List Numbered)) (ran : Ran) : Type 0 where
+  pub made : ran.past.made ≡ length lines
   pub history : History
   pub clients : List Client
-  pub commands_are : map (λ client. client.commands) clients ≡ commands
-  pub answers_are : map (λ client. client.answers) clients ≡ all_answers_of ran.answers.items
+  pub commands_are : map (λ client. client.commands) clients ≡ map commands_in lines
+  pub are_told : AreAllTold lines (answers_in clients) ran.answers.items
   pub logs : HaveLogs keypos history clients ran.table
   pub played : ArePlayedBy 1 clients ran.past.passes
   pub splits_are : ran.splits ≡ splits_of ran.past.passes
   pub joins_are : ran.joins ≡ joins_of ran.past.passes
-  pub explained : ExplainedBy keypos commands (all_answers_of ran.answers.items) (merge_of history clients) ran.table
+  pub explained : ExplainedBy keypos (map commands_in lines) (answers_in clients) (merge_of history clients) ran.table
 
 -- The history of a run is told by the logs of its passes: there is no other one.
 abbrev pub HaveOneHistory : Type 0
-HaveOneHistory = (keypos : ℕ) (commands : List (List Command)) (ran : Ran) (one other : HasRun keypos commands ran) → one.history ≡ other.history
+HaveOneHistory = (keypos : ℕ) (lines : List (List Numbered)) (ran : Ran) (one other : HasRun keypos lines ran) → one.history ≡ other.history

@@ -1,7 +1,7 @@
 -- Passes that were just made, the clients that play by them, and what these leave.
 use Rattle.std.specs.Prelude.{◌≡◌, ℕ, suc, false, List, [], ◌∷◌, map, Some}
 use Rattle.atomic_table.specs.Seated.{TableId}
-use Rattle.ca_cmd.specs.declared.answer.Answer.{Answer}
+use Rattle.ca_cmd.specs.declared.answers.Answers.{Answers}
 use Rattle.ca_cmd.specs.declared.line.Line.{Line}
 use Rattle.ca_node.specs.TreePasses.{tree_of}
 use Rattle.ca_node.specs.TreeView.{TreeView, blank}
@@ -38,17 +38,17 @@ module _ {S : Type 0} (table : TableId) (z : Sizes) where
   AreReady first files clients = ⊥
 
 module _ {S R : Type 0} where
-  -- The client has these answers, and this is its store's pass, which isn't pinned.
-  pub record IsPart (client : Client S) (answers : List Answer) (pass : Pass R TreeView) : Type 0 where
-    pub answered : client.answers ≡ Some answers
+  -- The client was told so, and this is its store's pass, which isn't pinned.
+  pub record IsPart (client : Client S) (told : Answers) (pass : Pass R TreeView) : Type 0 where
+    pub answered : client.answers ≡ Some told
     pub z : Sizes
     pub knows : client.table ≡ known_of pass.seat.table_id z (tree_of pass)
     pub unpinned : pass.seat.me.0.pin.pinned ≡ false
 
   -- So it is with each client.
-  abbrev pub AreParts : List (Client S) → List (List Answer) → List (Pass R TreeView) → Type 0
+  abbrev pub AreParts : List (Client S) → List Answers → List (Pass R TreeView) → Type 0
   AreParts [] [] [] = Unit {0}
-  AreParts (client ∷ clients) (answers ∷ all) (pass ∷ passes) = IsPart client answers pass × AreParts clients all passes
+  AreParts (client ∷ clients) (told ∷ all) (pass ∷ passes) = IsPart client told pass × AreParts clients all passes
   AreParts clients all passes = ⊥
 
 -- These are the clients' answers and passes, and what all passes together did to the tree.

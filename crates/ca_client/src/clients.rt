@@ -16,7 +16,7 @@ use std::thread::{Threads, for_each_mut};
 // On how many threads clients play at most.
 const MOST_THREADS: usize = 64;
 
-/// A client: its number, counted from 1, its table, its lines, and its answers, once it has played. There are none where memory wasn't found.
+/// A client: its number, counted from 1, its table, its lines, and its answers as text, once it has played. There are none where memory wasn't found.
 #[derive(Drop)]
 pub struct Client<'l, S: OrderedStore + Drop> {
     pub number: u32,

@@ -1,10 +1,11 @@
 //! A client plays its lines. One that others kept from being done is tried again, with a greater budget or after a wait.
 ghost use Rattle.std.specs.Prelude.{◌≡◌, ◌≤◌, ◌<◌, ◌⊎◌, IfOk, OnErr, IsSome, None, MatchBool};
 ghost use Rattle.ca_ets.specs.Command.{IsContinuation, continuation_of};
-ghost use Rattle.ca_cmd.specs.Answers.{answer_of, answers_of};
+ghost use Rattle.ca_cmd.specs.Answers.{answer_of};
 ghost use Rattle.ca_cmd.specs.File.{commands_in};
 ghost use Rattle.ca_cmd.specs.Lines.{numbered};
-ghost use Rattle.ca_client.specs.Played.{HasAnswered, HasPlayed, HasRead, HasStopped};
+ghost use Rattle.ca_client.specs.Played.{HasAnswered, HasRead, HasStopped};
+ghost use Rattle.ca_client.specs.Told.{HasTold};
 
 use crate::gate::Gate;
 use ca_cmd::{Answer, Answers, Lines};
@@ -102,7 +103,8 @@ fn answer_to<R: Wait, S: OrderedStore + Drop>(
 /// Plays the lines of a client, in order, as the client of this number, counted from 1: each has one answer, and the gate is told of each before it is
 /// played and behind it. A line that is busy is played again with twice the budget, from 64 up to 2^31, until it is answered; one that finds no room
 /// while another pass lags waits and is played again, 1,000 times at most. Behind a line that found no room other threads are let run. Each command is made
-/// from the text of its line when it is played. `Err` where memory wasn't found; what was played before stands.
+/// from the text of its line when it is played, and an answer is text as soon as it was given. `Err` where memory wasn't found; what was played before
+/// stands.
 pub fn play<R: Wait, S: OrderedStore + Drop, G: Gate>(
     rt: &R,
     alloc: Global,
@@ -111,11 +113,11 @@ pub fn play<R: Wait, S: OrderedStore + Drop, G: Gate>(
     lines: &Lines,
     gate: &G,
 ) -> Result<Answers, AllocError>
-    ensures played { IfOk result (λ answers. HasPlayed table.old table.new (commands_in (numbered lines.now)) (answers_of answers)) }
+    ensures played { IfOk result (λ told. HasTold table.old table.new (numbered lines.now) told) }
     ensures stopped { OnErr result (HasStopped table.old table.new (commands_in (numbered lines.now))) }
 {
     let mut cont = Cont::Never;
-    let mut answers = Vec::with_capacity(alloc, lines.len())?;
+    let mut answers = Answers::new(alloc);
     let mut refused = 0_u32;
     for at in 0..lines.len() {
         let line = lines.line(alloc, at)?;
@@ -123,7 +125,7 @@ pub fn play<R: Wait, S: OrderedStore + Drop, G: Gate>(
         let answer = answer_to(rt, alloc, table, &line.cmd, &mut cont)?;
         gate.after(client, line.number, &answer);
         refused = rest(&answer, refused);
-        answers.push_reserved(answer);
+        answers.add(line.number, &answer)?;
     }
-    Ok(Answers::from_vec(answers))
+    Ok(answers)
 }

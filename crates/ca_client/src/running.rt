@@ -1,6 +1,5 @@
 //! Clients that share a tree: from their lines to their answers and the final table.
 ghost use Rattle.std.specs.Prelude.{◌≡◌, ℕ, ◌≤◌, IfOk, IfSome, OnOk, length, map, vec_len};
-ghost use Rattle.ca_cmd.specs.File.{commands_in};
 ghost use Rattle.ca_cmd.specs.Lines.{numbered};
 ghost use Rattle.ca_client.specs.Ran.{HasRun, IsPastOf};
 ghost use Rattle.ca_node.specs.Tallied.{IsTallied};
@@ -22,7 +21,7 @@ use std::thread::Threads;
 /// What a run of clients comes to.
 #[derive(Drop)]
 pub struct Ran {
-    /// The answers to each client's commands.
+    /// The answers to each client's commands, as text.
     pub answers: Vec<Answers>,
     /// The final table.
     pub table: ClosedTable,
@@ -162,7 +161,7 @@ pub fn run_clients<R: Threads + Wait + Sync, G: Gate + Sync>(
     requires fresh { tree.space.made ≡ 0 }
     requires few { length files.now ≤ tree.space.sizes.passes }
     requires keypos { (keypos ≡ tree.space.sizes.keypos) × (1 ≤ keypos) }
-    ensures ran { IfOk result (λ ran. HasRun keypos (map commands_in (map numbered files.now)) ran) }
+    ensures ran { IfOk result (λ ran. HasRun keypos (map numbered files.now) ran) }
     ensures past { IfOk result (λ ran. IsPastOf tree ran.past) }
 {
     let mut tree = tree;

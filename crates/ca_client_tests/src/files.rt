@@ -1,6 +1,6 @@
 //! Command files, and answers as text.
 use ca_client::{Gate, OpenGate, play};
-use ca_cmd::{Answer, Lines, read_file, show_reply};
+use ca_cmd::{Answers, Lines, read_file};
 use ca_model::OrderedStore;
 use ca_table::Table;
 use ca_text::put;
@@ -35,12 +35,20 @@ pub(crate) fn lines_of(alloc: Global, text: &str) -> Result<Lines, AllocError> {
     }
 }
 
-/// The text of these answers, each with `;` behind it.
-pub(crate) fn text_of(alloc: Global, answers: &[Answer]) -> Result<Vec<u8>, AllocError> {
+/// The text of these answers without the numbers of their lines, each with `;` behind it.
+pub(crate) fn text_of(alloc: Global, answers: &Answers) -> Result<Vec<u8>, AllocError> {
     let mut text = Vec::new(alloc);
-    for answer in answers {
-        show_reply(answer, &mut text)?;
-        put(b";", &mut text)?;
+    let mut is_number = true;
+    for byte in answers.text.as_slice() {
+        match *byte {
+            b'\n' => {
+                text.push(b';')?;
+                is_number = true;
+            }
+            b' ' if is_number => is_number = false,
+            _ if is_number => {}
+            other => text.push(other)?,
+        }
     }
     Ok(text)
 }
@@ -55,7 +63,7 @@ pub(crate) fn played<R: Wait, S: OrderedStore + Drop, G: Gate>(
 ) -> Result<Vec<u8>, AllocError> {
     let lines = lines_of(alloc, text)?;
     let answers = play(rt, alloc, 1, table, &lines, gate)?;
-    text_of(alloc, answers.as_slice())
+    text_of(alloc, &answers)
 }
 
 /// The same with a gate that does nothing.

@@ -83,6 +83,7 @@ fn an_open_gate_lets_all_pass(rt: HostRuntime) -> Result<(), Fail> {
     let lines = lines_of(rt.alloc(), "first")?;
     let mut table = table_of(rt.alloc());
     let answers = play(&rt, rt.alloc(), 7, &mut table, &lines, &OpenGate)?;
-    assert_eq!(rt; answers.len(), 1);
+    assert_eq!(rt; answers.text.as_slice(), b"1 '$end_of_table'\n".as_slice());
+    assert_eq!(rt; answers.refused, 0);
     Ok(())
 }

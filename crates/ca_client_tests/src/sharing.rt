@@ -77,8 +77,9 @@ fn one_client_splits_bases_until_no_level_is_left(rt: HostRuntime) -> Result<(),
     let ran = ran_of(&rt, alloc, 8, &[ELEVEN], &OpenGate)?;
     assert_eq!(rt; ran.answers.len(), 1);
     for answers in ran.answers.as_slice() {
-        let text = text_of(alloc, answers.as_slice())?;
+        let text = text_of(alloc, answers)?;
         assert_eq!(rt; text.as_slice(), ELEVEN_ANSWERS);
+        assert_eq!(rt; answers.refused, 1);
     }
     assert_eq!(rt; (ran.splits, ran.joins), (8, 0));
     assert_eq!(rt; ran.table.len(), 10);
@@ -96,7 +97,7 @@ fn two_clients_that_meet_share_one_table(rt: HostRuntime) -> Result<(), Fail> {
     let mut first = 0_u32;
     for answers in ran.answers.as_slice() {
         client = client.saturating_add(1);
-        let text = text_of(alloc, answers.as_slice())?;
+        let text = text_of(alloc, answers)?;
         let was_first = gate.told(client, 1) == 1;
         let wanted = match was_first {
             true => b"true;true;true;refused deep;".as_slice(),
@@ -121,7 +122,7 @@ fn three_clients_have_each_its_own_answers(rt: HostRuntime) -> Result<(), Fail> 
     let ran = ran_of(&rt, alloc, 8, &texts, &OpenGate)?;
     let mut all = Vec::new(alloc);
     for answers in ran.answers.as_slice() {
-        put(text_of(alloc, answers.as_slice())?.as_slice(), &mut all)?;
+        put(text_of(alloc, answers)?.as_slice(), &mut all)?;
         all.push(b'|')?;
     }
     assert_eq!(rt; all.as_slice(), b"true;true;||[];true;[{2,b}];|".as_slice());

@@ -1,5 +1,5 @@
 -- Answers as plain data.
-use Rattle.std.specs.Prelude.{List, map, Ok, Err}
+use Rattle.std.specs.Prelude.{ℕ, suc, List, [], ◌∷◌, map, Ok, Err}
 use Rattle.ca_ets.specs.Command.{Answer as PlainAnswer, Full, Deep, Worn, response_of}
 use Rattle.ca_cmd.specs.declared.answer.Answer.{Answer}
 use Rattle.ca_cmd.specs.declared.answer.Answer.TheVariants as answer
@@ -10,5 +10,8 @@ answer_of answer.Full = Err Full
 answer_of answer.Deep = Err Deep
 answer_of answer.Worn = Err Worn
 
-abbrev pub answers_of : List Answer → List PlainAnswer
-answers_of answers = map answer_of answers
+-- how many commands were refused
+abbrev pub refusals : List PlainAnswer → ℕ
+refusals [] = 0
+refusals (Ok response ∷ answers) = refusals answers
+refusals (Err refusal ∷ answers) = suc (refusals answers)

@@ -11,4 +11,5 @@ pub mod Output
 pub mod Parts
 pub mod Refusal
 pub mod Sole
+pub mod Told
 pub mod Word

@@ -6,7 +6,7 @@ ghost use Rattle.ca_cmd.specs.Refusal.{IsCauseIn};
 
 use crate::fault::FileFault;
 use crate::part::{Part, read_part};
-use memchr::memchr;
+use memchr::{memchr, memchr_iter};
 use std::alloc::{AllocError, Global};
 use std::thread::{Threads, map_indices};
 
@@ -32,10 +32,8 @@ pub(crate) struct Piece {
 // How many LFs there are.
 fn ends_in(bytes: &[u8]) -> u32 {
     let mut count = 0_u32;
-    for byte in bytes {
-        if *byte == b'\n' {
-            count = count.saturating_add(1);
-        }
+    for _ in memchr_iter(b'\n', bytes) {
+        count = count.saturating_add(1);
     }
     count
 }

@@ -1,10 +1,10 @@
-use Rattle.std.proofs.Common.{◌≡◌, ◌+◌, ◌++◌, drop, map}
-use Rattle.ca_cmd.specs.Answers.{answers_of}
-use Rattle.ca_cmd.specs.Lines.{numbered}
-use Rattle.ca_cmd.specs.Output.{client_lines}
+use Rattle.std.proofs.Common.{◌≡◌, ◌+◌, ◌++◌, drop}
+use Rattle.ca_cli.specs.Texts.{told_lines}
 use Rattle.ca_cli.proofs.answer.put_clients.Given as goal
 
 -- the clients so far, and those that are left
-abbrev pub invariant-loop-text : goal.invariant-loop-text
-invariant-loop-text g l = l.into.items ++ client_lines (l.text-index + 1) (map numbered (drop l.text-index l.files)) (map answers_of (drop l.text-index l.all))
-    ≡ l.initial.into.items ++ client_lines 1 (map numbered l.files) (map answers_of l.all)
+abbrev pub invariant-loop-told : goal.invariant-loop-told
+invariant-loop-told l = record {
+  counted : l.client ≡ l.told-index;
+  lines : l.into.items ++ told_lines (l.told-index + 1) (drop l.told-index l.all) ≡ l.initial.into.items ++ told_lines 1 l.all;
+}

@@ -15,5 +15,5 @@ returns-clause-run g c =
     record {
       made = subst (λ (n : ℕ). IsMadeFor n c.args.line.tree all ran.past) c.keypos_of-keypos.ensures
           (made_for keypos c.args.line.tree all tree ran.past c.in_ok-tree.ensures.made c.in_ok-ran.ensures.past);
-      played = subst (λ (n : ℕ). HasRun n all ran) c.keypos_of-keypos.ensures c.in_ok-ran.ensures.ran;
+      played = subst (λ (n : ℕ). HasRun n (map numbered c.args.files.now) ran) c.keypos_of-keypos.ensures c.in_ok-ran.ensures.ran;
     }

@@ -50,5 +50,5 @@ returns-clause-played g c =
         found = c.in_ok-files.ensures.found;
       };
       run = rw c.as_slice.ensures.value at c.in-Ok-play.ensures.run;
-      written = rw c.as_slice.ensures.value at c.in-Ok-play.ensures.bytes;
+      written = c.in-Ok-play.ensures.bytes;
     }

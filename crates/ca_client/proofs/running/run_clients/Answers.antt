@@ -1,5 +1,4 @@
 use Rattle.std.proofs.Common.{◌≡◌, ℕ, List, map, sym, ◌∙◌, ap, subst}
-use Rattle.ca_cmd.specs.File.{commands_in}
 use Rattle.ca_cmd.specs.Lines.{numbered}
 use Rattle.ca_model.specs.StoreMap.{IsStoreMap}
 use Rattle.ca_term.specs.Tree.{Tree}
@@ -50,7 +49,7 @@ returns g c =
     subst (λ (terms : List Tree). Stands shared.key.keypos objects terms) (sym (c.of.ensures table.0 table.1))
     (table_stands shared.key.keypos objects table.0 map_is table.1) in
     record {
-      ran = subst (λ (k : ℕ). HasRun k (map commands_in (map numbered files)) ran) keypos
+      ran = subst (λ (k : ℕ). HasRun k (map numbered files) ran) keypos
           (has_run shared.table_id shared.key files parts.passes.items objects ran shares (ap (λ (p : TreePast). p.passes) told)
           (ap (λ (p : TreePast). p.made) told ∙ c.in_ok-passes.ensures.made) c.in-Ok.ensures.closed stands
           c.in_ok-parts.ensures.splits_are c.in_ok-parts.ensures.joins_are);
