@@ -118,6 +118,7 @@ module _ (z : Sizes) (s : State (Unit {0}) (View TreeView)) (r : R z s) (id : �
       same_sizes = refl;
       same_made = refl;
       same_stage = refl;
+      same_lost = refl;
       same_pin = refl;
       wide = wide' z s r pass word' end.lo end.hi ∙ sym r.wide;
       low = λ i l. else_word z s r pass word' end.lo end.hi i (omega arith);

@@ -967,6 +967,7 @@ module _ (z : Sizes) (s : State (Unit {0}) (View TreeView)) (r : R z s) (id : �
               same_sizes = refl;
               same_made = refl;
               same_stage = refl;
+              same_lost = refl;
               same_pin = refl;
               wide = wide' ∙ sym r.wide;
               low = λ i l. control i (omega arith) (λ e. omega arith);

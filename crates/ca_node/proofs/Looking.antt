@@ -69,6 +69,7 @@ module _ (z : Sizes) where
         same_sizes = refl;
         same_made = refl;
         same_stage = refl;
+        same_lost = refl;
         same_pin = refl;
         wide = refl;
         low = λ k _. refl;

@@ -199,6 +199,7 @@ module _ (z : Sizes) (s : State (Unit {0}) (View TreeView)) (r : R z s) (pass wo
       same_sizes = refl;
       same_made = refl;
       same_stage = refl;
+      same_lost = refl;
       same_pin = refl;
       wide = wide' z s r pass word' lo hi ∙ sym r.wide;
       low = λ i l. else_word z s r pass word' lo hi i (omega arith);

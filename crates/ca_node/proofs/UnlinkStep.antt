@@ -451,6 +451,7 @@ module _ (z : Sizes) (s : State (Unit {0}) (View TreeView)) (r : R z s) (id : �
     same_sizes = refl;
     same_made = refl;
     same_stage = refl;
+    same_lost = refl;
     same_pin = refl;
     wide = relinked_wide z s.words role last shape x.way.row place here new ∙ sym r.wide;
     low = λ i l. control i (omega arith) (λ e. omega arith);

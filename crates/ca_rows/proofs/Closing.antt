@@ -77,6 +77,7 @@ pins_fewer made words pins id p = record {
           (λ (t : (i ≢ id) × (get_elem? pins i ≡ some d)).
           let k = (p.each i d t.1).is_pass pinned in absurd (omega arith))
           (at_set pins id i (unpinned 0) d here);
+      only = λ _ lo. absurd (omega arith);
     }
 
     other : (j : ℕ) (e : Pin) → j ≢ id → get_elem? pins j ≡ some e
@@ -98,6 +99,7 @@ pins_fewer made words pins id p = record {
           (λ (t : (i ≡ id) × (unpinned 0 ≡ d)). absurd (blank d t.1 pinned))
           (λ (t : (i ≢ id) × (get_elem? pins i ≡ some d)).
           k.scanned now i d t.1 low pinned) (at_set pins id i (unpinned 0) d at);
+      only = k.only;
     }
 
 -- What was the seat's is that of the seat that takes it in.
@@ -278,6 +280,7 @@ module _ {U : Type 0} (linked lent : List ℕ → ℕ → Type 0) (noted : List 
             made_are = λ e. mine.made_are (sym is ∙ e);
             stage_is = stages v.stage mine.stage_is;
             head_is = mine.head_is;
+            unlost = mine.unlost;
             in_range = λ c x f. by_claims c x f (claim_of v.claims c) refl;
             noted_pinned = λ c n. absurd (joined_unnoted c n);
           })
@@ -288,6 +291,7 @@ module _ {U : Type 0} (linked lent : List ℕ → ℕ → Type 0) (noted : List 
                 sym (none_made first) ∙ (r.seat seat w was_there).made_are first;
             stage_is = tt;
             head_is = tt;
+            unlost = λ _. refl;
             in_range = λ c x f. absurd (some-ne-none x (sym f));
             noted_pinned = λ c n. absurd (law.spent_notes s.words c n);
           })
@@ -296,6 +300,7 @@ module _ {U : Type 0} (linked lent : List ℕ → ℕ → Type 0) (noted : List 
             made_are = k.made_are;
             stage_is = stages d.stage k.stage_is;
             head_is = k.head_is;
+            unlost = k.unlost;
             in_range = k.in_range;
             noted_pinned = k.noted_pinned;
           });

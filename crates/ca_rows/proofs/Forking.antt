@@ -49,6 +49,7 @@ pins_more made words pins p = record {
       scanned = λ now i d at low pinned. ⊎_elim (λ f. k.scanned now i d f low pinned)
           (λ (t : (i ≡ length pins) × (unpinned 0 ≡ d)).
           absurd (is_unpinned d t.1 pinned)) (at_place pins (unpinned 0) d i at);
+      only = k.only;
     }
 
     new : IsPin made words (pins ++ unpinned 0 ∷ []) (length pins) (unpinned 0)
@@ -65,6 +66,7 @@ pins_more made words pins p = record {
           (λ f. let k = (p.each i d f).is_pass pinned in absurd (omega arith))
           (λ (t : (i ≡ length pins) × (unpinned 0 ≡ d)).
           absurd (is_unpinned d t.1 pinned)) (at_place pins (unpinned 0) d i at);
+      only = λ _ lo. absurd (omega arith);
     }
 
 module _ {U : Type 0} (linked lent : List ℕ → ℕ → Type 0) (noted : List ℕ → U → ℕ → Type 0)
@@ -104,6 +106,7 @@ module _ {U : Type 0} (linked lent : List ℕ → ℕ → Type 0) (noted : List 
           made_are = λ f. no_seats (sym t.0 ∙ f);
           stage_is = tt;
           head_is = tt;
+          unlost = λ _. refl;
           in_range = λ c x f. absurd (some-ne-none x (sym f));
           noted_pinned = λ c n. absurd (unnoted c n);
         })

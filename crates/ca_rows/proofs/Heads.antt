@@ -40,7 +40,7 @@ pub head_word : (words : List ℕ) (t r : ℕ) → (head_tag words ≡ t) × (he
 head_word words t r is = let tag = is.0 in let row = is.1 in omega arith
 
 -- Two seats of passes are two passes.
-two_are_apart : (made : ℕ) (words : List ℕ) (pins : List Pin) (j id : ℕ) (one other : Pin)
+pub two_are_apart : (made : ℕ) (words : List ℕ) (pins : List Pin) (j id : ℕ) (one other : Pin)
     → ArePins made words pins → get_elem? pins j ≡ some one → get_elem? pins id ≡ some other → j ≢ id
     → 0 < one.number → 0 < other.number → made ≤ 1 → ⊥
 two_are_apart made words pins j id one other p here there apart some_one some_other few =

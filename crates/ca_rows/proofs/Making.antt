@@ -75,6 +75,7 @@ pins_grow made words pins few p = record {
       scanned = λ now i d at low' pinned. ⊎_elim (λ f. k.scanned now i d f low' pinned)
           (λ (t : (i ≡ length pins) × (unpinned (made + 1) ≡ d)).
           absurd (is_unpinned d t.1 pinned)) (at_place pins (unpinned (made + 1)) d i at);
+      only = λ lone lo. absurd (omega arith);
     }
 
     new : IsPin (made + 1) words (pins ++ unpinned (made + 1) ∷ []) (length pins)
@@ -95,6 +96,7 @@ pins_grow made words pins few p = record {
           (λ f. let k = (p.each i d f).is_pass pinned in absurd (omega arith))
           (λ (t : (i ≡ length pins) × (unpinned (made + 1) ≡ d)).
           absurd (is_unpinned d t.1 pinned)) (at_place pins (unpinned (made + 1)) d i at);
+      only = λ _ _ begun. absurd (omega arith);
     }
 
 module _ {U : Type 0} (linked lent : List ℕ → ℕ → Type 0) (noted : List ℕ → U → ℕ → Type 0)
@@ -176,6 +178,7 @@ module _ {U : Type 0} (linked lent : List ℕ → ℕ → Type 0) (noted : List 
               (mine.made_are e);
           stage_is = mine.stage_is;
           head_is = head_grows r.made s.words v.pin.number v.stage (numbered 0 v at) mine.head_is;
+          unlost = mine.unlost;
           in_range = mine.in_range;
           noted_pinned = mine.noted_pinned;
         }
@@ -186,6 +189,7 @@ module _ {U : Type 0} (linked lent : List ℕ → ℕ → Type 0) (noted : List 
               absurd (n f);
           stage_is = k.stage_is;
           head_is = head_grows r.made s.words x.pin.number x.stage (numbered i x e) k.head_is;
+          unlost = k.unlost;
           in_range = k.in_range;
           noted_pinned = k.noted_pinned;
         }) j d)
@@ -196,6 +200,7 @@ module _ {U : Type 0} (linked lent : List ℕ → ℕ → Type 0) (noted : List 
               let same = length-set s.views 0 (made_one v) in let is = t.0 in absurd (omega arith);
           stage_is = tt;
           head_is = tt;
+          unlost = λ _. refl;
           in_range = λ c x e. absurd (some-ne-none x (sym e));
           noted_pinned = λ c n. absurd (law.making_notes s.words (v.made + 1) c n);
         })

@@ -11,7 +11,7 @@ use Rattle.ca_rows.specs.declared.view.View.{View}
 use Rattle.ca_rows.specs.Laws.{Agrees, Framed, Frames, Pinning}
 use Rattle.ca_rows.specs.Pins.{IsPin}
 use Rattle.ca_rows.specs.Rule.{upper_of, pin_of, Ruled}
-use Rattle.ca_rows.specs.Told.{Mine, Asked, Announced, Left, begun_of, met_of}
+use Rattle.ca_rows.specs.Told.{IsOnly, Mine, Asked, Announced, Left, begun_of, met_of}
 use Rattle.ca_rows.specs.Words.{own_word, epoch, announced}
 use Rattle.ca_rows.proofs.OwnWords.{own_is, own_same, announced_else, result_else}
 use Rattle.ca_rows.proofs.Pinned.{NewPin, pins_step, repinned}
@@ -90,6 +90,7 @@ module _ {U : Type 0} (linked lent : List ℕ → ℕ → Type 0) (noted : List 
         scanned = λ now i x there low p.
             own.scanned now i x (others_pinned (record d.pin { told = epoch s.words }) un i x there
             p) low p;
+        only = own.only;
       }
 
       ask_step : R record {
@@ -109,6 +110,7 @@ module _ {U : Type 0} (linked lent : List ℕ → ℕ → Type 0) (noted : List 
             same_sizes = refl;
             same_made = refl;
             same_stage = refl;
+            unlost = (r.seat id d at).unlost;
             same_number = refl;
             same_claims = refl;
             head = refl;
@@ -170,6 +172,7 @@ module _ {U : Type 0} (linked lent : List ℕ → ℕ → Type 0) (noted : List 
             same_sizes = refl;
             same_made = refl;
             same_stage = refl;
+            unlost = (r.seat id d at).unlost;
             same_number = pin.number_is;
             same_claims = refl;
             head = let w = r.wide in else_word 0 (λ e. omega arith);
@@ -238,6 +241,7 @@ module _ {U : Type 0} (linked lent : List ℕ → ℕ → Type 0) (noted : List 
                 (λ (t : (i ≢ id)
                 × (get_elem? (map pin_of s.views) i ≡ some y)). own.scanned now i y t.1 low p)
                 (at_set (map pin_of s.views) id i e' y there);
+            only = own.only;
           }
           (λ q n. let before =
           (framed_now lo (d.pin.told + 1)).notes id d.upper upper_at q
@@ -284,6 +288,7 @@ module _ {U : Type 0} (linked lent : List ℕ → ℕ → Type 0) (noted : List 
             scan_past = own.scan_past;
             scanned = λ now i y there low p.
                 own.scanned now i y (others_pinned e' refl i y there p) low p;
+            only = own.only;
           }
           (λ q n. law.leaving_notes (new_words lo 0) d.upper q n)
           (law.keeps_leaving z r.made (map upper_of s.views) (new_words lo 0) id d.upper
@@ -298,6 +303,14 @@ module _ {U : Type 0} (linked lent : List ℕ → ℕ → Type 0) (noted : List 
     ask_step s r id me.0 at un,
     (r.pins.small, refl),
   )
+
+  -- Who knows that the space is for one pass lost no exchange.
+  lone_unlost : (s : State (Unit {0}) (View U)) (r : R s) (id : ℕ) (me : Mine U)
+      → get_elem? s.views id ≡ some me.0 → IsOnly me → me.0.lost ≡ 0
+  lone_unlost s r id me at only = let some_rows = only.0 in
+      ⊎_elim (λ (e : me.0.sizes.rows ≡ 0). absurd (omega arith))
+      (λ (e : me.0.sizes ≡ z). (r.seat id me.0 at).unlost (subst (λ (y : Sizes). y.passes ≡ 1) e only.1))
+      (r.seat id me.0 at).sizes_are
 
   -- A pass's own words begin at this place.
   there : (s : State (Unit {0}) (View U)) → R s → (pass i : ℕ) → 0 < pass
@@ -358,5 +371,5 @@ module _ {U : Type 0} (linked lent : List ℕ → ℕ → Type 0) (noted : List 
             views = set s.views id w;
           }) (sym (there s r me.0.pin.number i lo is_i))
               (leave_step s r id me.0 at enters leaves law lo),
-          refl,
+          (refl, λ only. lone_unlost s r id me at only),
         )

@@ -43,6 +43,7 @@ module _ (made : ℕ) (words words' : List ℕ) (pins : List Pin) (p : ArePins m
     pub scan_past : e'.scan ≤ epoch words
     pub scanned : e'.scan ≡ epoch words → (i : ℕ) (d : Pin) → get_elem? (set pins id e') i ≡ some d
         → d.number ≤ e'.upto → d.pinned ≡ true → e'.scan ≤ d.moment
+    pub only : made ≤ 1 → 0 < e.number → 0 < e'.looks → e'.scan ≡ epoch words
 
   pub pins_step : NewPin → ArePins made words' (set pins id e')
   pins_step n = record {
@@ -82,6 +83,7 @@ module _ (made : ℕ) (words words' : List ℕ) (pins : List Pin) (p : ArePins m
         told_past = subst (λ x. e'.told ≤ x) (sym n.same_epoch) n.told_past;
         scan_past = subst (λ x. e'.scan ≤ x) (sym n.same_epoch) n.scan_past;
         scanned = λ y. n.scanned (y ∙ n.same_epoch);
+        only = λ lone lo begun. n.only lone (subst (λ x. 0 < x) n.number_is lo) begun ∙ sym n.same_epoch;
       }
 
       other : (j : ℕ) (x : Pin) → j ≢ id → get_elem? pins j ≡ some x
@@ -109,6 +111,7 @@ module _ (made : ℕ) (words words' : List ℕ) (pins : List Pin) (p : ArePins m
                 (n.moments (ap (λ (y : Pin). y.pinned) t.1 ∙ pinned)))
                 (λ (t : (i ≢ id) × (get_elem? pins i ≡ some d)).
                 k.scanned (y ∙ n.same_epoch) i d t.1 low pinned) (at_set pins id i e' d there);
+            only = λ lone lo begun. k.only lone lo begun ∙ sym n.same_epoch;
           }
         where
           not_mine : 0 < x.number → x.number ≢ e.number
@@ -128,6 +131,7 @@ module _ {U : Type 0} (linked lent : List ℕ → ℕ → Type 0) (noted : List 
     pub same_sizes : d'.sizes ≡ d.sizes
     pub same_made : d'.made ≡ d.made
     pub same_stage : d'.stage ≡ d.stage
+    pub unlost : z.passes ≡ 1 → d'.lost ≡ 0
     pub same_number : d'.pin.number ≡ d.pin.number
     pub same_claims : d'.claims ≡ d.claims
     pub head : get_or words' 0 0 ≡ get_or s.words 0 0
@@ -178,6 +182,7 @@ module _ {U : Type 0} (linked lent : List ℕ → ℕ → Type 0) (noted : List 
           head_is = subst (λ (x : ℕ × Stage). IsHead r.made words' x.0 x.1)
               (λ i. (sym n.same_number i, sym n.same_stage i))
               (head_stays r.made s.words words' n.head d.pin.number d.stage mine.head_is);
+          unlost = n.unlost;
           in_range = λ c x e. mine.in_range c x (ap (λ xs. claim_of xs c) (sym n.same_claims) ∙ e);
           noted_pinned = λ c x. (n.notes c x).2;
         } (λ j x ne e. let k = r.seat j x e in record {
@@ -185,6 +190,7 @@ module _ {U : Type 0} (linked lent : List ℕ → ℕ → Type 0) (noted : List 
           made_are = k.made_are;
           stage_is = stages x.stage k.stage_is;
           head_is = head_stays r.made s.words words' n.head x.pin.number x.stage k.head_is;
+          unlost = k.unlost;
           in_range = k.in_range;
           noted_pinned =
               λ c m. k.noted_pinned c (framed.notes j x.upper (at_map upper_of s.views j x e) c m);

@@ -89,7 +89,8 @@ module _ {U : Type 0} (linked lent : List ℕ → ℕ → Type 0) (noted : List 
           λ j n. claim_others s.views id d w at j q n ∙ o.4 j n,
         ))
         (λ _ _. (o.0, o.1)) (λ c' n. claimed_else d.claims q c' _ n)
-        (λ _ k. k) (r.seat id d at).stage_is (λ _ _ _ _ k. k) (r.seat id d at).head_is)
+        (λ _ k. k) (r.seat id d at).stage_is (λ _ _ _ _ k. k) (r.seat id d at).head_is
+        (r.seat id d at).unlost)
 
   -- A load after which the seat holds a row that it kept for two epochs before one that is past.
   holds_again : (slots id : ℕ) (me : Mine U) (i q t then : ℕ) → claim_of me.0.claims q ≡ some (Keeps t)

@@ -82,6 +82,7 @@ module _ {U : Type 0} (linked lent : List ℕ → ℕ → Type 0) (noted : List 
     pub same_sizes : d'.sizes ≡ d.sizes
     pub same_made : d'.made ≡ d.made
     pub same_stage : d'.stage ≡ d.stage
+    pub same_lost : d'.lost ≡ d.lost
     pub same_pin : d'.pin ≡ d.pin
     pub wide : length words' ≡ length s.words
     -- The pool's head, the epoch and the announcements are as they were, and so is each row that
@@ -328,6 +329,7 @@ module _ {U : Type 0} (linked lent : List ℕ → ℕ → Type 0) (noted : List 
             head_is = subst (λ (x : ℕ × Stage). IsHead r.made words' x.0 x.1)
                 (λ i. (ap (λ (e : Pin). e.number) (sym m.same_pin) i, sym m.same_stage i))
                 (head_stays r.made s.words words' head d.pin.number d.stage own.head_is);
+            unlost = λ one. m.same_lost ∙ own.unlost one;
             in_range = m.in_range;
             noted_pinned = pinned_now id d' here';
           })
@@ -336,6 +338,7 @@ module _ {U : Type 0} (linked lent : List ℕ → ℕ → Type 0) (noted : List 
             made_are = k.made_are;
             stage_is = stages y.stage k.stage_is;
             head_is = head_stays r.made s.words words' head y.pin.number y.stage k.head_is;
+            unlost = k.unlost;
             in_range = k.in_range;
             noted_pinned = pinned_now i y here';
           })

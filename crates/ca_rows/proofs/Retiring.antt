@@ -100,7 +100,8 @@ module _ {U : Type 0} (linked lent : List ℕ → ℕ → Type 0) (noted : List 
             λ j n. claim_others s.views id d w at j q n ∙ o.4 j n,
           ))
           (λ _ _. (o.0, o.1)) (λ c' n. claimed_else d.claims q c' _ n)
-          (λ _ k. k) (r.seat id d at).stage_is (λ _ _ _ _ k. k) (r.seat id d at).head_is)
+          (λ _ k. k) (r.seat id d at).stage_is (λ _ _ _ _ k. k) (r.seat id d at).head_is
+          (r.seat id d at).unlost)
 
   pub retires : (slots id : ℕ) (me : Mine U) (q : ℕ) → MayRetire lent fact z id me.0 q
       → Allows R slots id me 1 (λ x. x) (Retired q (step slots 1 0 0 none) me)

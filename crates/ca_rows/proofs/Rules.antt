@@ -52,6 +52,7 @@ pins_stay made words words' pins now same p = record {
         told_past = subst (λ x. e.told ≤ x) (sym now) k.told_past;
         scan_past = subst (λ x. e.scan ≤ x) (sym now) k.scan_past;
         scanned = λ is. k.scanned (is ∙ now);
+        only = λ lone lo begun. k.only lone lo begun ∙ sym now;
       };
   unused = λ i lo hi. same i (omega arith) hi ∙ p.unused i lo hi;
 }
@@ -147,9 +148,9 @@ module _ {U : Type 0} (linked lent : List ℕ → ℕ → Type 0) (noted : List 
           → IsStage z.rows owner' words' d'.stage
           → ((j : ℕ) (x : View U) → j ≢ id → get_elem? s.views j ≡ some x
           → IsHead r.made s.words x.pin.number x.stage → IsHead r.made words' x.pin.number x.stage)
-          → IsHead r.made words' d.pin.number d'.stage → Rule after
+          → IsHead r.made words' d.pin.number d'.stage → (z.passes ≡ 1 → d'.lost ≡ 0) → Rule after
       keeps_rule owner' count' chain
-          else here in_range claims stages stage heads head = let mine = r.seat id d at in record {
+          else here in_range claims stages stage heads head unlost = let mine = r.seat id d at in record {
             owner = owner';
             count = count';
             made = r.made;
@@ -167,6 +168,7 @@ module _ {U : Type 0} (linked lent : List ℕ → ℕ → Type 0) (noted : List 
               made_are = λ e. same_made ∙ mine.made_are e;
               stage_is = stage;
               head_is = subst (λ (e : Pin). IsHead r.made words' e.number d'.stage) (sym same_pin) head;
+              unlost = unlost;
               in_range = λ c x e. dite (ℕ_discrete c q)
                   (λ (f : c ≡ q). subst (λ y. (0 < y) × (y ≤ z.rows)) (sym f)
                   (in_range x (subst (λ y. claim_of d'.claims y ≡ some x) f e)))
@@ -179,6 +181,7 @@ module _ {U : Type 0} (linked lent : List ℕ → ℕ → Type 0) (noted : List 
               made_are = k.made_are;
               stage_is = stages x.stage k.stage_is;
               head_is = heads j x n e k.head_is;
+              unlost = k.unlost;
               in_range = k.in_range;
               noted_pinned = λ c m. k.noted_pinned c (note_back j x e c m);
             });

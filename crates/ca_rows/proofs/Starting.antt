@@ -83,6 +83,7 @@ first_pins words small absent = record {
         scan_past = omega arith;
         scanned = λ now i d at low p. let x = (only_seat (unpinned 0) d i at).1 in
             let no : false ≡ true = ap (λ (y : Pin). y.pinned) x ∙ p in absurd cc;
+        only = λ _ lo. absurd (omega arith);
       };
   unused = λ i lo hi. absent i lo hi;
 }
@@ -141,6 +142,7 @@ module _ {U : Type 0} (linked lent : List ℕ → ℕ → Type 0) (noted : List 
           made_are = λ _. refl;
           stage_is = tt;
           head_is = tt;
+          unlost = λ _. refl;
           in_range = λ r c e. absurd (some-ne-none c (sym e));
           noted_pinned = λ r n. absurd (opened.notes r n);
         };

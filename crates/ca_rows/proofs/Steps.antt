@@ -69,13 +69,13 @@ module _ {U : Type 0} (linked lent : List ℕ → ℕ → Type 0) (noted : List 
   -- or a worn one.
   loaded : (s : S) (r : R s) (i id : ℕ) (d : View U) (st : Stage) (lost empty worn : ℕ)
       → get_elem? s.views id ≡ some d → IsStage z.rows r.owner s.words st
-      → IsHead r.made s.words d.pin.number st
+      → IsHead r.made s.words d.pin.number st → (z.passes ≡ 1 → lost ≡ 0)
       → R record {
         words = set s.words i (get_or s.words i 0);
         homes = s.homes;
         views = set s.views id (record d { stage = st; lost = lost; empty = empty; worn = worn });
       }
-  loaded s r i id d st lost empty worn at ok head =
+  loaded s r i id d st lost empty worn at ok head unlost =
       let w : View U = record d { stage = st; lost = lost; empty = empty; worn = worn } in
       subst (λ (ws : List ℕ). R record { words = ws; homes = s.homes; views = set s.views id w })
       (sym (set-get_or s.words i 0))
@@ -86,7 +86,7 @@ module _ {U : Type 0} (linked lent : List ℕ → ℕ → Type 0) (noted : List 
       (λ c _ _ _. record { owner_is = refl; claim_is = refl; words_are = λ _ _ _. refl })
       (λ lo _. absurd (omega arith))
       (λ c e. absurd (let x = (r.seat id d at).in_range 0 c e in let y = x.0 in omega arith))
-      (λ _ _. refl) (λ _ k. k) ok (λ _ _ _ _ k. k) head)
+      (λ _ _. refl) (λ _ k. k) ok (λ _ _ _ _ k. k) head unlost)
 
   -- The row at the head is one of those that the seat knows of.
   row_inside : (s : S) (r : R s) (id : ℕ) (d : View U) → get_elem? s.views id ≡ some d
@@ -113,7 +113,7 @@ module _ {U : Type 0} (linked lent : List ℕ → ℕ → Type 0) (noted : List 
     keeps,
     tt,
     loaded s r 0 id me.0 (Saw (head_tag s.words) (head_row s.words)) me.0.lost me.0.empty me.0.worn
-        at (saw_head s r) (is_pass, λ _. (refl, refl)),
+        at (saw_head s r) (is_pass, λ _. (refl, refl)) (r.seat id me.0 at).unlost,
     (row_inside s r id me.0 at, refl),
   )
 
@@ -127,7 +127,7 @@ module _ {U : Type 0} (linked lent : List ℕ → ℕ → Type 0) (noted : List 
         tt,
         loaded s r 0 id d (Saw t 0) d.lost (d.empty + none_old d.claims d.claims d.pin.told) d.worn at
             (subst (λ (y : ℕ). IsStage z.rows r.owner s.words (Saw t y)) none_free (saw_head s r))
-            (is_pass, λ _. (refl, none_free)),
+            (is_pass, λ _. (refl, none_free)) (r.seat id d at).unlost,
         (
           row_inside s r id d at,
           (λ _. refl),
@@ -142,14 +142,15 @@ module _ {U : Type 0} (linked lent : List ℕ → ℕ → Type 0) (noted : List 
         tt,
         loaded s r 0 id d (Saw last_tag q) d.lost d.empty (d.worn + 1) at
             (subst (λ (y : ℕ). IsStage z.rows r.owner s.words (Saw y q)) last (saw_head s r))
-            (is_pass, λ _. (last, refl)),
+            (is_pass, λ _. (last, refl)) (r.seat id d at).unlost,
         (row_inside s r id d at, (λ e. absurd (free e)), (λ _ _. refl), λ _ n. absurd (n last)),
       ))
       (λ young. (
         record d { stage = Saw t q },
         keeps,
         tt,
-        loaded s r 0 id d (Saw t q) d.lost d.empty d.worn at (saw_head s r) (is_pass, λ _. (refl, refl)),
+        loaded s r 0 id d (Saw t q) d.lost d.empty d.worn at (saw_head s r) (is_pass, λ _. (refl, refl))
+            (r.seat id d at).unlost,
         (row_inside s r id d at, (λ e. absurd (free e)), (λ _ e. absurd (young e)), λ _ _. refl),
       )))
 
@@ -168,13 +169,14 @@ module _ {U : Type 0} (linked lent : List ℕ → ℕ → Type 0) (noted : List 
         loaded s r (row_words * q) id me.0 (Knew t q x) me.0.lost me.0.empty me.0.worn at (
           k.0,
           λ e. (k.1 e lo, refl),
-        ) (subst (IsHead r.made s.words me.0.pin.number) is (r.seat id me.0 at).head_is),
+        ) (subst (IsHead r.made s.words me.0.pin.number) is (r.seat id me.0 at).head_is)
+            (r.seat id me.0 at).unlost,
         λ t' q' is'. ap
             (λ (y : ℕ × ℕ × ℕ). with_stage me (Knew y.0 y.1 x)) (ap seen_in (sym is ∙ is')),
       )
 
-  -- An exchange of the head that was lost.
-  misses : (s : S) (r : R s) (id : ℕ) (d : View U) → get_elem? s.views id ≡ some d
+  -- An exchange of the head that was lost, where the space is for several passes.
+  misses : (s : S) (r : R s) (id : ℕ) (d : View U) → get_elem? s.views id ≡ some d → z.passes ≢ 1
       → R record {
         words =
             set s.words 0 (get_or s.words 0 0);
@@ -182,7 +184,7 @@ module _ {U : Type 0} (linked lent : List ℕ → ℕ → Type 0) (noted : List 
             s.homes;
         views = set s.views id (record d { stage = Idle; lost = d.lost + 1 });
       }
-  misses s r id d at = loaded s r 0 id d Idle (d.lost + 1) d.empty d.worn at tt tt
+  misses s r id d at several = loaded s r 0 id d Idle (d.lost + 1) d.empty d.worn at tt tt (λ one. absurd (several one))
 
   head_agrees : (us : List U) (words : List ℕ) (x : ℕ)
       → Agrees linked lent noted fact us words (set words 0 x)
@@ -212,14 +214,17 @@ module _ {U : Type 0} (linked lent : List ℕ → ℕ → Type 0) (noted : List 
       (map pin_of s.views) j id x.pin d.pin r.pins (at_map pin_of s.views j x here)
       (at_map pin_of s.views id d at) apart is_pass x.stage
 
-  -- The head is what the only pass saw of it.
+  -- Where the space is for one pass, the head is what that saw of it; so it is where the pass knows that.
+  lone_head : (s : S) (r : R s) → z.passes ≡ 1 → (t q : ℕ) {number : ℕ}
+      → (0 < number) × (r.made ≤ 1 → (head_tag s.words ≡ t) × (head_row s.words ≡ q)) → get_or s.words 0 0 ≡ t * row_limit + q
+  lone_head s r one t q head = let within = r.within in head_word s.words t q (head.1 (omega arith))
+
   only_head : (s : S) (r : R s) (id : ℕ) (me : Mine U) → get_elem? s.views id ≡ some me.0 → IsOnly me
       → (t q : ℕ) → (made_few : (0 < me.0.pin.number) × (r.made ≤ 1 → (head_tag s.words ≡ t) × (head_row s.words ≡ q)))
       → get_or s.words 0 0 ≡ t * row_limit + q
-  only_head s r id me at only t q head = let some_rows = only.0 in let within = r.within in
+  only_head s r id me at only t q head = let some_rows = only.0 in
       ⊎_elim (λ (e : me.0.sizes.rows ≡ 0). absurd (omega arith))
-      (λ (e : me.0.sizes ≡ z). let one : z.passes ≡ 1 = subst (λ (y : Sizes). y.passes ≡ 1) e only.1 in
-      head_word s.words t q (head.1 (omega arith)))
+      (λ (e : me.0.sizes ≡ z). lone_head s r (subst (λ (y : Sizes). y.passes ≡ 1) e only.1) t q head)
       (r.seat id me.0 at).sizes_are
 
   -- Nobody's row but a free one has no claim: the account of a row that is free.
@@ -332,6 +337,7 @@ module _ {U : Type 0} (linked lent : List ℕ → ℕ → Type 0) (noted : List 
           (λ _ _. (lo, hi)) (λ c n. claimed_else d.claims q c _ n)
           (stage_stays z.rows r.owner s.words new_head r.count r.chain (put r.owner q (Of id))
           (omega arith) (λ e. absurd (omega arith))) tt (heads_else s r id d at is_pass new_head) tt
+          (r.seat id d at).unlost
 
     -- A row that the seat holds is written.
     module _ (q k v : ℕ) (its : List ℕ) (held : claim_of d.claims q ≡ some (Holds its))
@@ -425,7 +431,7 @@ module _ {U : Type 0} (linked lent : List ℕ → ℕ → Type 0) (noted : List 
           d.stage (r.seat id d at).stage_is)
           (λ j x _ _. head_stays r.made s.words new_words (low_word 0 (omega arith)) x.pin.number x.stage)
           (head_stays r.made s.words new_words (low_word 0 (omega arith)) d.pin.number d.stage
-          (r.seat id d at).head_is)
+          (r.seat id d at).head_is) (r.seat id d at).unlost
         where
           same_tag : head_tag new_words ≡ head_tag s.words
           same_tag = ap (λ n. n / row_limit) (low_word 0 (omega arith))
@@ -491,7 +497,7 @@ module _ {U : Type 0} (linked lent : List ℕ → ℕ → Type 0) (noted : List 
                   (λ f. not_free j (ap r.owner (sym f) ∙ e)) ∙ e,
             ),
             head_else s.words _ (row_words * c) (omega arith),
-          ))) tt (heads_else s r id d at is_pass head_with) tt
+          ))) tt (heads_else s r id d at is_pass head_with) tt (r.seat id d at).unlost
 
   at_hit : (n old new : ℕ) → n ≡ old → either (eqb n old) new n ≡ new
   at_hit n old new e = ap (λ b. either b new n) (eq-eqb n old e)
@@ -550,7 +556,7 @@ module _ {U : Type 0} (linked lent : List ℕ → ℕ → Type 0) (noted : List 
         keeps,
         tt,
         subst (λ (n : ℕ). R (stepped s 0 n id me.1 w0 keeps)) (sym (at_miss head old new miss))
-            (misses s r id d at),
+            (misses s r id d at (λ one. miss (lone_head s r one t q who))),
         (
           expected,
           (λ t' q' x' is'. ((λ hit. absurd (miss hit)), λ _. refl)),
@@ -565,7 +571,7 @@ module _ {U : Type 0} (linked lent : List ℕ → ℕ → Type 0) (noted : List 
     keeps,
     tt,
     loaded s r i id me.0 me.0.stage me.0.lost me.0.empty me.0.worn at (r.seat id me.0 at).stage_is
-        (r.seat id me.0 at).head_is,
+        (r.seat id me.0 at).head_is (r.seat id me.0 at).unlost,
     (
       refl,
       λ q k its is inside held. let o = owned s r id me.0 at q (Holds its) held in
@@ -630,7 +636,7 @@ module _ {U : Type 0} (linked lent : List ℕ → ℕ → Type 0) (noted : List 
         keeps,
         tt,
         subst (λ (n : ℕ). R (stepped s 0 n id me.1 w0 keeps)) (sym (at_miss head old new miss))
-            (misses s r id d at),
+            (misses s r id d at (λ one. miss (lone_head s r one t h who))),
         (
           expected,
           (λ hit. absurd (miss hit)),

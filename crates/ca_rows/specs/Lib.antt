@@ -1,3 +1,4 @@
+pub mod Above
 pub mod Account
 pub mod Calls
 pub mod Chain

@@ -1,8 +1,14 @@
 -- How large a space may be, and its words at the start.
 use Rattle.std.specs.Prelude.{◌≡◌, ℕ, ◌+◌, ◌*◌, ◌<◌, ◌≤◌, List, slice_index}
 use Rattle.ca_rows.specs.declared.sizes.Sizes.{Sizes}
+use Rattle.ca_rows.specs.declared.sizes.Starts.{Starts}
 use Rattle.ca_rows.specs.Words.{IsWide, epoch, announced, result_of, first_of}
 use Rattle.ca_rows.specs.Layout.{row_limit, last_tag, last_sequence}
+
+-- what a space is made with, by these numbers
+abbrev pub sizes_by : ℕ → ℕ → ℕ → ℕ → ℕ → Starts → Sizes
+sizes_by rows passes keypos leaf levels starts =
+    record { rows = rows; passes = passes; keypos = keypos; leaf = leaf; levels = levels; starts = starts }
 
 -- No start is above its counter's last value, and rows and passes are within their bounds.
 pub record AreInBounds (z : Sizes) : Type 0 where

@@ -1,10 +1,10 @@
 -- Words for what contracts say of a space and its passes, and what stays of a pass.
-use Rattle.std.specs.Prelude.{◌≡◌, Bool, true, false}
+use Rattle.std.specs.Prelude.{◌≡◌, Bool, true, false, []}
 use Rattle.ca_rows.specs.declared.sizes.Sizes.{Sizes}
 use Rattle.ca_rows.specs.declared.space.Pass.{Pass}
 use Rattle.ca_rows.specs.declared.space.Space.{Space}
 use Rattle.ca_rows.specs.declared.view.View.{View}
-use Rattle.ca_rows.specs.Calls.{IsNumbered, IsOf, IsSame, IsStill}
+use Rattle.ca_rows.specs.Calls.{IsOf, IsSame, IsStill}
 use Rattle.ca_rows.specs.Kept.{AreKept}
 use Rattle.ca_rows.specs.Tallied.{HasTallied, HasTalliedJoin}
 use Rattle.ca_rows.specs.Told.{Mine}
@@ -25,16 +25,18 @@ module _ {R U : Type 0} where
   abbrev pub IsOn : Space R U → Pass R U → Type 0
   IsOn space pass = IsOf space.table.shared.table_id space.table.shared.key pass.seat
 
+  -- The pass was just made: it is one of this space's table, knows this, and has no slots.
+  abbrev pub BeginsOn : Space R U → Pass R U → View U → Type 0
+  BeginsOn space pass first = (pass.seat.table_id ≡ space.table.shared.table_id) × (pass.seat.me ≡ (first, []))
+
   -- So it is, and it is pinned: rows that it was shown stay as they are.
   pub record IsReading (space : Space R U) (pass : Pass R U) : Type 0 where
     pub own : IsOn space pass
     pub pinned : pass.seat.me.0.pin.pinned ≡ true
 
-  -- The pass is one of this space, has its number, and isn't pinned. Its list is that of the rows
-  -- that it keeps.
+  -- The pass is one of this space, and isn't pinned. Its list is that of the rows that it keeps.
   pub record MayReclaim (space : Space R U) (pass : Pass R U) : Type 0 where
     pub own : IsOn space pass
-    pub number : IsNumbered pass.number pass.seat.me.0.pin
     pub unpinned : pass.seat.me.0.pin.pinned ≡ false
     pub list : AreKept space.table.shared.key.rows pass.seat.me.0.claims pass.kept.rows
 

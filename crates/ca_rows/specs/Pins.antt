@@ -44,6 +44,8 @@ pub record IsPin (made : ℕ) (words : List ℕ) (pins : List Pin) (j : ℕ) (e 
   pub scan_past : e.scan ≤ epoch words
   -- Who was looked at in this epoch isn't pinned at an earlier moment.
   pub scanned : e.scan ≡ epoch words → (i : ℕ) (d : Pin) → get_elem? pins i ≡ some d → d.number ≤ e.upto → d.pinned ≡ true → e.scan ≤ d.moment
+  -- Only passes move the epoch, each behind a look of its own: where there is one pass at most, its scan is the epoch.
+  pub only : made ≤ 1 → 0 < e.number → 0 < e.looks → e.scan ≡ epoch words
 
 pub record ArePins (made : ℕ) (words : List ℕ) (pins : List Pin) : Type 0 where
   pub few : made ≤ 64

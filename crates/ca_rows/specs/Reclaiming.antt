@@ -10,7 +10,7 @@ use Rattle.ca_rows.specs.declared.reclaimed.Reclaimed.{Reclaimed}
 use Rattle.ca_rows.specs.declared.reclaimed.Round.{Round}
 use Rattle.ca_rows.specs.declared.view.Claim.TheVariants.{Keeps}
 use Rattle.ca_rows.specs.declared.view.Pin.{Pin}
-use Rattle.ca_rows.specs.Claims.{claim_of, held_count}
+use Rattle.ca_rows.specs.Claims.{claim_of, claimed, held_count}
 use Rattle.ca_rows.specs.Kept.{AreYoung, IsTakenOut, kept_of, nobody}
 use Rattle.ca_rows.specs.Told.{Mine, HoldsAgain, lost_epoch, with_pin}
 
@@ -43,6 +43,11 @@ module _ {U : Type 0} where
     -- A row that was given back was kept for two epochs at least; one that is kept still is kept as before, unless an exchange lost.
     pub kept : (r t : ℕ) → claim_of m.0.claims r ≡ some (Keeps t) → (claim_of m'.0.claims r ≡ none) × (t + 2 ≤ m'.0.pin.scan)
         ⊎ ((t' : ℕ) × (t ≤ t') × (claim_of m'.0.claims r ≡ some (Keeps t')) × (m'.0.lost ≡ m.0.lost → t' ≡ t))
+
+-- The row is kept since an epoch that isn't below that of the last look, and stands behind the others in the list, as one of this form.
+abbrev pub IsRetired : {U : Type 0} → ℕ → ℕ → Mine U → Mine U → List Kept → List Kept → Type 0
+IsRetired row form m m' ks ks' = (epoch : ℕ) × (ks' ≡ ks ++ record { row = row; at = epoch; form = form } ∷ [])
+    × (m' ≡ (record m.0 { claims = claimed row (Keeps epoch) m.0.claims }, m.1)) × (m.0.pin.scan ≤ epoch)
 
 -- The row that is chosen by the epoch which the pass announced is held again, and the others are kept still, in their order; or none was that old, and
 -- nothing changed.

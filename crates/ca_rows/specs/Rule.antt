@@ -57,6 +57,8 @@ module _ {U : Type 0} (noted : List ℕ → U → ℕ → Type 0) (z : Sizes) (m
     pub made_are : j ≡ 0 → d.made ≡ made
     pub stage_is : IsStage z.rows owner words d.stage
     pub head_is : IsHead made words d.pin.number d.stage
+    -- Where the space is for one pass, no exchange of the pool's head or of the epoch was lost.
+    pub unlost : z.passes ≡ 1 → d.lost ≡ 0
     pub in_range : (r : ℕ) (c : Claim) → claim_of d.claims r ≡ some c → (0 < r) × (r ≤ z.rows)
     -- Only a pinned pass has notes.
     pub noted_pinned : (r : ℕ) → noted words d.upper r → d.pin.pinned ≡ true

@@ -127,9 +127,10 @@ module _ {U : Type 0} where
         m.1,
       ))
 
-  -- The announcement was taken back. What the seat has met of the pool until then is noted.
+  -- The announcement was taken back. What the seat has met of the pool until then is noted: an only pass lost no exchange.
   abbrev pub Left : (U → U) → Step (Unit {0}) → Mine U → ℕ → Mine U → Type 0
-  Left leaves st m n m' = m' ≡ (record m.0 { pin = record m.0.pin { pinned = false; left = met_of m }; upper = leaves m.0.upper }, m.1)
+  Left leaves st m n m' = (m' ≡ (record m.0 { pin = record m.0.pin { pinned = false; left = met_of m }; upper = leaves m.0.upper }, m.1))
+      × (IsOnly m → m.0.lost ≡ 0)
 
   -- The row is kept, since this epoch. The epoch isn't below that of the last look, and no row is
   -- kept since a later one.
@@ -149,17 +150,17 @@ module _ {U : Type 0} where
       × (m' ≡ with_pin m (record m.0.pin { scan = n; upto = 0; lag = 0; looks = m.0.pin.looks + 1 }))
 
   -- The next pass's announcement was loaded: it is absent or not older than the look, or the pass lags, which is counted. A pass that isn't pinned
-  -- doesn't lag itself.
+  -- doesn't lag itself, so an only pass then finds none that does.
   abbrev pub Scanned : Step (Unit {0}) → Mine U → ℕ → Mine U → Type 0
   Scanned st m n m' = (n ≡ 0 ⊎ m.0.pin.scan < n → m' ≡ with_pin m (record m.0.pin { upto = m.0.pin.upto + 1 }))
-      × (0 < n → n ≤ m.0.pin.scan → (m.0.pin.pinned ≡ false → m.0.pin.upto + 1 ≢ m.0.pin.number)
+      × (0 < n → n ≤ m.0.pin.scan → (m.0.pin.pinned ≡ false → m.0.pin.upto + 1 ≢ m.0.pin.number) × (m.0.pin.pinned ≡ false → ¬ IsOnly m)
       × (m' ≡ with_pin m (record m.0.pin { lag = m.0.pin.upto + 1; lags = m.0.pin.lags + 1 })))
 
-  -- The epoch moved by one, which is counted, or the exchange lost. It expected the epoch that the last look at the others began with; what that look saw
-  -- counts for one exchange.
+  -- The epoch moved by one, which is counted, or the exchange lost, which that of an only pass never is. It expected the epoch that the last look at the
+  -- others began with; what that look saw counts for one exchange.
   abbrev pub Moved : Step (Unit {0}) → Mine U → ℕ → Mine U → Type 0
   Moved st m n m' = (st.first ≡ m.0.pin.scan) × (n ≡ st.first → m' ≡ with_pin m (record m.0.pin { scan = st.second; upto = 0; moved = m.0.pin.moved + 1 }))
-      × (n ≢ st.first → m' ≡ lost_epoch m)
+      × (n ≢ st.first → m' ≡ lost_epoch m) × (IsOnly m → n ≡ st.first)
 
   -- The pass's own announcement was loaded: while it is pinned, that is one more than the epoch which it told.
   abbrev pub Reread : Step (Unit {0}) → Mine U → ℕ → Mine U → Type 0

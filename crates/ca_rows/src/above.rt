@@ -1,9 +1,8 @@
 //! Steps of the structure above the rows.
-ghost use Rattle.std.specs.Prelude.{◌≡◌, ◌==◌, ℕ, ◌<◌, []};
-ghost use mathlib.Core.Option.{none};
-ghost use prog.Atomic.{either};
-ghost use Rattle.atomic_table.specs.Table.{step, Allows, Splits, Joins};
-ghost use Rattle.ca_rows.specs.Calls.{IsRaised, IsSwapped, Raises, Relinks};
+ghost use Rattle.std.specs.Prelude.{◌≡◌, []};
+ghost use Rattle.atomic_table.specs.Table.{Splits, Joins};
+ghost use Rattle.ca_rows.specs.Above.{HasSwapped, IsStepOn, LoadKeeps, StoreKeeps, SwapKeeps, step_at};
+ghost use Rattle.ca_rows.specs.Calls.{IsRaised, IsSwapped};
 ghost use Rattle.ca_rows.specs.Closed.{joined};
 ghost use Rattle.ca_rows.specs.Rule.{Ruled};
 ghost use Rattle.ca_rows.specs.Passes.{CountsJoin, CountsSplit, KeepsList, sizes, known, view};
@@ -17,13 +16,11 @@ use atomic_table::{Join, Play, Split};
 impl<R: RowRule> Space<R> {
     /// One load of a word, by the structure above: what the pass knows of the rows and counts of them stays.
     pub fn load<M: Play<(), View<R::Upper>>>(&self, pass: &mut Pass<R>, word: u32) -> u64
-        requires table { pass.old.seat.table_id ≡ self.now.table.shared.table_id }
-        requires word { word < self.now.table.shared.table_id.words }
-        requires rule { Allows (Ruled R.linked R.lent R.noted R.fact (sizes self.now)) self.now.table.shared.table_id.slots pass.old.seat.id
-            (known pass.old) word (λ n. n) (Raises R.loads M.then (step self.now.table.shared.table_id.slots word 0 0 none) (known pass.old)) }
+        requires step { IsStepOn self.now pass.old word }
+        requires rule { LoadKeeps self.now (Ruled R.linked R.lent R.noted R.fact (sizes self.now)) R.loads M.then pass.old word }
         ensures frame { KeepsList pass.old pass.new }
         ensures above { IsRaised (known pass.old) (known pass.new) }
-        ensures told { M.then (step self.now.table.shared.table_id.slots word 0 0 none) (known pass.old) result (known pass.new) }
+        ensures told { M.then (step_at self.now word 0 0) (known pass.old) result (known pass.new) }
     {
         self.table
             .shared
@@ -32,14 +29,11 @@ impl<R: RowRule> Space<R> {
 
     /// One store in a word by the structure above: what the pass knows of the rows and counts of them stays.
     pub fn store<M: Play<(), View<R::Upper>>>(&self, pass: &mut Pass<R>, word: u32, new: u64)
-        requires table { pass.old.seat.table_id ≡ self.now.table.shared.table_id }
-        requires word { word < self.now.table.shared.table_id.words }
-        requires rule { Allows (Ruled R.linked R.lent R.noted R.fact (sizes self.now)) self.now.table.shared.table_id.slots pass.old.seat.id
-            (known pass.old) word (λ _. new) (λ _. Raises R.stores M.then (step self.now.table.shared.table_id.slots word new 0 none) (known pass.old)
-            new) }
+        requires step { IsStepOn self.now pass.old word }
+        requires rule { StoreKeeps self.now (Ruled R.linked R.lent R.noted R.fact (sizes self.now)) R.stores M.then pass.old word new }
         ensures frame { KeepsList pass.old pass.new }
         ensures above { IsRaised (known pass.old) (known pass.new) }
-        ensures told { M.then (step self.now.table.shared.table_id.slots word new 0 none) (known pass.old) new (known pass.new) }
+        ensures told { M.then (step_at self.now word new 0) (known pass.old) new (known pass.new) }
     {
         self.table
             .shared
@@ -55,15 +49,11 @@ impl<R: RowRule> Space<R> {
         old: u64,
         new: u64,
     ) -> bool
-        requires table { pass.old.seat.table_id ≡ self.now.table.shared.table_id }
-        requires word { word < self.now.table.shared.table_id.words }
-        requires rule { Allows (Ruled R.linked R.lent R.noted R.fact (sizes self.now)) self.now.table.shared.table_id.slots pass.old.seat.id
-            (known pass.old) word (λ n. either (n == old) new n) (Relinks R.swaps M.then (step self.now.table.shared.table_id.slots word old new
-            none) (known pass.old)) }
+        requires step { IsStepOn self.now pass.old word }
+        requires rule { SwapKeeps self.now (Ruled R.linked R.lent R.noted R.fact (sizes self.now)) R.swaps M.then pass.old word old new }
         ensures frame { KeepsList pass.old pass.new }
         ensures above { IsSwapped result (known pass.old) (known pass.new) }
-        ensures told { (n : ℕ) × M.then (step self.now.table.shared.table_id.slots word old new none) (known pass.old) n (known pass.new)
-            × (result ≡ (n == old)) }
+        ensures told { HasSwapped self.now M.then pass.old pass.new word old new result }
     {
         self.table
             .shared
@@ -79,15 +69,11 @@ impl<R: RowRule> Space<R> {
         old: u64,
         new: u64,
     ) -> bool
-        requires table { pass.old.seat.table_id ≡ self.now.table.shared.table_id }
-        requires word { word < self.now.table.shared.table_id.words }
-        requires rule { Allows (Ruled R.linked R.lent R.noted R.fact (sizes self.now)) self.now.table.shared.table_id.slots pass.old.seat.id
-            (known pass.old) word (λ n. either (n == old) new n) (Relinks R.swaps M.then (step self.now.table.shared.table_id.slots word old new
-            none) (known pass.old)) }
+        requires step { IsStepOn self.now pass.old word }
+        requires rule { SwapKeeps self.now (Ruled R.linked R.lent R.noted R.fact (sizes self.now)) R.swaps M.then pass.old word old new }
         ensures frame { CountsSplit result pass.old pass.new }
         ensures above { IsSwapped result (known pass.old) (known pass.new) }
-        ensures told { (n : ℕ) × M.then (step self.now.table.shared.table_id.slots word old new none) (known pass.old) n (known pass.new)
-            × (result ≡ (n == old)) }
+        ensures told { HasSwapped self.now M.then pass.old pass.new word old new result }
     {
         let won = self.swap::<M>(pass, word, old, new);
         if won {
@@ -104,15 +90,11 @@ impl<R: RowRule> Space<R> {
         old: u64,
         new: u64,
     ) -> bool
-        requires table { pass.old.seat.table_id ≡ self.now.table.shared.table_id }
-        requires word { word < self.now.table.shared.table_id.words }
-        requires rule { Allows (Ruled R.linked R.lent R.noted R.fact (sizes self.now)) self.now.table.shared.table_id.slots pass.old.seat.id
-            (known pass.old) word (λ n. either (n == old) new n) (Relinks R.swaps M.then (step self.now.table.shared.table_id.slots word old new
-            none) (known pass.old)) }
+        requires step { IsStepOn self.now pass.old word }
+        requires rule { SwapKeeps self.now (Ruled R.linked R.lent R.noted R.fact (sizes self.now)) R.swaps M.then pass.old word old new }
         ensures frame { CountsJoin result pass.old pass.new }
         ensures above { IsSwapped result (known pass.old) (known pass.new) }
-        ensures told { (n : ℕ) × M.then (step self.now.table.shared.table_id.slots word old new none) (known pass.old) n (known pass.new)
-            × (result ≡ (n == old)) }
+        ensures told { HasSwapped self.now M.then pass.old pass.new word old new result }
     {
         let won = self.swap::<M>(pass, word, old, new);
         if won {

@@ -2,7 +2,8 @@
 ghost use Rattle.std.specs.Prelude.{◌≡◌, ◌≢◌, ◌↔◌, IsTrue, ◌+◌, ◌<◌, [], IfOk, OnOk, OnErr, Err, vec_len};
 ghost use Rattle.ca_rows.specs.declared.fault.RowsFault.TheVariants.{BadSize as IsBadSize, NoPass as IsNoPass};
 ghost use Rattle.ca_rows.specs.Kept.{AreKept};
-ghost use Rattle.ca_rows.specs.Opening.{AreInBounds, AreUsable};
+ghost use Rattle.ca_rows.specs.Opening.{AreInBounds, AreUsable, sizes_by};
+ghost use Rattle.ca_rows.specs.Passes.{BeginsOn};
 ghost use Rattle.ca_rows.specs.Rule.{fresh};
 
 use crate::fault::RowsFault;
@@ -46,18 +47,10 @@ impl<R: RowRule> Space<R> {
         levels: u16,
         starts: Starts,
     ) -> Result<Space<R>, RowsFault>
-        requires { AreUsable (record { rows = rows; passes = passes; keypos = keypos; leaf = leaf; levels = levels; starts = starts }) }
-        ensures bad { (result ≡ Err IsBadSize) ↔ ¬ AreInBounds
-            (record { rows = rows; passes = passes; keypos = keypos; leaf = leaf; levels = levels; starts = starts }) }
+        requires { AreUsable (sizes_by rows passes keypos leaf levels starts) }
+        ensures bad { (result ≡ Err IsBadSize) ↔ ¬ AreInBounds (sizes_by rows passes keypos leaf levels starts) }
         ensures never { result ≢ Err IsNoPass }
-        ensures sizes { IfOk result (λ space. space.sizes ≡ record {
-          rows = rows;
-          passes = passes;
-          keypos = keypos;
-          leaf = leaf;
-          levels = levels;
-          starts = starts;
-        }) }
+        ensures sizes { IfOk result (λ space. space.sizes ≡ sizes_by rows passes keypos leaf levels starts) }
         ensures none { IfOk result (λ space. space.made ≡ 0) }
     {
         let sizes = Sizes {
@@ -116,8 +109,7 @@ impl<R: RowRule> Space<R> {
         ensures number { IfOk result (λ pass. pass.number ≡ self.new.made) }
         ensures tally { IfOk result (λ pass. pass.tally ≡ record { splits = 0; joins = 0 }) }
         ensures nothing_kept { IfOk result (λ pass. AreKept self.old.sizes.rows pass.seat.me.0.claims pass.kept.rows × (pass.kept.rows.items ≡ [])) }
-        ensures begins { IfOk result (λ pass. (pass.seat.table_id ≡ self.old.table.shared.table_id)
-            × (pass.seat.me ≡ (fresh self.old.sizes pass.number (R.begins pass.number), []))) }
+        ensures begins { IfOk result (λ pass. BeginsOn self.old pass (fresh self.old.sizes pass.number (R.begins pass.number))) }
     {
         if self.made == self.sizes.passes {
             return Err(RowsFault::NoPass);

@@ -4,11 +4,10 @@ ghost use Rattle.std.specs.Prelude.{◌≡◌, ◌↔◌, IsTrue, ℕ, ◌+◌, 
 ghost use Rattle.std.specs.declared.option.Option.TheVariants.{None, Some};
 ghost use mathlib.Core.Option.{some};
 ghost use Rattle.ca_rows.specs.declared.view.Claim.TheVariants.{Holds as IsHeld, Keeps as IsKept};
-ghost use Rattle.ca_rows.specs.Calls.{IsNumbered};
 ghost use Rattle.ca_rows.specs.Claims.{claim_of, claimed};
 ghost use Rattle.ca_rows.specs.Kept.{AreKept, AreKeptBut, HasAged, kept_of, nobody};
 ghost use Rattle.ca_rows.specs.Reclaiming.{EndsLook, Reclaims, GivesBack, GivesOld, IsLag, lag_count, IsLook, MakesRounds, Moves, Rounds};
-ghost use Rattle.ca_rows.specs.Told.{HoldsAgain};
+ghost use Rattle.ca_rows.specs.Told.{HoldsAgain, IsOnly};
 ghost use Rattle.ca_rows.specs.Passes.{IsOn, IsSamePass, KeepsList, MayReclaim, sizes, known, view};
 
 use crate::plays::{Begin, Move, Named, Regain, Scan};
@@ -39,6 +38,7 @@ impl<R: RowRule> Space<R> {
         ensures list { result ≡ true → AreKeptBut (sizes self.now).rows at end (view pass.new).claims pass.new.kept.rows }
         ensures again { result ≡ false → AreKept (sizes self.now).rows (view pass.new).claims pass.new.kept.rows }
         ensures given { GivesBack result at end (known pass.old) (known pass.new) pass.old.kept.rows.items pass.new.kept.rows.items }
+        ensures only { IsOnly (known pass.old) → result ≡ true }
     {
         let row = pass.kept.row(at);
         let form = pass.kept.form(at);
@@ -60,6 +60,7 @@ impl<R: RowRule> Space<R> {
         ensures frame { IsSamePass pass.old pass.new }
         ensures list { AreKept (sizes self.now).rows (view pass.new).claims pass.new.kept.rows }
         ensures gives { GivesOld epoch result.0 result.1 (known pass.old) (known pass.new) pass.old.kept.rows pass.new.kept.rows }
+        ensures only { IsOnly (known pass.old) → result.1 ≡ 0 }
     {
         let mut freed = 0;
         let mut losses = 0;
@@ -85,6 +86,7 @@ impl<R: RowRule> Space<R> {
         requires unpinned { (view pass.old).pin.pinned ≡ false }
         ensures frame { KeepsList pass.old pass.new }
         ensures look { IsLook (sizes self.now).passes result (known pass.old) (known pass.new) }
+        ensures only { IsOnly (known pass.old) → result ≡ None }
     {
         let mut seen = 0;
         while seen < self.sizes.passes {
@@ -102,9 +104,11 @@ impl<R: RowRule> Space<R> {
     fn move_epoch(&self, pass: &mut Pass<R>, epoch: u64) -> bool
         requires own { IsOn self.now pass.old }
         requires seen { ((view pass.old).pin.scan ≡ epoch) × ((view pass.old).pin.upto ≡ (sizes self.now).passes) }
+        requires begun { 0 < (view pass.old).pin.looks }
         requires room { epoch < 4611686018427387904 }
         ensures frame { KeepsList pass.old pass.new }
         ensures moves { Moves result epoch (known pass.old) (known pass.new) }
+        ensures only { IsOnly (known pass.old) → result ≡ true }
     {
         self.table
             .shared
@@ -119,6 +123,7 @@ impl<R: RowRule> Space<R> {
         ensures list { AreKept (sizes self.now).rows (view pass.new).claims pass.new.kept.rows }
         ensures rounds { Rounds (sizes self.now).passes pass.old.number result (known pass.old) (known pass.new) pass.old.kept.rows.items
             pass.new.kept.rows.items }
+        ensures only { IsOnly (known pass.old) → (result.lag ≡ None) × (result.losses ≡ 0) }
     {
         let epoch = self.table.shared.load::<Begin>(&mut pass.seat, 1);
         let (freed, losses) = self.give_old(pass, epoch);
@@ -155,9 +160,9 @@ impl<R: RowRule> Space<R> {
 
     /// Gives back rows that the pass keeps, in up to three rounds. Each loads the epoch, gives back the rows that were retired two epochs before or earlier,
     /// loads all announcements, and moves the epoch by one where each is absent or equal to it. A row whose putting back lost its exchange is retired anew.
+    /// A pass that is the only one which the space is for loses no exchange, and finds no pass that lags.
     pub fn reclaim(&self, pass: &mut Pass<R>) -> Reclaimed
         requires own { IsOn self.now pass.old }
-        requires number { IsNumbered pass.old.number (view pass.old).pin }
         requires unpinned { (view pass.old).pin.pinned ≡ false }
         requires list { AreKept (sizes self.now).rows (view pass.old).claims pass.old.kept.rows }
         ensures frame { IsSamePass pass.old pass.new }
@@ -174,6 +179,7 @@ impl<R: RowRule> Space<R> {
         ensures epoch { result.epoch ≡ (view pass.new).pin.scan }
         ensures young { result.lost ≡ false → (r t : ℕ) → kept_of pass.new.kept.rows.items r ≡ some t → (view pass.new).pin.scan < t + 2 }
         ensures rounds { MakesRounds result (known pass.old) (known pass.new) pass.old.kept.rows.items pass.new.kept.rows.items }
+        ensures only { IsOnly (known pass.old) → (result.lag ≡ None) × (result.losses ≡ 0) }
         ensures all { result.lag ≡ None → result.lost ≡ false → (view pass.new).pin.scan < 4611686018427387904 → result.kept ≡ 0 }
     {
         let mut freed = 0;
@@ -203,7 +209,8 @@ impl<R: RowRule> Space<R> {
 impl<R: RowRule> Space<R> {
     /// Looks at the others and moves the epoch where it may, so that the pass can take rows again that it keeps (`reuse_row`). Nothing is done where the
     /// row that was kept first is two epochs older than the last one, and the epoch stays where that row is two epochs older than it. No row is given
-    /// back. It answers how many exchanges were lost: that of the epoch, or none.
+    /// back. It answers how many exchanges were lost: that of the epoch, or none. A pass that is the only one which the space is for loses none, and finds no
+    /// pass that lags.
     pub fn advance(&self, pass: &mut Pass<R>) -> u32
         requires ready { MayReclaim self.now pass.old }
         ensures frame { KeepsList pass.old pass.new }
@@ -212,6 +219,7 @@ impl<R: RowRule> Space<R> {
         ensures losses { (view pass.new).lost ≡ (view pass.old).lost + result }
         ensures lags { (view pass.new).pin.lags ≤ (view pass.old).pin.lags + 1 }
         ensures aged { HasAged pass.old.kept.rows.items → known pass.new ≡ known pass.old }
+        ensures only { IsOnly (known pass.old) → (result ≡ 0) × ((view pass.new).pin.lags ≡ (view pass.old).pin.lags) }
         ensures looked { ¬ HasAged pass.old.kept.rows.items → EndsLook result (known pass.old) (known pass.new) pass.old.kept.rows.items }
     {
         if pass.kept.has_aged() {

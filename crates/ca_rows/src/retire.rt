@@ -1,8 +1,6 @@
 //! Passes keep rows that they unlinked.
-ghost use Rattle.std.specs.Prelude.{◌≡◌, ℕ, ◌≤◌, ◌++◌, ◌∷◌, []};
-ghost use Rattle.ca_rows.specs.declared.view.Claim.TheVariants.{Keeps as IsKept};
-ghost use Rattle.ca_rows.specs.Claims.{claimed};
 ghost use Rattle.ca_rows.specs.Kept.{AreKept, MayRetire};
+ghost use Rattle.ca_rows.specs.Reclaiming.{IsRetired};
 ghost use Rattle.ca_rows.specs.Told.{KeepsSince};
 ghost use Rattle.ca_rows.specs.Passes.{IsOn, IsSamePass, KeepsList, sizes, known, view};
 
@@ -30,9 +28,7 @@ impl<R: RowRule> Space<R> {
         requires mine { MayRetire R.lent R.fact (sizes self.now) pass.old.seat.id (view pass.old) row }
         ensures frame { IsSamePass pass.old pass.new }
         ensures list { AreKept (sizes self.now).rows (view pass.new).claims pass.new.kept.rows }
-        ensures retired { (epoch : ℕ) × (pass.new.kept.rows.items ≡ pass.old.kept.rows.items ++ record { row = row; at = epoch; form = form } ∷ [])
-            × (known pass.new ≡ (record (view pass.old) { claims = claimed row (IsKept epoch) (view pass.old).claims }, pass.old.seat.me.1))
-            × ((view pass.old).pin.scan ≤ epoch) }
+        ensures retired { IsRetired row form (known pass.old) (known pass.new) pass.old.kept.rows.items pass.new.kept.rows.items }
     {
         let at = self.retire_as::<Brand>(pass, row);
         pass.kept.push(row, at, form);

@@ -2,7 +2,6 @@
 ghost use Rattle.std.specs.Prelude.{◌≡◌, ℕ, ◌+◌, ◌≤◌, true, vec_len};
 ghost use mathlib.Core.Option.{some};
 ghost use Rattle.ca_rows.specs.declared.view.Claim.TheVariants.{Keeps as IsKept};
-ghost use Rattle.ca_rows.specs.Calls.{IsNumbered};
 ghost use Rattle.ca_rows.specs.Claims.{claim_of};
 ghost use Rattle.ca_rows.specs.Kept.{AreKept};
 ghost use Rattle.ca_rows.specs.Reclaiming.{Reuses};
@@ -18,7 +17,6 @@ impl<R: RowRule> Space<R> {
     // The epoch that the pass announced.
     fn told(&self, pass: &mut Pass<R>) -> u64
         requires reading { IsReading self.now pass.old }
-        requires number { IsNumbered pass.old.number (view pass.old).pin }
         ensures frame { OnlyReads pass.old pass.new }
         ensures told { result ≡ (view pass.old).pin.told }
     {
@@ -41,7 +39,6 @@ impl<R: RowRule> Space<R> {
     /// may wait for.
     pub fn reuse_row(&self, pass: &mut Pass<R>, like: u32) -> Option<u32>
         requires reading { IsReading self.now pass.old }
-        requires number { IsNumbered pass.old.number (view pass.old).pin }
         requires list { AreKept (sizes self.now).rows (view pass.old).claims pass.old.kept.rows }
         ensures frame { IsStillPass pass.old pass.new }
         ensures list { AreKept (sizes self.now).rows (view pass.new).claims pass.new.kept.rows }

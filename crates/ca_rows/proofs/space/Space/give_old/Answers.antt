@@ -4,6 +4,7 @@ use Rattle.ca_rows.specs.declared.kept.Kept.{Kept}
 use Rattle.ca_rows.specs.declared.view.Pin.{Pin}
 use Rattle.ca_rows.specs.Kept.{AreKeptBut, AreListed, kept_of, nobody}
 use Rattle.ca_rows.proofs.GivingBack.{reclaims_refl, reclaims_trans}
+use Rattle.ca_rows.proofs.Heads.{is_only}
 use Rattle.ca_rows.proofs.Keeping.{was_or_last}
 use Rattle.ca_rows.proofs.Listing.{young_behind, none_behind, part_before, part_behind, part_length}
 use Rattle.ca_rows.proofs.Scanning.{less_or_not}
@@ -35,6 +36,7 @@ loop-at-init g c = let p = c.args.pass.now in let ks = p.kept.rows in let long =
           (less_or_not n (length ks.items));
       before = omega arith;
       within = told.within;
+      only = λ _. refl;
     }
 
 pub loop-at-preserved : goal.loop-at-preserved
@@ -77,6 +79,8 @@ loop-at-preserved g c = let inv = c.loop-at.invariant in let told = c.if-give_ba
           ∙ part_behind ks.items ys at (omega arith))) ∙ e));
       before = omega arith;
       within = omega arith;
+      only = λ only. let won = told.only (is_only c.args.pass.now.seat.me c.loop-at.pass.seat.me inv.reclaims.same_sizes only) in
+          absurd cc;
     }
 
 pub give_back-requires-clause-list : goal.give_back-requires-clause-list

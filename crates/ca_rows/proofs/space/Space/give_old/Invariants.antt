@@ -2,6 +2,7 @@ use Rattle.std.proofs.Common.{◌≡◌, ℕ, ◌+◌, ◌<◌, ◌≤◌, drop,
 use mathlib.Core.Option.{some}
 use Rattle.ca_rows.specs.Kept.{AreKeptBut, kept_of, nobody}
 use Rattle.ca_rows.specs.Reclaiming.{Reclaims}
+use Rattle.ca_rows.specs.Told.{IsOnly}
 use Rattle.ca_rows.proofs.space.Space.give_old.Given as goal
 
 abbrev pub invariant-loop-at : goal.invariant-loop-at
@@ -21,6 +22,7 @@ invariant-loop-at g l = record {
   young : (r t : ℕ) → kept_of (drop l.end l.pass.kept.rows.items) r ≡ some t → l.epoch < t + 2;
   before : l.at ≤ l.end;
   within : l.end ≤ vec_len l.pass.kept.rows;
+  only : IsOnly l.fn.pass.seat.me → l.losses ≡ 0;
 }
 
 abbrev pub decreases-loop-at : goal.decreases-loop-at

@@ -1,4 +1,5 @@
 use Rattle.std.proofs.Common.{rules, arith}
+use Rattle.ca_rows.proofs.Calling.{is_pass}
 use Rattle.ca_rows.proofs.Scanning.{moves}
 use Rattle.ca_rows.proofs.space.Space.move_epoch.Goals as goal
 
@@ -9,5 +10,6 @@ compare_exchange-requires g c = let sized = c.args.self.now.sized in let seen = 
   moves g.R.RowRule.linked g.R.RowRule.lent g.R.RowRule.noted g.R.RowRule.fact
       g.met.R.RowRule.frames
       c.args.self.now.table.shared.key _ _ _ c.args.epoch c.requires.seen.0 (omega arith)
-      c.requires.room,
+      c.requires.room (is_pass c.args.pass.now.number c.args.pass.now.seat.me.0.pin c.args.pass.now.numbered)
+      c.requires.begun,
 )

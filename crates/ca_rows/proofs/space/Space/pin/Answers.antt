@@ -19,11 +19,11 @@ store-requires g c =
     let asked = c.load-epoch.ensures.2.1 in
     let same = ap (λ (m : Mine g.row.R-Upper.Denot). m.0.pin) asked in
     let number : c.load-epoch.new.seat.me.0.pin.number ≡ c.args.pass.now.number = ap
-    (λ (e : Pin). e.number) same ∙ c.requires.number.0 in
+    (λ (e : Pin). e.number) same ∙ c.args.pass.now.numbered.0 in
     let told : c.load-epoch.new.seat.me.0.pin.told ≡ c.load-epoch.result = ap
     (λ (e : Pin). e.told) same in
-    let low = c.requires.number.1 in
-    let high = c.requires.number.2 in (
+    let low = c.args.pass.now.numbered.1 in
+    let high = c.args.pass.now.numbered.2 in (
       search rules,
       omega arith,
       announces g.R.RowRule.linked g.R.RowRule.lent g.R.RowRule.noted g.R.RowRule.fact

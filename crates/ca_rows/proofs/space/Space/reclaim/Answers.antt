@@ -3,6 +3,7 @@ use Rattle.ca_rows.specs.declared.kept.Kept.{Kept}
 use Rattle.std.specs.declared.option.Option.{Option}
 use Rattle.ca_rows.specs.Reclaiming.{IsLag, lag_count}
 use Rattle.ca_rows.proofs.GivingBack.{reclaims_trans}
+use Rattle.ca_rows.proofs.Heads.{is_only}
 use Rattle.ca_rows.proofs.Scanning.{less_or_not}
 use Rattle.ca_rows.proofs.Rounding.{fewer, nothing_in, one_less, older_still, none_left, true_or_false, young_left}
 use Rattle.ca_rows.proofs.space.Space.reclaim.Goals as goal
@@ -58,6 +59,8 @@ loop-left-preserved g c = let inv = c.loop-left.invariant in
       freed = omega arith;
       lost = let lost = inv.lost in let lost' = x.lost in omega arith;
       few = fewer answer.more left left' inv.few c.rounds_left-left.ensures;
+      only = λ only. let now = told.only (is_only m m1 inv.reclaims.same_sizes only) in let before = (inv.only only).1 in
+          let none_lost = now.1 in (now.0, omega arith);
       bound = let bound = inv.bound in let more = x.few in
           let fewer_left = one_less answer.more left left' some_left c.rounds_left-left.ensures in
           omega arith;

@@ -5,6 +5,7 @@ use Rattle.ca_rows.specs.Kept.{AreKept, kept_of}
 use Rattle.ca_rows.specs.Reclaiming.{Reclaims, IsLag, lag_count}
 use Rattle.ca_rows.proofs.space.Space.reclaim.Given as goal
 use Rattle.ca_rows.specs.Layout.{row_limit}
+use Rattle.ca_rows.specs.Told.{IsOnly}
 
 abbrev pub invariant-loop-left : goal.invariant-loop-left
 invariant-loop-left g l = record {
@@ -31,6 +32,7 @@ invariant-loop-left g l = record {
   freed : l.freed + vec_len l.pass.kept.rows ≡ vec_len l.fn.pass.kept.rows;
   lost : l.pass.seat.me.0.lost ≡ l.fn.pass.seat.me.0.lost + l.losses;
   few : l.left ≤ 3;
+  only : IsOnly l.fn.pass.seat.me → (l.lag ≡ None) × (l.losses ≡ 0);
   bound : l.losses + row_limit * l.left ≤ 3 * row_limit;
   tried : l.losses ≤ 3 * length l.fn.pass.kept.rows.items + 3;
   tried_twice : 0 < l.left → l.losses ≤ 2 * length l.fn.pass.kept.rows.items + 2;

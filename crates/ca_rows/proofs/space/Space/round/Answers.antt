@@ -42,7 +42,7 @@ returns-in-Some-clause-rounds g c = let began = c.load-epoch.ensures.2 in
     let long = ks.ok.0 in let long' = ks'.ok.0 in
     let some_kept = c.if-len-eq0.false in let n = c.len.ensures in
     let count = gave.freed_are in let few = gave.few in let number = ap (λ (p : Pin). p.number) gave.same_pin
-    ∙ (ap (λ (x : Mine g.row.R-Upper.Denot). x.0.pin.number) began.3 ∙ c.requires.ready.number.0) in
+    ∙ (ap (λ (x : Mine g.row.R-Upper.Denot). x.0.pin.number) began.3 ∙ c.args.pass.now.numbered.0) in
     let same = c.in-Some.ensures.frame.kept in
     subst (λ (k : KeptRows).
     Rounds c.args.self.now.table.shared.key.passes c.args.pass.now.number

@@ -6,9 +6,9 @@ pub store-requires : goal.store-requires
 store-requires g c =
     let sized = c.args.self.now.sized in let place = c.own_word-word.ensures in
     let some_rows = c.args.self.now.few.0 in
-    let number = c.requires.number.0 in
-    let low = c.requires.number.1 in
-    let high = c.requires.number.2 in (
+    let number = c.args.pass.now.numbered.0 in
+    let low = c.args.pass.now.numbered.1 in
+    let high = c.args.pass.now.numbered.2 in (
       search rules,
       omega arith,
       unpins g.R.RowRule.linked g.R.RowRule.lent g.R.RowRule.noted g.R.RowRule.fact
