@@ -1,5 +1,5 @@
 -- Why a call of a pass that is alone is refused.
-use Rattle.std.proofs.Common.{◌≡◌, ◌⊎◌, ℕ, ◌<◌, ◌≤◌, List, Vec, ap, sym, subst, refl, inl, inr, ⊎_elim, arith}
+use Rattle.std.proofs.Common.{◌≡◌, ◌⊎◌, ℕ, ◌+◌, ◌≤◌, List, Vec, sym, subst, refl, ⊎_elim, arith}
 use Rattle.std.specs.Global.{Global}
 use Rattle.std.specs.declared.option.Option.{Option}
 use Rattle.std.specs.declared.option.Option.TheVariants.{None as Nothing, Some as Just}
@@ -9,15 +9,17 @@ use Rattle.ca_model.specs.declared.outcome.Cause.TheVariants as cause
 use Rattle.ca_model.specs.declared.outcome.Outcome.{Outcome}
 use Rattle.ca_model.specs.declared.outcome.Outcome.TheVariants as outcome
 use Rattle.ca_model.specs.History.{History}
+use Rattle.ca_base.specs.Counting.{losses}
 use Rattle.ca_node.specs.States.{IsAlone}
 use Rattle.ca_node.specs.Told.{MyTree}
 use Rattle.ca_node.specs.TreeView.{Inventory, Note, TreeView}
-use Rattle.ca_replace.specs.Alone.{HadNoRoom, HasLoneCause, HasNoRoom}
+use Rattle.ca_replace.specs.Alone.{HadNoRoom, HasLoneCause, HasNoRoom, IsNeverBusy}
 use Rattle.ca_replace.specs.Causes.{IfCaused, IsCaused, IsFullSince}
 use Rattle.ca_replace.specs.Growing.{HasWaited, HasRoomFor, IsSameTree, Grows}
 use Rattle.ca_replace.specs.Ranging.{IsRangeCaused}
 use Rattle.ca_replace.specs.Refusals.{outcome_by}
 use Rattle.ca_replace.specs.Resting.{IsResting}
+use Rattle.ca_replace.specs.Winning.{TurnsBySplits}
 use Rattle.ca_replace.proofs.Turns.{MySeat}
 use Rattle.ca_rows.specs.declared.kept.Kept.{Kept}
 use Rattle.ca_rows.specs.declared.sizes.Sizes.{Sizes}
@@ -84,3 +86,25 @@ lone_read Needs z number budget (outcome.Full full) m m' kept kept' one first h 
     let none = never_lags z.passes number full.lag m'.0.pin one first h.3 in (⊎_elim (λ e. e) (λ some. absurd (some none)) h.1, none)
 lone_read Needs z number budget (outcome.Deep level) m m' kept kept' one first h = absurd h
 lone_read Needs z number budget (outcome.Worn counter) m m' kept kept' one first h = tt
+
+-- Where no exchange of the pool was lost before and behind, and none of a link since, none was lost.
+pub lone_losses : (m m' : MyTree) → m.0.lost ≡ 0 → m'.0.lost ≡ 0 → m'.0.upper.lost ≡ m.0.upper.lost → losses m' ≡ losses m
+lone_losses m m' before behind links = omega arith
+
+-- One base is split at most by attempts that did not do the call.
+one_split : (z : Sizes) (adds : Option (List ℕ)) (u v : TreeView) → HasWaited z adds u v → v.splits ≤ u.splits + 1
+one_split z adds u v h = ⊎_elim (λ (same : IsSameTree u v). let e = same.0 in omega arith)
+    (λ (t : Grows 1 2 1 u v × HasRoomFor z adds v × ¬ HasRoomFor z adds u). t.0.splits_are) h
+
+-- So a call is never refused for its turns, whose budget is two turns or more.
+pub never_busy : {T : Type 0} (z : Sizes) (number budget : ℕ) (adds : Option (List ℕ)) (why : Cause) (o : Outcome T) (m m' : MyTree)
+    (kept kept' : Vec Kept Global) → o ≡ outcome_by why → losses m' ≡ losses m → TurnsBySplits m.0.upper m'.0.upper
+    → HasWaited z adds m.0.upper m'.0.upper → IsCaused z number budget adds why m kept m' kept' → 2 ≤ budget → IsNeverBusy o
+never_busy {T} z number budget adds why o m m' kept kept' is lost turns waited h two = subst (λ (x : Outcome T). IsNeverBusy x) (sym is) (by why h)
+  where
+    by : (why : Cause) → IsCaused z number budget adds why m kept m' kept' → IsNeverBusy {T = T} (outcome_by why)
+    by (cause.Busy spent) h = let one = one_split z adds m.0.upper m'.0.upper waited in let all = h.0 in let lost' = h.1 in let helped = h.2 in
+        let passed = h.3 in let by_splits = turns.0 in let none_helped = turns.1 in absurd (omega arith)
+    by (cause.Full full) h = tt
+    by (cause.Deep level) h = tt
+    by (cause.Worn counter) h = tt

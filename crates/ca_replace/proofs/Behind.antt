@@ -25,7 +25,7 @@ use Rattle.ca_replace.proofs.GoingOn.{adapts_after, entered_waits, gone_after, p
 use Rattle.ca_replace.proofs.Growing.{alone_on, entered_grown, looked_grown}
 use Rattle.ca_replace.proofs.Numbering.{numbered_as}
 use Rattle.ca_replace.proofs.Tallies.{tallied_read}
-use Rattle.ca_replace.proofs.Winning.{won_behind, won_on}
+use Rattle.ca_replace.proofs.Winning.{entered_won, quiet_won, won_behind, won_on}
 use Rattle.ca_rows.specs.declared.sizes.Sizes.{Sizes}
 use Rattle.ca_rows.specs.declared.space.Pass.{Pass}
 use Rattle.ca_rows.specs.declared.space.Space.{Space}
@@ -145,7 +145,7 @@ module _ {R : Type 0} {space : Space R TreeView} {key : List ℕ} {cursor : Curs
               (ap (λ (m : MyTree). m.0.upper.loads) e.now);
           grown = λ alone. entered_grown pass.seat.me mid.seat.me new.seat.me event l.quiet e;
           won = λ alone. subst (λ b. HasWon b u v) (sym idle)
-              (ap (λ (m : MyTree). m.0.upper.lost) e.now ∙ l.quiet.idle.1);
+              (entered_won pass.seat.me mid.seat.me new.seat.me event l.quiet e);
           cut = subst (λ b. HasCutBehind b z u.cuts v) (sym idle)
               (entered_cut pass.seat.me mid.seat.me new.seat.me event l.quiet e);
         }
@@ -170,7 +170,7 @@ module _ {R : Type 0} {space : Space R TreeView} {key : List ℕ} {cursor : Curs
               (loads_behind (help_loads z) links 0 v.renewal.loads pass.seat.me mid.seat.me new.seat.me few l.quiet.lost l.quiet.same_turns i.loads);
           grown = looked_grown {T = Unit {0}} z adds (Ok tt) pass.seat.me mid.seat.me v known
               l.looking.known l.further l.quiet i.grown;
-          won = λ alone. subst (λ b'. HasWon b' u v) (sym did) (won_on true u w v l.quiet.idle.1
+          won = λ alone. subst (λ b'. HasWon b' u v) (sym did) (won_on true u w v (quiet_won pass.seat.me mid.seat.me l.quiet)
               (i.won (alone_on z u w l.further.number alone)));
           cut = subst (λ b'. HasCutBehind b' z u.cuts v) (sym did)
               (looked_cut (λ (_ : Unit {0}). true) z adds (Ok tt) pass.seat.me mid.seat.me v
@@ -193,7 +193,7 @@ module _ {R : Type 0} {space : Space R TreeView} {key : List ℕ} {cursor : Curs
               l.quiet.lost l.quiet.same_turns i.loads;
           grown = looked_grown z adds r pass.seat.me mid.seat.me v known l.looking.known l.further
               l.quiet i.grown;
-          won = λ alone. won_behind (λ (_ : Unit {0}). true) r u w v l.quiet.idle.1
+          won = λ alone. won_behind (λ (_ : Unit {0}). true) r u w v (quiet_won pass.seat.me mid.seat.me l.quiet)
               (i.won (alone_on z u w l.further.number alone));
           cut = looked_cut (λ (_ : Unit {0}). true) z adds r pass.seat.me mid.seat.me v l.quiet
               i.cut;
@@ -218,7 +218,7 @@ module _ {R : Type 0} {space : Space R TreeView} {key : List ℕ} {cursor : Curs
               l.looking.known l.further l.quiet
               (λ alone. other_grown (Unit {0}) T z adds adds' why w v same
               (i.grown alone));
-          won = λ alone. won_on false u w v l.quiet.idle.1
+          won = λ alone. won_on false u w v (quiet_won pass.seat.me mid.seat.me l.quiet)
               (i.won (alone_on z u w l.further.number alone));
           cut = looked_cut edits z adds' (Err why) pass.seat.me mid.seat.me v l.quiet
               (other_cut (λ (_ : Unit {0}). true) edits z adds adds' why w v same i.cut);

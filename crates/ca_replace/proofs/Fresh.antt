@@ -43,6 +43,7 @@ rests table z number tally kept seat low few enrolled keeps is none = record {
   };
   quiet = ap (λ (m : MyTree). m.0.upper.ranges.own) is.1;
   left_before = subst (λ (m : MyTree). m.0.pin.left.lost ≤ m.0.lost) (sym is.1) (omega arith);
+  unlost = λ _. ap (λ (m : MyTree). m.0.lost) is.1;
   tallied = (
     ap (λ (t : Tally). t.splits) none
         ∙ ap (λ (m : MyTree). min 18446744073709551615 m.0.upper.splits) (sym is.1),

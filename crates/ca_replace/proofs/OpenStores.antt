@@ -57,6 +57,7 @@ rests_read table z number number' tally tally' kept kept' seat seat' numbers tal
   few = subst (λ (m : MyTree). HoldsFew 0 m.0) (sym is) r.few;
   known = subst (λ (m : MyTree). IsKnown z m.0.upper) (sym is) r.known;
   left_before = subst (λ (m : MyTree). m.0.pin.left.lost ≤ m.0.lost) (sym is) r.left_before;
+  unlost = λ one. ap (λ (m : MyTree). m.0.lost) is ∙ r.unlost one;
   quiet = ap (λ (m : MyTree). m.0.upper.ranges.own) is ∙ r.quiet;
   tallied = subst (λ (m : MyTree). IsTallied tally m.0.upper) (sym is) r.tallied;
 }

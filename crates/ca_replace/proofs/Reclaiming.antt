@@ -40,8 +40,9 @@ pub rests_still : (table : TableId) (z : Sizes) (number number' : ℕ) (tally ta
     (kept kept' : Vec Kept Global) (seat last : MySeat)
     → IsResting table z number tally kept seat → number' ≡ number → tally' ≡ tally
     → last.table_id ≡ seat.table_id → Reclaims seat.me last.me
-    → AreKept z.rows last.me.0.claims kept' → IsResting table z number' tally' kept' last
-rests_still table z number number' tally tally' kept kept' seat last r same counted there is list =
+    → AreKept z.rows last.me.0.claims kept' → (z.passes ≡ 1 → last.me.0.lost ≡ seat.me.0.lost)
+    → IsResting table z number' tally' kept' last
+rests_still table z number number' tally tally' kept kept' seat last r same counted there is list unlost =
     record {
       of = (there ∙ r.of.0, is.same_sizes ∙ r.of.1);
       numbered = (
@@ -60,5 +61,6 @@ rests_still table z number number' tally tally' kept kept' seat last r same coun
       quiet = ap (λ (u : TreeView). u.ranges.own) is.same_upper ∙ r.quiet;
       left_before = let same = ap (λ (x : Met). x.lost) is.same_left in let before = r.left_before in
           let more = is.more_lost in omega arith;
+      unlost = λ one. unlost one ∙ r.unlost one;
       tallied = tallied_as tally tally' seat.me.0.upper last.me.0.upper counted is.same_upper r.tallied;
     }

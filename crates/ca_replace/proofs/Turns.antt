@@ -1,5 +1,5 @@
 -- A call's attempts, one after another, and its end.
-use Rattle.std.proofs.Common.{◌≡◌, ◌≤◌, le_refl, ℕ, false, [], Result, Ok, Err, Vec, sym, refl, ap, ◌∙◌, subst, inl, ⊎_elim}
+use Rattle.std.proofs.Common.{◌≡◌, ◌<◌, ◌≤◌, le_refl, ℕ, false, [], Result, Ok, Err, Vec, sym, refl, ap, ◌∙◌, subst, inl, ⊎_elim}
 use Rattle.std.specs.Global.{Global}
 use Rattle.ca_replace.specs.declared.attempting.Halt.{Halt}
 use Rattle.atomic_table.specs.declared.shared.Seat.{Seat}
@@ -14,7 +14,7 @@ use Rattle.ca_node.specs.Laws.{in_nothing, starts_whole}
 use Rattle.ca_node.specs.Links.{IsIn}
 use Rattle.ca_node.specs.Tallied.{IsTallied}
 use Rattle.ca_node.specs.Told.{MyTree, IsKnown}
-use Rattle.ca_rows.specs.Told.{met_of}
+use Rattle.ca_rows.specs.Told.{IsOnly, met_of}
 use Rattle.ca_node.specs.TreeView.{Ranging, TreeView, pinned, unpinned, Quiet, left_over}
 use Rattle.ca_model.specs.declared.outcome.Cause.{Cause}
 use Rattle.ca_model.specs.declared.outcome.Spent.{Spent}
@@ -131,6 +131,10 @@ attempted_as {T} tells z tried r spent levels u w v same is h = subst
     by (Ok x) h = h.0
     by (Err why) h = h.0
 
+-- A pass of a space with rows that is for one pass knows that.
+pub is_lone : (z : Sizes) (m : MyTree) → m.0.sizes ≡ z → 0 < z.rows → z.passes ≡ 1 → IsOnly m
+is_lone z m same rows one = subst (λ (y : Sizes). (0 < y.rows) × (y.passes ≡ 1)) (sym same) (rows, one)
+
 -- A pass that was pinned, tried, and unpinned rests again.
 pub rests_again : {tally tally' : Tally} (table : TableId) (z : Sizes) (number : ℕ)
     (kept kept' : Vec Kept Global) (seat one two last : MySeat)
@@ -154,9 +158,9 @@ pub rests_again : {tally tally' : Tally} (table : TableId) (z : Sizes) (number :
       two.me.1,
     )
     → (IsTallied tally seat.me.0.upper → IsTallied tally' two.me.0.upper)
-    → two.me.0.upper.ranges.own ≡ Quiet → IsResting table z number tally' kept' last
+    → two.me.0.upper.ranges.own ≡ Quiet → (z.passes ≡ 1 → last.me.0.lost ≡ 0) → IsResting table z number tally' kept' last
 rests_again {tally' = tally'} table z number kept kept' seat one two last r pin table_two work held
-    known table_last unpin counted quiet = record {
+    known table_last unpin counted quiet unlost = record {
       quiet = ap (λ (m : MyTree). m.0.upper.ranges.own) unpin ∙ ap left_over quiet;
       of = (
         table_last ∙ (table_two ∙ r.of.0),
@@ -182,6 +186,7 @@ rests_again {tally' = tally'} table z number kept kept' seat one two last r pin 
           (λ (m : MyTree). IsKnown z m.0.upper) (sym unpin) (known_unpinned z two.me.0.upper known.0);
       left_before = subst
           (λ (m : MyTree). m.0.pin.left.lost ≤ m.0.lost) (sym unpin) (le_refl two.me.0.lost);
+      unlost = unlost;
       tallied = subst (λ (m : MyTree). IsTallied tally' m.0.upper) (sym unpin) (counted r.tallied);
     }
 
@@ -214,6 +219,7 @@ rests_refused {tally = tally} table z number kept seat last counts r same is = r
       };
   quiet = ap (λ (m : MyTree). m.0.upper.ranges.own) is ∙ r.quiet;
   left_before = subst (λ (m : MyTree). m.0.pin.left.lost ≤ m.0.lost) (sym is) r.left_before;
+  unlost = λ one. ap (λ (m : MyTree). m.0.lost) is ∙ r.unlost one;
   tallied = subst (λ (m : MyTree). IsTallied tally m.0.upper) (sym is) r.tallied;
 }
 

@@ -1,5 +1,5 @@
 -- A call's attempts of which none did it so far, and the last one.
-use Rattle.std.proofs.Common.{◌≡◌, ℕ, Bool, false, List, [], Option, Result, Ok, Err, sym, refl, ap, ◌∙◌, subst, inl, arith, ◌+◌}
+use Rattle.std.proofs.Common.{◌≡◌, ℕ, Bool, false, List, [], Option, Result, Ok, Err, sym, refl, ap, subst, inl, arith, ◌+◌}
 use Rattle.ca_adapt.specs.declared.tuning.Tuning.{Tuning}
 use Rattle.ca_base.specs.declared.stop.Stop.TheVariants as stop
 use Rattle.ca_base.specs.Counting.{HasMet, losses}
@@ -28,7 +28,8 @@ use Rattle.ca_replace.proofs.GoingOn.{gone_on, gone_unpinned, idle_waits, turn_w
 use Rattle.ca_replace.proofs.Growing.{alone_on, grown_unpinned, one_more_attempt, turn_waited, waited_on}
 use Rattle.ca_replace.proofs.Meeting.{further_on}
 use Rattle.ca_replace.proofs.Turns.{turn_further}
-use Rattle.ca_replace.proofs.Winning.{turn_won, won_behind, won_unpinned}
+use Rattle.ca_replace.specs.Winning.{LosesNone}
+use Rattle.ca_replace.proofs.Winning.{loses_both, quiet_won, turn_won, won_behind, won_unpinned}
 use Rattle.ca_rows.specs.declared.sizes.Sizes.{Sizes}
 use Rattle.ca_rows.specs.declared.view.Met.{Met}
 use Rattle.ca_rows.specs.declared.view.Pin.{Pin}
@@ -45,7 +46,7 @@ pub record IsWaiting (z : Sizes) (adds : Option (List ℕ)) (a b : Course) (k m 
   pub met : HasMet 0 0 k m
   pub loads : LoadsFew (most_loads z) 0 m.0.upper.loads k m
   pub waits : Waits a.adapting b.adapting k.0.upper m.0.upper
-  pub won : IsAlone z k.0.upper → m.0.upper.lost ≡ k.0.upper.lost
+  pub won : IsAlone z k.0.upper → LosesNone k.0.upper m.0.upper
   pub waited : IsAlone z k.0.upper → HasWaited z adds k.0.upper m.0.upper
   pub full : HasCutFull z adds k.0.upper m.0.upper
 
@@ -91,7 +92,7 @@ waits_none z adds a b k m course q seen loads f = record {
   loads = omega arith;
   waits = subst (λ (c : Adapting). Waits a.adapting c k.0.upper m.0.upper) (sym course.0)
       (idle_waits a.adapting k.0.upper m.0.upper q.idle);
-  won = λ _. q.idle.1;
+  won = λ _. quiet_won k m q;
   waited = λ _. inl (q.splits_are, q.same_inventory);
   full = none_full z adds k.0.upper.cuts m.0.upper.cuts q.same_cuts;
 }
@@ -107,7 +108,7 @@ waits_quiet z adds a b c k m n course x q seen loads f = let y = waits_none z ad
       met = met_both 0 0 0 0 k m n x.met y.met;
       loads = loads_quiet z k m n q.lost q.same_turns loads x.loads;
       waits = waits_on a.adapting b.adapting c.adapting u w v x.waits y.waits;
-      won = λ alone. q.idle.1 ∙ x.won alone;
+      won = λ alone. loses_both u w v (x.won alone) (quiet_won m n q);
       waited = λ alone. waited_on z adds u w v (x.waited alone) seen
           (q.splits_are, q.same_inventory);
       full = full_both z adds u.cuts w.cuts v.cuts x.full y.full;

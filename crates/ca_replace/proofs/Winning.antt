@@ -1,5 +1,5 @@
 -- A pass that is alone wins each exchange of a link.
-use Rattle.std.proofs.Common.{◌≡◌, ◌≢◌, ℕ, ◌<◌, Bool, true, false, List, Result, Ok, Err, IsOk, sym, refl, ap, ◌∙◌, subst}
+use Rattle.std.proofs.Common.{◌≡◌, ◌≢◌, ℕ, ◌<◌, arith, Bool, true, false, List, Result, Ok, Err, IsOk, sym, refl, ap, ◌∙◌, subst}
 use denote.Ref.{Bor}
 use Rattle.ca_base.specs.declared.stop.Exchange.TheVariants as exchange
 use Rattle.ca_base.specs.declared.stop.Stop.{Stop}
@@ -13,12 +13,13 @@ use Rattle.ca_adapt.specs.declared.tuning.Tuning.{Tuning}
 use Rattle.ca_adapt.specs.Splits.{IsSplitOutcome, IsWhyNotSplit, IsPoolsLoss}
 use Rattle.ca_model.specs.declared.outcome.Outcome.{Outcome}
 use Rattle.ca_model.specs.declared.outcome.Spent.{Spent}
+use Rattle.ca_model.specs.Event.{Event}
 use Rattle.ca_node.specs.declared.cursor.Cursor.{Cursor}
 use Rattle.ca_node.specs.declared.cursor.Spot.TheVariants as spot
 use Rattle.ca_node.specs.Inventory.{IsListed}
-use Rattle.ca_node.specs.Told.{MyTree}
+use Rattle.ca_node.specs.Told.{IsEntered, MyTree}
 use Rattle.ca_node.specs.States.{IsAlone}
-use Rattle.ca_node.specs.TreeView.{Note, Renewal, TreeView, unpinned}
+use Rattle.ca_node.specs.TreeView.{Note, Renewal, TreeView, Turns, unpinned}
 use Rattle.ca_node.specs.Walking.{IsWalked}
 use Rattle.ca_base.specs.Putting.{HasRenewed, HasTried, first_note, stopped}
 use Rattle.ca_base.specs.Splitting.{HasSplit}
@@ -26,9 +27,9 @@ use Rattle.ca_replace.specs.declared.adapting.Adapting.{Adapting}
 use Rattle.ca_model.specs.declared.outcome.Cause.{Cause}
 use Rattle.ca_model.specs.declared.outcome.Cause.TheVariants as cause
 use Rattle.ca_replace.specs.Adapting.{HasSettled, IsNew}
-use Rattle.ca_replace.specs.Attempting.{HasNext, come_to, refused_as, split_to}
+use Rattle.ca_replace.specs.Attempting.{HasNext, IsQuiet, come_to, refused_as, split_to}
 use Rattle.ca_replace.specs.Refusals.{outcome_by}
-use Rattle.ca_replace.specs.Winning.{HasWon, HasWonInAttempts, HasWonInCall}
+use Rattle.ca_replace.specs.Winning.{HasWon, HasWonInAttempts, HasWonInCall, LosesNone}
 use Rattle.ca_replace.proofs.Settling.{IsSettling}
 use Rattle.ca_rows.specs.declared.sizes.Sizes.{Sizes}
 use Rattle.ca_rows.specs.Told.{met_of}
@@ -40,6 +41,22 @@ pub comes_there : (z : Sizes) (key : Bor (List ℕ)) (placed : ℕ) (m m' : MyTr
 comes_there z key placed m m' cursor new w alone = sym (new.listed.2 ∙ (let l = w.listed alone in
     l.only m.0.upper.renewal.new.row new.listed.0 key.now new.listed.1 new.listed.3 w.sought
     ∙ w.cursor_is.base))
+
+-- Nothing was lost, and no turn spent.
+pub no_turns : (u : TreeView) → LosesNone u u
+no_turns u = (refl, (refl, refl))
+
+pub quiet_won : (m m' : MyTree) → IsQuiet m m' → LosesNone m.0.upper m'.0.upper
+quiet_won m m' q = let passed = ap (λ (t : Turns). t.passed) q.same_turns in let splits = q.splits_are in
+    (q.idle.1, (omega arith, ap (λ (t : Turns). t.helped) q.same_turns))
+
+-- A call that edits nothing is entered in the log then.
+pub entered_won : (m m' m'' : MyTree) (event : Event) → IsQuiet m m' → IsEntered event m' m'' → LosesNone m.0.upper m''.0.upper
+entered_won m m' m'' event q e = subst (λ (x : MyTree). LosesNone m.0.upper x.0.upper) (sym e.now) (quiet_won m m' q)
+
+-- First this way, and then that way.
+pub loses_both : (u w v : TreeView) → LosesNone u w → LosesNone w v → LosesNone u v
+loses_both u w v a b = let one = a.1.0 in let two = b.1.0 in (b.0 ∙ a.0, (omega arith, b.1.1 ∙ a.1.1))
 
 -- What became of the due split.
 pub due_won : (z : Sizes) (key : Bor (List ℕ)) (placed : ℕ) (m m' m'' : MyTree) (cursor : Cursor)
@@ -94,21 +111,19 @@ due_won z key placed m m' m'' cursor a new w same h pools = let t = by a h pools
     by (adapted.NotSplit r) h pools = not_by r h pools
     by (adapted.NotJoined r) h pools = absurd h
 
--- Where no exchange of a link was lost, as many are counted.
-none_lost : (why : Stop) (u : TreeView) → why ≢ stop.Lost exchange.Link
-    → (stopped why u).lost ≡ u.lost
+-- Where no exchange of a link was lost, as many are counted, and no turn was spent.
+none_lost : (why : Stop) (u : TreeView) → why ≢ stop.Lost exchange.Link → LosesNone u (stopped why u)
 none_lost (stop.Lost exchange.Link) u won = absurd (won refl)
-none_lost (stop.Lost exchange.Head) u won = refl
-none_lost stop.Empty u won = refl
-none_lost stop.Worn u won = refl
+none_lost (stop.Lost exchange.Head) u won = no_turns u
+none_lost stop.Empty u won = no_turns u
+none_lost stop.Worn u won = no_turns u
 
 -- A full base that was to be split: its exchange was won, or no row was free.
 pub room_won : {T : Type 0} (edits : T → Bool) (many attempt : ℕ) (r : Result (Unit {0}) Stop)
     (u v : TreeView) → r ≢ Err (stop.Lost exchange.Link) → HasSplit many attempt r u v
     → HasWonInAttempts {T = T} edits (Err (split_to r)) u v
-room_won edits many attempt (Ok x) u v won h = ap (λ (x : TreeView). x.lost) h.2
-room_won edits many attempt (Err why) u v won h =
-    ap (λ (x : TreeView). x.lost) h ∙ none_lost why u (λ e. won (ap Err e))
+room_won edits many attempt (Ok x) u v won h = subst (LosesNone u) (sym h.2) (refl, (omega arith, refl))
+room_won edits many attempt (Err why) u v won h = subst (LosesNone u) (sym h) (none_lost why u (λ e. won (ap Err e)))
 
 -- What an attempt comes to by its exchange, given what followed.
 pub settled_won : {z : Sizes} {t : Tuning} {tried : Result (Unit {0}) Stop} {r : Result (Unit {0}) Halt}
@@ -146,27 +161,32 @@ settled_won {z} {t} {tried} {r} {a} {b} {k} {m} {m'} {m''} s listed won then alo
           ap (λ (x : Renewal). x.lost) (q.1.0 ∙ renewed.renewal),
           w.1,
         )
-    by (Err why) h renewed q won then = ap (λ (y : TreeView). y.lost)
-        (ap (λ (x : MyTree). x.0.upper) q.1 ∙ h) ∙ none_lost why m.0.upper (λ e. won (ap Err e))
+    by (Err why) h renewed q won then = subst (LosesNone m.0.upper)
+        (sym (ap (λ (x : MyTree). x.0.upper) q.1 ∙ h)) (none_lost why m.0.upper (λ e. won (ap Err e)))
 
 -- Attempts behind others that lost nothing.
-pub won_on : (edited : Bool) (u w v : TreeView) → w.lost ≡ u.lost → HasWon edited w v
+pub won_on : (edited : Bool) (u w v : TreeView) → LosesNone u w → HasWon edited w v
     → HasWon edited u v
-won_on true u w v before h = (h.0 ∙ before, h.1 ∙ before, h.2)
-won_on false u w v before h = h ∙ before
+won_on true u w v before h = (h.0 ∙ before.0, h.1 ∙ before.0, h.2)
+won_on false u w v before h = loses_both u w v before h
+
+-- Whether it edited or not, it lost none.
+pub won_lost : (edited : Bool) (u v : TreeView) → HasWon edited u v → v.lost ≡ u.lost
+won_lost true u v h = h.0
+won_lost false u v h = h.0
 
 pub won_behind : {T E : Type 0} (edits : T → Bool) (r : Result T E) (u w v : TreeView)
-    → w.lost ≡ u.lost → HasWonInAttempts edits r w v → HasWonInAttempts edits r u v
+    → LosesNone u w → HasWonInAttempts edits r w v → HasWonInAttempts edits r u v
 won_behind edits (Ok x) u w v before h = won_on (edits x) u w v before h
 won_behind edits (Err why) u w v before h = won_on false u w v before h
 
 -- Attempts that came to a stop.
 pub stop_won : {T E : Type 0} (edits : T → Bool) (r : Result T E) (why : E) (u v : TreeView)
-    → r ≡ Err why → HasWonInAttempts edits r u v → v.lost ≡ u.lost
+    → r ≡ Err why → HasWonInAttempts edits r u v → LosesNone u v
 stop_won {T} {E} edits r why u v e h = subst (λ (x : Result T E). HasWonInAttempts edits x u v) e h
 
 pub turn_won : {T : Type 0} (edits : T → Bool) (r : Result T Halt) (u v : TreeView)
-    → HasNext r → HasWonInAttempts edits r u v → v.lost ≡ u.lost
+    → HasNext r → HasWonInAttempts edits r u v → LosesNone u v
 turn_won edits (Ok x) u v next h = absurd next
 turn_won edits (Err why) u v next h = h
 
@@ -179,7 +199,7 @@ pub won_unpinned : {T E : Type 0} (edits : T → Bool) (r : Result T E) (u v w :
     → w ≡ unpinned v → HasWonInAttempts edits r u v → HasWonInAttempts edits r u w
 won_unpinned edits (Ok x) u v w same h = subst
     (λ (y : TreeView). HasWon (edits x) u y) (sym same) (wins_unpinned (edits x) u v h)
-won_unpinned edits (Err why) u v w same h = subst (λ (y : TreeView). y.lost ≡ u.lost) (sym same) h
+won_unpinned edits (Err why) u v w same h = subst (λ (y : TreeView). LosesNone u y) (sym same) h
 
 -- What the attempts come to where the last one's is told otherwise.
 pub won_refused : {T : Type 0} (edits : T → Bool) (tried : Result T Halt) (r : Result T Cause)
@@ -197,7 +217,7 @@ won_refused {T} edits tried r spent levels u w v same is h = subst
 
 -- A refused call.
 pub refused_wins : {T : Type 0} (edits : T → Bool) (why : Cause) (o : Outcome T) (u v : TreeView)
-    → o ≡ outcome_by why → v.lost ≡ u.lost → HasWonInCall edits o u v
+    → o ≡ outcome_by why → LosesNone u v → HasWonInCall edits o u v
 refused_wins {T} edits why o u v is same = subst
     (λ (x : Outcome T). HasWonInCall edits x u v) (sym is) (by why)
   where

@@ -14,7 +14,7 @@ use Rattle.ca_replace.specs.Resting.{IsAtRest}
 use Rattle.ca_replace.proofs.Between.{announced, left, may_first}
 use Rattle.ca_replace.proofs.Numbering.{numbered_as}
 use Rattle.ca_replace.proofs.Ready.{ready_after}
-use Rattle.ca_replace.proofs.Turns.{known_unpinned}
+use Rattle.ca_replace.proofs.Turns.{is_lone, known_unpinned}
 use Rattle.ca_rows.specs.declared.kept.KeptRows.{KeptRows}
 use Rattle.ca_rows.specs.declared.space.Pass.{Pass}
 use Rattle.ca_rows.specs.declared.space.Space.{Space}
@@ -23,6 +23,7 @@ use Rattle.ca_rows.specs.declared.view.Claim.TheVariants.{Keeps}
 use Rattle.ca_rows.specs.Claims.{claim_of}
 use Rattle.ca_rows.specs.Kept.{AreKept}
 use Rattle.ca_rows.specs.Passes.{KeepsList}
+use Rattle.ca_rows.specs.Told.{IsOnly}
 
 -- A pass that may begin an attempt is at work.
 work_of : {R : Type 0} {space : Space R TreeView} {pass : Pass R TreeView} {key : List ℕ} {again : Option Cursor} {marked : Bool}
@@ -59,8 +60,9 @@ module _ {R : Type 0} {space : Space R TreeView} {pass new : Pass R TreeView} wh
   }
 
   -- It rests once it unpinned.
-  pub work_left : IsAtWork space pass → KeepsList pass new → new.seat.me ≡ left pass.seat.me → IsAtRest space new
-  work_left w f is = let none = w.ready.none in record {
+  pub work_left : IsAtWork space pass → KeepsList pass new → new.seat.me ≡ left pass.seat.me
+      → (IsOnly pass.seat.me → new.seat.me.0.lost ≡ 0) → IsAtRest space new
+  work_left w f is only = let none = w.ready.none in record {
     of = (f.same.0 ∙ w.ready.own.0, ap (λ (m : MyTree). m.0.sizes) is ∙ w.ready.own.1);
     numbered = numbered_as pass.number new.number pass.seat.me.0.pin new.seat.me.0.pin f.number
         (ap (λ (m : MyTree). m.0.pin.number) is) w.ready.numbered;
@@ -74,6 +76,7 @@ module _ {R : Type 0} {space : Space R TreeView} {pass new : Pass R TreeView} wh
     known = subst (λ (m : MyTree). IsKnown space.table.shared.key m.0.upper) (sym is)
         (known_unpinned space.table.shared.key pass.seat.me.0.upper w.known);
     left_before = subst (λ (m : MyTree). m.0.pin.left.lost ≤ m.0.lost) (sym is) (le_refl pass.seat.me.0.lost);
+    unlost = λ one. only (is_lone space.table.shared.key pass.seat.me w.ready.own.1 space.few.0 one);
     quiet = ap (λ (m : MyTree). m.0.upper.ranges.own) is ∙ ap left_over w.quiet;
     tallied = tallied_still pass.tally new.tally pass.seat.me.0.upper new.seat.me.0.upper f.tally
         (ap (λ (m : MyTree). m.0.upper.splits) is) (ap (λ (m : MyTree). m.0.upper.joins) is) w.tallied;

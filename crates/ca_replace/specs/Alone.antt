@@ -22,6 +22,14 @@ pub record HasNoRoom (z : Sizes) (key : List ℕ) (history : History) (i : Inven
   pub at_last : z.levels ≤ place.level
   pub full : z.leaf ≤ length (part place.span (after history []))
 
+-- The call isn't refused for the turns that it spent.
+abbrev pub IsNeverBusy : {T : Type 0} → Outcome T → Type 0
+IsNeverBusy (outcome.Done x) = Unit {0}
+IsNeverBusy (outcome.Busy spent) = ⊥
+IsNeverBusy (outcome.Full full) = Unit {0}
+IsNeverBusy (outcome.Deep level) = Unit {0}
+IsNeverBusy (outcome.Worn counter) = Unit {0}
+
 -- It had none for the key that a call may add, if any, as the call began. By then the pass had carried out as many splits as there are levels, or more.
 abbrev pub HadNoRoom : Sizes → Option (List ℕ) → TreeView → Type 0
 HadNoRoom z None u = ⊥

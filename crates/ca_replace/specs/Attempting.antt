@@ -28,6 +28,8 @@ use Rattle.ca_base.specs.Progress.{IsFurther, HasDone}
 use Rattle.ca_base.specs.Putting.{first_note, object_at}
 use Rattle.ca_rows.specs.declared.sizes.Sizes.{Sizes}
 use Rattle.ca_rows.specs.declared.space.Pass.{Pass}
+use Rattle.ca_rows.specs.declared.space.Space.{Space}
+use Rattle.ca_replace.specs.declared.adapting.Course.{Course}
 
 -- The base under the cursor was shown last. This key is one of those that are led there, and the base has what a state since the pin has of them,
 -- of a history that is known.
@@ -89,6 +91,10 @@ abbrev pub StaysAt : {T : Type 0} → Sizes → List ℕ → Result T Halt → T
 StaysAt z key (Ok x) u v again marked = Unit {0}
 StaysAt z key (Err why) u v again marked = (v.since ≡ u.since) × BeginsAt z key v again
     × (marked ≡ false → v.ranges.unfinished ≡ u.ranges.unfinished)
+
+-- So it is of a pass of this space, by what is handed on.
+abbrev pub StaysFor : {R T : Type 0} → Space R TreeView → List ℕ → Result T Halt → Pass R TreeView → Pass R TreeView → Course → Type 0
+StaysFor space key r pass new course = StaysAt space.table.shared.key key r pass.seat.me.0.upper new.seat.me.0.upper course.again course.marked
 
 -- what an attempt comes to that tried to split a full base, given what became of it
 abbrev pub split_to : {T : Type 0} → Result T Stop → Halt

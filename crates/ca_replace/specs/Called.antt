@@ -1,9 +1,10 @@
 -- What a call of a pass's store tells beside its event, if it may edit.
-use Rattle.std.specs.Prelude.{◌≡◌, ℕ, Bool, List, vec_len}
+use Rattle.std.specs.Prelude.{◌≡◌, ℕ, ◌≤◌, Bool, List, vec_len}
 use Rattle.std.specs.declared.option.Option.{Option}
+use Rattle.ca_base.specs.Counting.{losses}
 use Rattle.ca_model.specs.declared.outcome.Outcome.{Outcome}
 use Rattle.ca_replace.specs.Adapting.{IsCauseMetInCall, LeavesInCall}
-use Rattle.ca_replace.specs.Alone.{HasLoneCause}
+use Rattle.ca_replace.specs.Alone.{HasLoneCause, IsNeverBusy}
 use Rattle.ca_replace.specs.Bounded.{IsBounded}
 use Rattle.ca_replace.specs.Causes.{HasCause, IsSparing}
 use Rattle.ca_replace.specs.Cutting.{HasCutInCall}
@@ -36,5 +37,8 @@ pub record HasTold {T : Type 0} (edits : T → Bool) (adds : Option (List ℕ)) 
   -- by how much the tree of a pass that is alone grew, and that it lost no exchange of a link
   pub grows : s.z.passes ≡ 1 → GrowsInCall s.z adds o s.seat.me.0.upper t.seat.me.0.upper
   pub wins : s.z.passes ≡ 1 → HasWonInCall edits o s.seat.me.0.upper t.seat.me.0.upper
+  -- that such a pass lost none at all, and is refused for turns by a budget of one alone
+  pub unlost : s.z.passes ≡ 1 → losses t.seat.me ≡ losses s.seat.me
+  pub never_busy : s.z.passes ≡ 1 → 2 ≤ budget → IsNeverBusy o
   -- which bases it split, and how
   pub cut : HasCutInCall edits s.z adds o s.seat.me.0.upper t.seat.me.0.upper

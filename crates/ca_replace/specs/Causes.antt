@@ -22,10 +22,13 @@ use Rattle.ca_model.specs.declared.outcome.Cause.{Cause}
 use Rattle.ca_model.specs.declared.outcome.Cause.TheVariants as cause
 use Rattle.ca_rows.specs.declared.kept.Kept.{Kept}
 use Rattle.ca_rows.specs.declared.sizes.Sizes.{Sizes}
+use Rattle.ca_rows.specs.declared.space.Pass.{Pass}
+use Rattle.ca_rows.specs.declared.space.Space.{Space}
 use Rattle.ca_rows.specs.declared.view.Claimed.{Claimed}
 use Rattle.ca_rows.specs.Kept.{AreKept}
 use Rattle.ca_rows.specs.declared.reclaimed.Reclaimed.{Reclaimed}
 use Rattle.ca_rows.specs.Reclaiming.{IsLag, lag_count, Reclaims}
+use Rattle.ca_rows.specs.Told.{IsOnly}
 
 -- From one of these moments to the other the pass began a look at the others. What it knows then of a pass that lags, and of the epoch, is of its last look.
 abbrev pub HasLooked : MyTree → MyTree → Type 0
@@ -44,6 +47,11 @@ IsRefill passes number budget begun spent (cause.Worn counter.Epoch) m m' kept' 
     × (0 < vec_len kept') × (total spent < budget) × (0 < begun) × (m'.0.pin.lag ≡ 0)
 IsRefill passes number budget begun spent (cause.Worn counter.PoolTag) m m' kept' = ⊥
 IsRefill passes number budget begun spent (cause.Worn counter.Sequence) m m' kept' = ⊥
+
+-- So it is of a pass of this space.
+abbrev pub IsRefillBy : {R : Type 0} → Space R TreeView → ℕ → ℕ → Spent → Cause → Pass R TreeView → Pass R TreeView → Type 0
+IsRefillBy space budget begun spent why pass new =
+    IsRefill space.table.shared.key.passes pass.number budget begun spent why pass.seat.me new.seat.me new.kept.rows
 
 -- Of the rows that are noted so, a seat kept so many.
 abbrev pub HasKept : ℕ → List Claimed → ℕ → Type 0
@@ -96,6 +104,10 @@ IsCaused z number budget adds (cause.Worn counter.Epoch) m kept m' kept' = ((beg
     × HasLooked m m' × (4611686018427387904 ≤ m'.0.pin.scan) × (0 < vec_len kept') × (m'.0.pin.lag ≡ 0) × IsUnspent budget m m'
 IsCaused z number budget adds (cause.Worn counter.Sequence) m kept m' kept' = ⊥
 
+-- So it is of a call of this pass, by what it was before the call and what it is behind it.
+abbrev pub IsCausedBy : {R : Type 0} → Space R TreeView → ℕ → Option (List ℕ) → Cause → Pass R TreeView → Pass R TreeView → Type 0
+IsCausedBy space budget adds why pass new = IsCaused space.table.shared.key pass.number budget adds why pass.seat.me pass.kept.rows new.seat.me new.kept.rows
+
 -- Where the call is refused, this holds of the refusal.
 abbrev pub IfCaused : {T : Type 0} → Outcome T → (Cause → Type 0) → Type 0
 IfCaused (outcome.Done x) P = Unit {0}
@@ -127,6 +139,8 @@ pub record HasGiven (passes number : ℕ) (answer : Reclaimed) (m m' : MyTree) (
   pub lost : IsTrue answer.lost ↔ (0 < answer.losses)
   -- Where no pass lags, no exchange was lost, and the epoch may still move, all rows were given back.
   pub all : answer.lag ≡ None → answer.lost ≡ false → m'.0.pin.scan < 4611686018427387904 → answer.kept ≡ 0
+  -- The only pass of a space found none that lags, and lost no exchange.
+  pub only : IsOnly m → (answer.lag ≡ None) × (answer.losses ≡ 0)
 
 -- Rows were given back, and nothing else was learnt or met.
 pub record GaveBack (m m' : MyTree) : Type 0 where
@@ -161,6 +175,10 @@ EndsAtLag m m' = (m'.0.pin.lags ≤ m.0.pin.lags + 1) × (m'.0.pin.entered.lags 
 -- A call of a pass's store that may add this key, if any, may be refused so, given what contracts see of the store before it and behind it.
 abbrev pub HasCause : {T : Type 0} → ℕ → Option (List ℕ) → StoreView → StoreView → Outcome T → Type 0
 HasCause budget adds s t o = IfCaused o (λ why. IsCaused s.z s.number budget adds why s.seat.me s.kept t.seat.me t.kept)
+
+-- The store's pass gave rows back, and that came to this.
+abbrev pub HasGivenBack : Reclaimed → StoreView → StoreView → Type 0
+HasGivenBack given s t = HasGiven s.z.passes s.number given s.seat.me t.seat.me t.kept
 
 -- Behind a call the store's pass keeps few rows, or there is a cause in this call; it never held more than eight rows at once; and a pass was found to
 -- lag once at most, behind the last attempt.

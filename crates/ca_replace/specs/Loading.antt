@@ -41,6 +41,10 @@ unpaid z (Err why) = unpaid_by z why
 abbrev pub LoadsFew : ℕ → ℕ → ℕ → MyTree → MyTree → Type 0
 LoadsFew each links until m m' = until ≤ m.0.upper.loads + links + each * spent_in m m'
 
+-- So it is of a call's turns: help and a walk for each that was spent, and the first walk.
+abbrev pub LoadsInTurns : {T : Type 0} → (T → Bool) → Sizes → Result T Halt → MyTree → MyTree → Type 0
+LoadsInTurns edits z r m m' = LoadsFew (most_loads z) (z.levels + 1 + unpaid z r) (loads_until edits r m'.0.upper) m m'
+
 -- So it is by what became of a call's attempts. One that did it loaded the links of one walk, at most, and no more than an attempt that helps for each turn
 -- that it spent, and for each time that it pinned anew; one that is refused no more than that for each turn, and each time that it pinned.
 abbrev pub LoadsInAttempts : {T E : Type 0} → (T → Bool) → Sizes → Result T E → MyTree → MyTree → Type 0

@@ -96,6 +96,11 @@ IsRangeCaused Needs z number budget (cause.Worn counter.PoolTag) m kept m' kept'
 IsRangeCaused Needs z number budget (cause.Worn counter.Epoch) m kept m' kept' = IsCaused z number budget None (cause.Worn counter.Epoch) m kept m' kept'
 IsRangeCaused Needs z number budget (cause.Worn counter.Sequence) m kept m' kept' = (m'.0.upper.ranges.sequence ≡ some last_sequence) × Needs m'.0.upper.last
 
+-- So it is of a call of this pass, by what it was before the call and what it is behind it.
+abbrev pub IsRangeCausedBy : {R : Type 0} → (Note → Type 0) → Space R TreeView → ℕ → Cause → Pass R TreeView → Pass R TreeView → Type 0
+IsRangeCausedBy Needs space budget why pass new =
+    IsRangeCaused Needs space.table.shared.key pass.number budget why pass.seat.me pass.kept.rows new.seat.me new.kept.rows
+
 -- A call of a pass's store that reads a range may be refused so, given what contracts see of the store before it and behind it.
 abbrev pub HasRangeCause : {T : Type 0} → (Note → Type 0) → ℕ → StoreView → StoreView → Outcome T → Type 0
 HasRangeCause Needs budget s t o = IfCaused o (λ why. IsRangeCaused Needs s.z s.number budget why s.seat.me s.kept t.seat.me t.kept)

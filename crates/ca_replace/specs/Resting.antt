@@ -40,6 +40,8 @@ pub record IsResting (table : TableId) (z : Sizes) (number : ℕ) (tally : Tally
   pub known : IsKnown z seat.me.0.upper
   -- It lost no fewer exchanges of the pool than as it unpinned.
   pub left_before : seat.me.0.pin.left.lost ≤ seat.me.0.lost
+  -- Where the space is for one pass, it lost no exchange of the pool or of the epoch.
+  pub unlost : z.passes ≡ 1 → seat.me.0.lost ≡ 0
   -- No range of its own is active, and no attempt of its own to join is under way.
   pub quiet : seat.me.0.upper.ranges.own ≡ Quiet
   -- It counted the splits and the joins that it carried out.

@@ -1,5 +1,9 @@
 -- What contracts see of a pass on a tree, and of what is kept of its last update.
+use Rattle.std.specs.Prelude.{ℕ, Bool, List}
+use Rattle.std.specs.declared.option.Option.{Option}
+use Rattle.ca_model.specs.declared.outcome.Outcome.{Outcome}
 use Rattle.ca_node.specs.TreeView.{TreeView}
+use Rattle.ca_replace.specs.Called.{HasTold}
 use Rattle.ca_replace.specs.declared.adapting.Last.{Last}
 use Rattle.ca_replace.specs.declared.tree.Tree.{Tree}
 use Rattle.ca_replace.specs.Resting.{StoreView}
@@ -16,3 +20,7 @@ store_of tree pass last = record {
   seat = pass.seat;
   last = last;
 }
+
+-- A call of this pass tells so, by what its store kept of its last update before it and keeps behind it.
+abbrev pub HasToldBy : {R T : Type 0} → (T → Bool) → Option (List ℕ) → ℕ → Tree → Pass R TreeView → Last → Pass R TreeView → Last → Outcome T → Type 0
+HasToldBy edits adds budget tree pass last new kept o = HasTold edits adds budget (store_of tree pass last) (store_of tree new kept) o

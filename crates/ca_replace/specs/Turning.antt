@@ -21,6 +21,7 @@ use Rattle.ca_replace.specs.Attempting.{HasStopped, HasTriedTo, IsPaidTo, StaysA
 use Rattle.ca_replace.specs.Cutting.{HasCut, HasCutInAttempts}
 use Rattle.ca_replace.specs.Growing.{HasGrown, HasGrownInAttempts}
 use Rattle.ca_replace.specs.Winning.{HasWonInAttempts}
+use Rattle.ca_replace.specs.declared.tree.Tree.{Tree}
 use Rattle.ca_rows.specs.declared.sizes.Sizes.{Sizes}
 use Rattle.ca_rows.specs.declared.space.Pass.{Pass}
 use Rattle.ca_rows.specs.declared.space.Space.{Space}
@@ -51,6 +52,15 @@ pub record AreTurns {T E : Type 0} (edits : T → Bool) (adds : Option (List ℕ
   pub grown : IsAlone z m.0.upper → HasGrownInAttempts z adds r m.0.upper m'.0.upper
   pub won : IsAlone z m.0.upper → HasWonInAttempts edits r m.0.upper m'.0.upper
   pub cut : HasCutInAttempts edits z adds r m.0.upper m'.0.upper
+
+module _ {R T : Type 0} (edits : T → Bool) (adds : Option (List ℕ)) (tree : Tree) (a b : Course) where
+  -- One attempt of a pass on this tree, whose walk loads so many links.
+  abbrev pub TakesTurn : ℕ → Result T Halt → Pass R TreeView → Pass R TreeView → Type 0
+  TakesTurn links r pass new = IsTurn edits adds tree.space.table.shared.key tree.tuning links a b (met_of new.seat.me) r pass.seat.me new.seat.me
+
+  -- Attempts of a pass on this tree, which has unpinned behind them.
+  abbrev pub TakesTurns : {E : Type 0} → Result T E → Pass R TreeView → Pass R TreeView → Type 0
+  TakesTurns r pass new = AreTurns edits adds tree.space.table.shared.key tree.tuning a b new.seat.me.0.pin.left r pass.seat.me new.seat.me
 
 module _ {R : Type 0} where
   -- What became of an edit of the base that was shown last, which is such an event, is about this key, and may add one: the pass is in its call still; the

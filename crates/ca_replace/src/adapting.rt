@@ -11,6 +11,7 @@ ghost use Rattle.ca_replace.specs.Growing.{Grows};
 ghost use Rattle.ca_replace.specs.Cutting.{HasCutDue};
 ghost use Rattle.ca_replace.specs.declared.attempting.Halt.TheVariants.{Deep as IsDeep};
 ghost use Rattle.ca_replace.specs.Attempting.{IsPaid, IsPaidBut, IsPaidTo, come_to};
+ghost use Rattle.ca_replace.specs.Winning.{StaysNewest};
 ghost use Rattle.ca_rows.specs.Told.{met_of};
 ghost use Rattle.ca_rows.specs.Passes.{OnlyReads, IsReading, sizes, known};
 ghost use Rattle.ca_node.specs.TreePasses.{tree_of};
@@ -92,8 +93,7 @@ pub(crate) fn settle(
     ensures counted { IsPaidTo (come_to tried) course.old.spent course.new.spent (known pass.old) (known pass.new) }
     ensures again { course.new.again ≡ course.old.again }
     ensures grows { IsAlone (sizes tree.now.space) (tree_of pass.old) → Grows 1 2 1 (tree_of pass.old) (tree_of pass.new) }
-    ensures won { IsAlone (sizes tree.now.space) (tree_of pass.old) → IsOk tried → ((tree_of pass.new).lost ≡ (tree_of pass.old).lost)
-        × ((tree_of pass.new).last.row ≡ (tree_of pass.new).renewal.new.row) }
+    ensures won { IsAlone (sizes tree.now.space) (tree_of pass.old) → IsOk tried → StaysNewest (tree_of pass.old) (tree_of pass.new) }
     ensures cut { HasCutDue (sizes tree.now.space) (tree_of pass.old).cuts (tree_of pass.new) }
 {
     match tried {
@@ -134,8 +134,7 @@ fn adapt(
     ensures adapted { HasAdapted (sizes tree.now.space) tree.now.tuning statistic result (tree_of pass.old) (tree_of pass.new) }
     ensures counted { IsPaidBut spent.old spent.new (known pass.old) (known pass.new) }
     ensures grows { IsAlone (sizes tree.now.space) (tree_of pass.old) → Grows 1 2 1 (tree_of pass.old) (tree_of pass.new) }
-    ensures won { IsAlone (sizes tree.now.space) (tree_of pass.old) → ((tree_of pass.new).lost ≡ (tree_of pass.old).lost)
-        × ((tree_of pass.new).last.row ≡ (tree_of pass.new).renewal.new.row) }
+    ensures won { IsAlone (sizes tree.now.space) (tree_of pass.old) → StaysNewest (tree_of pass.old) (tree_of pass.new) }
     ensures cut { HasCutDue (sizes tree.now.space) (tree_of pass.old).cuts (tree_of pass.new) }
 {
     match tree.tuning.due(statistic) {
@@ -155,8 +154,7 @@ fn split_again(tree: &Tree, pass: &mut TreePass, placed: &NewBase<'_>, spent: &m
     ensures tried { HasLookedAgain (sizes tree.now.space) result (tree_of pass.old) (tree_of pass.new) }
     ensures counted { IsPaid spent.old spent.new (known pass.old) (known pass.new) }
     ensures grows { IsAlone (sizes tree.now.space) (tree_of pass.old) → Grows 1 2 1 (tree_of pass.old) (tree_of pass.new) }
-    ensures won { IsAlone (sizes tree.now.space) (tree_of pass.old) → ((tree_of pass.new).lost ≡ (tree_of pass.old).lost)
-        × ((tree_of pass.new).last.row ≡ (tree_of pass.new).renewal.new.row) }
+    ensures won { IsAlone (sizes tree.now.space) (tree_of pass.old) → StaysNewest (tree_of pass.old) (tree_of pass.new) }
     ensures cut { HasCutDue (sizes tree.now.space) (tree_of pass.old).cuts (tree_of pass.new) }
 {
     let space = &tree.space;
@@ -182,8 +180,7 @@ fn join_again(tree: &Tree, pass: &mut TreePass, placed: &NewBase<'_>, spent: &mu
     ensures tried { HasLookedToJoin (sizes tree.now.space) result (tree_of pass.old) (tree_of pass.new) }
     ensures counted { IsPaidBut spent.old spent.new (known pass.old) (known pass.new) }
     ensures grows { IsAlone (sizes tree.now.space) (tree_of pass.old) → Grows 1 2 1 (tree_of pass.old) (tree_of pass.new) }
-    ensures won { IsAlone (sizes tree.now.space) (tree_of pass.old) → ((tree_of pass.new).lost ≡ (tree_of pass.old).lost)
-        × ((tree_of pass.new).last.row ≡ (tree_of pass.new).renewal.new.row) }
+    ensures won { IsAlone (sizes tree.now.space) (tree_of pass.old) → StaysNewest (tree_of pass.old) (tree_of pass.new) }
     ensures cut { HasCutDue (sizes tree.now.space) (tree_of pass.old).cuts (tree_of pass.new) }
 {
     let space = &tree.space;

@@ -7,7 +7,7 @@ ghost use Rattle.ca_node.specs.Row.{pair};
 ghost use Rattle.ca_replace.specs.declared.attempting.Halt.TheVariants.{Deep as IsDeep, Split as IsSplit};
 ghost use Rattle.ca_replace.specs.Causes.{IsFullSince};
 ghost use Rattle.ca_replace.specs.Cutting.{IsFullFor};
-ghost use Rattle.ca_replace.specs.Attempting.{BeginsAt, IsAsking, IsIdle, IsLooking, HasFetched, HasTriedSince, HasTriedTo, StaysAt, split_to};
+ghost use Rattle.ca_replace.specs.Attempting.{BeginsAt, IsAsking, IsIdle, IsLooking, HasFetched, HasTriedSince, HasTriedTo, StaysAt, StaysFor, split_to};
 ghost use Rattle.ca_node.specs.Told.{IsKnown, IsSettled};
 ghost use Rattle.ca_node.specs.Walking.{IsWalked};
 ghost use Rattle.ca_node.specs.declared.cursor.Spot.TheVariants.{At as IsAt};
@@ -16,9 +16,8 @@ ghost use Rattle.ca_base.specs.Progress.{IsFurther};
 ghost use Rattle.ca_base.specs.Putting.{object_at, IsRoom, IsFor};
 ghost use Rattle.ca_base.specs.Targets.{IsKeyed, event_of, key_in};
 ghost use Rattle.ca_rows.specs.declared.sizes.Sizes.{Sizes};
-ghost use Rattle.ca_rows.specs.Told.{met_of};
 ghost use Rattle.ca_replace.specs.Looking.{HasLooked};
-ghost use Rattle.ca_replace.specs.Turning.{HasEdited, IsTurn, course_after, course_helped, helped_to, paid};
+ghost use Rattle.ca_replace.specs.Turning.{HasEdited, TakesTurn, course_after, course_helped, helped_to, paid};
 ghost use Rattle.ca_rows.specs.Passes.{IsReading, KeepsList, sizes, known};
 ghost use Rattle.ca_node.specs.TreePasses.{tree_of};
 ghost use Rattle.ca_node.specs.TreeView.{Quiet};
@@ -91,11 +90,9 @@ pub(crate) trait Attempt {
         requires begins { BeginsAt (sizes tree.now.space) (about self.now) (tree_of pass.old) course.old.again }
         ensures frame { StaysReady tree.now.space pass.old pass.new }
         ensures tried { HasTriedSince (λ answer. tells self.now answer left.new) (sizes tree.now.space) result (tree_of pass.old) (tree_of pass.new) }
-        ensures stays { StaysAt (sizes tree.now.space) (about self.now) result (tree_of pass.old) (tree_of pass.new) course.new.again
-            course.new.marked }
+        ensures stays { StaysFor tree.now.space (about self.now) result pass.old pass.new course.new }
         ensures deep { result ≡ Err IsDeep → IsFullSince (sizes tree.now.space) (adds self.now) (tree_of pass.new) }
-        ensures turn { IsTurn (edits self.now) (adds self.now) (sizes tree.now.space) tree.now.tuning ((sizes tree.now.space).levels + 1) course.old
-            course.new (met_of (known pass.new)) result (known pass.old) (known pass.new) };
+        ensures turn { TakesTurn (edits self.now) (adds self.now) tree.now course.old course.new ((sizes tree.now.space).levels + 1) result pass.old pass.new };
 }
 
 /// The base that has the key, and the key's place among its objects. It is shown to the pass, which has seen the whole history then. The walk begins with
@@ -292,8 +289,8 @@ fn make_room(
     ensures deep { result ≡ IsDeep → (sizes tree.now.space).levels ≤ (shown_last pass.old).place.level }
     ensures still { result ≡ IsDeep → tree_of pass.new ≡ tree_of pass.old }
     ensures turn { (key : List ℕ) → IsLooking (sizes tree.now.space) (tree_of pass.old) key cursor
-        → IsFullFor (sizes tree.now.space) (Some key) (shown_last pass.old) → IsTurn {T = Unit {0}} (λ _. true) (Some key) (sizes tree.now.space)
-        tree.now.tuning 0 course.old course.new (met_of (known pass.new)) (Err result) (known pass.old) (known pass.new) }
+        → IsFullFor (sizes tree.now.space) (Some key) (shown_last pass.old)
+        → TakesTurn {T = Unit {0}} (λ _. true) (Some key) tree.now course.old course.new 0 (Err result) pass.old pass.new }
 {
     course.again = Some(cursor);
     if cursor.level >= tree.tuning.levels {

@@ -6,15 +6,14 @@ ghost use Rattle.ca_replace.specs.declared.attempting.Halt.TheVariants.{Deep as 
 ghost use Rattle.ca_node.specs.Told.{with_upper};
 ghost use Rattle.ca_replace.specs.Attempting.{IsPaidTo, total, HasAttempted, HasDoneSuch, HasNext, HasStopped, HasTriedTo, IfDeep, refused_as};
 ghost use Rattle.ca_replace.specs.Bounded.{IsBounded, IsPaced};
-ghost use Rattle.ca_replace.specs.Loading.{LoadsFew, LoadsInAttempts, loads_until, most_loads, unpaid};
-ghost use Rattle.ca_replace.specs.Called.{HasTold};
-ghost use Rattle.ca_replace.specs.Causes.{EndsAtLag, HasPinned, IsCaused, IsFullSince, KeepsFew};
-ghost use Rattle.ca_replace.specs.Seen.{store_of};
+ghost use Rattle.ca_replace.specs.Loading.{LoadsInAttempts, LoadsInTurns};
+ghost use Rattle.ca_replace.specs.Causes.{EndsAtLag, HasPinned, IsCausedBy, IsFullSince, KeepsFew};
+ghost use Rattle.ca_replace.specs.Seen.{HasToldBy};
 ghost use Rattle.ca_base.specs.Progress.{IsRefused};
 ghost use Rattle.ca_model.specs.Known.{one_more};
-ghost use Rattle.ca_replace.specs.Turning.{AreTurns};
+ghost use Rattle.ca_replace.specs.Turning.{TakesTurns};
 ghost use Rattle.ca_replace.specs.Between.{GoesOn, MayBegin};
-ghost use Rattle.ca_rows.specs.Passes.{sizes, known, view};
+ghost use Rattle.ca_rows.specs.Passes.{sizes, known};
 ghost use Rattle.ca_node.specs.TreePasses.{tree_of};
 ghost use Rattle.ca_replace.specs.Resting.{IsAtRest, StaysAtRest};
 
@@ -63,8 +62,7 @@ pub(crate) fn call<A: Attempt>(
     ensures refused { IfRefused result (λ rise. IsRefused rise (tree_of pass.old) (tree_of pass.new)) }
     ensures deep { IfDeep result (A.adds order.now.what.now ≢ None) }
     ensures busy { IfBusy result (λ spent. order.now.budget ≤ spent) }
-    ensures told { HasTold (A.edits order.now.what.now) (A.adds order.now.what.now) order.now.budget (store_of tree.now pass.old last.old)
-        (store_of tree.now pass.new last.new) result }
+    ensures told { HasToldBy (A.edits order.now.what.now) (A.adds order.now.what.now) order.now.budget tree.now pass.old last.old pass.new last.new result }
 {
     let mut course = Course {
         adapting: Adapting {
@@ -117,14 +115,12 @@ fn attempts<A: Attempt>(
     requires none { (course.old.spent.lost ≡ 0) × (course.old.spent.helped ≡ 0) × (course.old.spent.passed ≡ 0) }
     ensures frame { StaysAtRest tree.now.space pass.old pass.new }
     ensures come { HasAttempted (λ answer. A.tells order.now.what.now answer left.new) result (tree_of pass.old) (tree_of pass.new) }
-    ensures caused { IfErr result (λ why. IsCaused (sizes tree.now.space) pass.old.number order.now.budget (A.adds order.now.what.now) why (known pass.old)
-        pass.old.kept.rows (known pass.new) pass.new.kept.rows) }
+    ensures caused { IfErr result (λ why. IsCausedBy tree.now.space order.now.budget (A.adds order.now.what.now) why pass.old pass.new) }
     ensures few { KeepsFew (known pass.old) (known pass.new) pass.new.kept.rows }
     ensures lags { EndsAtLag (known pass.old) (known pass.new) }
     ensures bounded { IsBounded (vec_len pass.old.kept.rows) (known pass.old) (known pass.new) }
     ensures loads { LoadsInAttempts (A.edits order.now.what.now) (sizes tree.now.space) result (known pass.old) (known pass.new) }
-    ensures turns { AreTurns (A.edits order.now.what.now) (A.adds order.now.what.now) (sizes tree.now.space) tree.now.tuning course.old course.new
-        (view pass.new).pin.left result (known pass.old) (known pass.new) }
+    ensures turns { TakesTurns (A.edits order.now.what.now) (A.adds order.now.what.now) tree.now course.old course.new result pass.old pass.new }
 {
     loop {
         let kept = pass.kept();
@@ -182,11 +178,9 @@ fn turns<A: Attempt>(
     ensures found { HasStopped result (known pass.old) (known pass.new) }
     ensures pinned { HasPinned (known pass.old) (known pass.new) }
     ensures paced { IsPaced (known pass.old) (known pass.new) }
-    ensures loads { LoadsFew (most_loads (sizes tree.now.space)) ((sizes tree.now.space).levels + 1 + unpaid (sizes tree.now.space) result)
-        (loads_until (A.edits order.now.what.now) result (tree_of pass.new)) (known pass.old) (known pass.new) }
+    ensures loads { LoadsInTurns (A.edits order.now.what.now) (sizes tree.now.space) result (known pass.old) (known pass.new) }
     ensures lost { HasNext result → order.now.budget ≤ total course.new.spent }
-    ensures turns { AreTurns (A.edits order.now.what.now) (A.adds order.now.what.now) (sizes tree.now.space) tree.now.tuning course.old course.new
-        (view pass.new).pin.left result (known pass.old) (known pass.new) }
+    ensures turns { TakesTurns (A.edits order.now.what.now) (A.adds order.now.what.now) tree.now course.old course.new result pass.old pass.new }
 {
     let space = &tree.space;
     let budget = order.budget();

@@ -1,7 +1,7 @@
 //! Passes between two calls give back the rows that they keep.
 ghost use Rattle.std.specs.Prelude.{◌≡◌, ◌⊎◌, ◌↔◌, false, ◌+◌, ◌<◌, ◌≤◌, min, IfErr, IsErr, IsOk, IsTrue, vec_len};
 ghost use Rattle.ca_replace.specs.Attempting.{IsPaid, total};
-ghost use Rattle.ca_replace.specs.Causes.{GaveBack, HasGiven, HasLooked, IsRefill, KeepsFew, MayGoOn};
+ghost use Rattle.ca_replace.specs.Causes.{GaveBack, HasGiven, HasLooked, IsRefillBy, KeepsFew, MayGoOn};
 ghost use Rattle.ca_rows.specs.Passes.{sizes, known, view};
 ghost use Rattle.ca_node.specs.TreePasses.{tree_of};
 ghost use Rattle.ca_replace.specs.Resting.{IsAtRest, StaysAtRest};
@@ -64,8 +64,7 @@ pub(crate) fn refill(
     ensures counted { IsPaid spent.old spent.new (known pass.old) (known pass.new) }
     ensures again { IsOk result → MayGoOn kept budget spent.old spent.new (known pass.old) (known pass.new) pass.new.kept.rows }
     ensures looked { HasLooked (known pass.old) (known pass.new) }
-    ensures refused { IfErr result (λ why. IsRefill (sizes tree.now.space).passes pass.old.number budget kept spent.new why (known pass.old)
-        (known pass.new) pass.new.kept.rows) }
+    ensures refused { IfErr result (λ why. IsRefillBy tree.now.space budget kept spent.new why pass.old pass.new) }
     ensures few { IsErr result → KeepsFew (known pass.old) (known pass.new) pass.new.kept.rows }
 {
     let given = give_back_kept(tree, pass);

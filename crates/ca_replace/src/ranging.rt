@@ -14,7 +14,7 @@ ghost use Rattle.ca_replace.specs.Attempting.{IsPaid, HasDoneSuch, total};
 ghost use Rattle.ca_replace.specs.Bounded.{IsBounded, IsPaced, PinsNow, looked_in, pinned_in};
 ghost use Rattle.ca_replace.specs.Causes.{EndsAtLag, HasPinned, IfCaused, IsUnspent, KeepsFew};
 ghost use Rattle.ca_replace.specs.Loading.{LoadsInLook, LoadsInRead};
-ghost use Rattle.ca_replace.specs.Ranging.{GetsToWork, HasMissedBy, HasRanged, HasRangedTo, IsAtWork, IsRangeCaused, MayTryAgain, cause_of};
+ghost use Rattle.ca_replace.specs.Ranging.{GetsToWork, HasMissedBy, HasRanged, HasRangedTo, IsAtWork, IsRangeCausedBy, MayTryAgain, cause_of};
 ghost use Rattle.ca_replace.specs.Resting.{IsAtRest, StaysAtRest};
 ghost use Rattle.ca_replace.specs.declared.missing.Miss.TheVariants.{Again as IsAgain, NoRow as IsNoRow};
 ghost use Rattle.ca_rows.specs.declared.sizes.Sizes.{Sizes};
@@ -91,8 +91,7 @@ pub(crate) fn read_range<L: Look>(
     ensures acts { acts_of (tree_of pass.new) ≡ acts_of (tree_of pass.old) }
     ensures never_deep { IsNeverDeep result }
     ensures busy { IfBusy result (λ spent. order.now.budget ≤ spent) }
-    ensures caused { IfCaused result (λ why. IsRangeCaused (L.needs order.now.what.now) (sizes tree.now.space) pass.old.number order.now.budget why (known pass.old)
-        pass.old.kept.rows (known pass.new) pass.new.kept.rows) }
+    ensures caused { IfCaused result (λ why. IsRangeCausedBy (L.needs order.now.what.now) tree.now.space order.now.budget why pass.old pass.new) }
     ensures few { IfRefused result (λ _. KeepsFew (known pass.old) (known pass.new) pass.new.kept.rows) }
     ensures lags { EndsAtLag (known pass.old) (known pass.new) }
     ensures bounded { IsBounded (vec_len pass.old.kept.rows) (known pass.old) (known pass.new) }
@@ -124,8 +123,7 @@ pub(crate) fn read_or_refuse<L: Look>(
         (tree_of pass.new)) }
     ensures refused { IfErr result (λ why. IsRefused (one_more why) (tree_of pass.old) (tree_of pass.new)) }
     ensures acts { acts_of (tree_of pass.new) ≡ acts_of (tree_of pass.old) }
-    ensures caused { IfErr result (λ why. IsRangeCaused (L.needs order.now.what.now) (sizes tree.now.space) pass.old.number order.now.budget why (known pass.old)
-        pass.old.kept.rows (known pass.new) pass.new.kept.rows) }
+    ensures caused { IfErr result (λ why. IsRangeCausedBy (L.needs order.now.what.now) tree.now.space order.now.budget why pass.old pass.new) }
     ensures few { IfErr result (λ _. KeepsFew (known pass.old) (known pass.new) pass.new.kept.rows) }
     ensures lags { EndsAtLag (known pass.old) (known pass.new) }
     ensures bounded { IsBounded (vec_len pass.old.kept.rows) (known pass.old) (known pass.new) }
@@ -164,8 +162,7 @@ fn attempts<L: Look>(
     ensures works { IfOk result (λ _. GetsToWork tree.now.space pass.old pass.new) }
     ensures rests { IfErr result (λ _. StaysAtRest tree.now.space pass.old pass.new) }
     ensures come { HasRanged (λ answer. L.tells order.now.what.now (sizes tree.now.space) answer left.new) result (tree_of pass.old) (tree_of pass.new) }
-    ensures caused { IfErr result (λ why. IsRangeCaused (L.needs order.now.what.now) (sizes tree.now.space) pass.old.number order.now.budget why (known pass.old)
-        pass.old.kept.rows (known pass.new) pass.new.kept.rows) }
+    ensures caused { IfErr result (λ why. IsRangeCausedBy (L.needs order.now.what.now) tree.now.space order.now.budget why pass.old pass.new) }
     ensures few { IfErr result (λ _. KeepsFew (known pass.old) (known pass.new) pass.new.kept.rows) }
     ensures lags { EndsAtLag (known pass.old) (known pass.new) }
     ensures bounded { IsBounded (vec_len pass.old.kept.rows) (known pass.old) (known pass.new) }

@@ -13,7 +13,7 @@ ghost use Rattle.ca_replace.specs.Bounded.{IsBounded};
 ghost use Rattle.ca_replace.specs.Causes.{EndsAtLag, IfCaused, IsUnspent, KeepsFew, WasUnspent};
 ghost use Rattle.ca_replace.specs.Leaving.{HasLeft, IsLeftAlone};
 ghost use Rattle.ca_replace.specs.Loading.{LoadsInRead};
-ghost use Rattle.ca_replace.specs.Ranging.{GetsToWork, IsAtWork, IsRangeCaused};
+ghost use Rattle.ca_replace.specs.Ranging.{GetsToWork, IsAtWork, IsRangeCausedBy};
 ghost use Rattle.ca_replace.specs.Resting.{IsAtRest, StaysAtRest};
 ghost use Rattle.ca_replace.specs.Within.{FindsAbove, FindsBelow, HasOpened, NeedsAbove, NeedsBelow};
 ghost use Rattle.ca_rows.specs.Passes.{sizes, known, view};
@@ -46,8 +46,7 @@ pub(crate) fn above(
     ensures emptied { IfRefused result (λ _. into.new.items ≡ []) }
     ensures never_deep { IsNeverDeep result }
     ensures busy { IfBusy result (λ spent. budget ≤ spent) }
-    ensures caused { IfCaused result (λ why. IsRangeCaused (NeedsAbove (bound_of lo.entry)) (sizes tree.now.space) pass.old.number budget why (known pass.old)
-        pass.old.kept.rows (known pass.new) pass.new.kept.rows) }
+    ensures caused { IfCaused result (λ why. IsRangeCausedBy (NeedsAbove (bound_of lo.entry)) tree.now.space budget why pass.old pass.new) }
     ensures few { KeepsFew (known pass.old) (known pass.new) pass.new.kept.rows }
     ensures lags { EndsAtLag (known pass.old) (known pass.new) }
     ensures bounded { IsBounded (vec_len pass.old.kept.rows) (known pass.old) (known pass.new) }
@@ -80,8 +79,7 @@ pub(crate) fn below(
     ensures emptied { IfRefused result (λ _. into.new.items ≡ []) }
     ensures never_deep { IsNeverDeep result }
     ensures busy { IfBusy result (λ spent. budget ≤ spent) }
-    ensures caused { IfCaused result (λ why. IsRangeCaused (NeedsBelow (bound_of hi.entry)) (sizes tree.now.space) pass.old.number budget why (known pass.old)
-        pass.old.kept.rows (known pass.new) pass.new.kept.rows) }
+    ensures caused { IfCaused result (λ why. IsRangeCausedBy (NeedsBelow (bound_of hi.entry)) tree.now.space budget why pass.old pass.new) }
     ensures few { KeepsFew (known pass.old) (known pass.new) pass.new.kept.rows }
     ensures lags { EndsAtLag (known pass.old) (known pass.new) }
     ensures bounded { IsBounded (vec_len pass.old.kept.rows) (known pass.old) (known pass.new) }
@@ -115,8 +113,7 @@ pub(crate) fn range<F: Fn(&[u8]) -> bool>(
         (tree_of pass.old) (tree_of pass.new)) }
     ensures refused { IfErr result (λ why. IsRefused (one_more why) (tree_of pass.old) (tree_of pass.new)) }
     ensures acts { acts_of (tree_of pass.new) ≡ acts_of (tree_of pass.old) }
-    ensures caused { IfErr result (λ why. IsRangeCaused (IsNotEnough F.Fn what.now.sought) (sizes tree.now.space) pass.old.number budget why (known pass.old)
-        pass.old.kept.rows (known pass.new) pass.new.kept.rows) }
+    ensures caused { IfErr result (λ why. IsRangeCausedBy (IsNotEnough F.Fn what.now.sought) tree.now.space budget why pass.old pass.new) }
     ensures few { IfErr result (λ _. KeepsFew (known pass.old) (known pass.new) pass.new.kept.rows) }
     ensures lags { EndsAtLag (known pass.old) (known pass.new) }
     ensures bounded { IsBounded (vec_len pass.old.kept.rows) (known pass.old) (known pass.new) }

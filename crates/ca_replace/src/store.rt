@@ -3,7 +3,7 @@ ghost use Rattle.std.specs.Prelude.{◌≡◌, ◌+◌, ◌≤◌, None, length,
 ghost use Rattle.ca_adapt.specs.declared.adapted.Adapted.TheVariants.{Stay as IsStay};
 ghost use Rattle.ca_replace.specs.Bounded.{PinsOnce};
 ghost use Rattle.ca_replace.specs.Called.{StaysStore};
-ghost use Rattle.ca_replace.specs.Causes.{HasGiven, IsSparing};
+ghost use Rattle.ca_replace.specs.Causes.{HasGivenBack, IsSparing};
 ghost use Rattle.ca_replace.specs.Growing.{IsUntouched};
 ghost use Rattle.ca_replace.specs.Resting.{IsResting, knows};
 ghost use Rattle.ca_replace.specs.Seen.{store_of};
@@ -129,8 +129,7 @@ impl TreeStore<'_> {
         ensures last { self.new.store.last ≡ self.old.store.last }
         ensures upper { self.new.store.seat.me.0.upper ≡ self.old.store.seat.me.0.upper }
         ensures same { knows self.new ≡ knows self.old }
-        ensures given { HasGiven self.old.store.z.passes self.old.store.number result self.old.store.seat.me self.new.store.seat.me
-            self.new.store.kept }
+        ensures given { HasGivenBack result self.old.store self.new.store }
     {
         give_back_kept(self.tree, &mut self.pass)
     }

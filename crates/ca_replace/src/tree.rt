@@ -5,9 +5,10 @@ ghost use Rattle.ca_node.specs.TreeView.{blank};
 ghost use Rattle.ca_replace.specs.declared.fault.TreeFault.TheVariants.{BadSize as IsBadSize, BadTuning as IsBadTuning, NoPass as IsNoPass};
 ghost use Rattle.ca_adapt.specs.Tuned.{IsTuned};
 ghost use Rattle.ca_replace.specs.Made.{sizes_with};
-ghost use Rattle.ca_replace.specs.Resting.{IsResting};
+ghost use Rattle.ca_replace.specs.Resting.{IsAtRest};
 ghost use Rattle.ca_rows.specs.Kept.{AreKept};
 ghost use Rattle.ca_rows.specs.Opening.{AreInBounds};
+ghost use Rattle.ca_rows.specs.Passes.{BeginsOn};
 ghost use Rattle.ca_rows.specs.Rule.{fresh};
 
 use crate::fault::TreeFault;
@@ -107,10 +108,8 @@ impl Tree {
         ensures number { IfOk result (λ pass. pass.number ≡ self.new.space.made) }
         ensures tally { IfOk result (λ pass. pass.tally ≡ record { splits = 0; joins = 0 }) }
         ensures nothing_kept { IfOk result (λ pass. AreKept self.old.space.sizes.rows pass.seat.me.0.claims pass.kept.rows × (pass.kept.rows.items ≡ [])) }
-        ensures begins { IfOk result (λ pass. (pass.seat.table_id ≡ self.old.space.table.shared.table_id)
-            × (pass.seat.me ≡ (fresh self.old.space.sizes pass.number (blank pass.number), []))) }
-        ensures resting { IfOk result (λ pass. IsResting self.old.space.table.shared.table_id self.old.space.table.shared.key pass.number
-            pass.tally pass.kept.rows pass.seat) }
+        ensures begins { IfOk result (λ pass. BeginsOn self.old.space pass (fresh self.old.space.sizes pass.number (blank pass.number))) }
+        ensures resting { IfOk result (λ pass. IsAtRest self.old.space pass) }
     {
         match self.space.enroll(alloc) {
             Ok(pass) => Ok(pass),

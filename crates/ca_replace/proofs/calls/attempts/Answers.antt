@@ -21,7 +21,8 @@ use Rattle.ca_rows.specs.declared.view.Met.{Met}
 use Rattle.ca_replace.proofs.Growing.{alone_on, attempts_so_far, grown_refused, has_waited}
 use Rattle.ca_replace.specs.Cutting.{HasCutFull}
 use Rattle.ca_replace.proofs.Cutting.{cut_refused, cuts_so_far, none_full, stopped_cut}
-use Rattle.ca_replace.proofs.Winning.{stop_won, won_behind, won_refused}
+use Rattle.ca_replace.specs.Winning.{LosesNone}
+use Rattle.ca_replace.proofs.Winning.{loses_both, no_turns, stop_won, won_behind, won_refused}
 use Rattle.ca_rows.specs.declared.sizes.Sizes.{Sizes}
 use Rattle.ca_model.specs.declared.outcome.Cause.{Cause}
 use Rattle.ca_range.specs.Loading.{help_loads}
@@ -49,7 +50,7 @@ loop-come-init g c = record {
       omega (arith, none.0, none.1, none.2);
   waits = idle_waits c.args.course.now.adapting c.args.pass.now.seat.me.0.upper
       c.args.pass.now.seat.me.0.upper (refl, refl, refl);
-  won = λ _. refl;
+  won = λ _. no_turns c.args.pass.now.seat.me.0.upper;
   waited = λ _. inl (refl, refl);
   full = none_full c.args.tree.now.space.table.shared.key
       (g.A.Attempt.adds c.args.order.now.what.now) c.args.pass.now.seat.me.0.upper.cuts
@@ -125,12 +126,13 @@ loop-come-preserved g c = let i = c.loop-come.invariant in
           c.args.tree.now.space.table.shared.key c.args.tree.now.tuning
           c.loop-come.course.adapting c.turns-come.new.course.adapting c.turns-come.result
           empty_halt before.0.upper behind.0.upper empty c.turns-come.ensures.turns.gone_on));
-      won = λ alone. ap (λ (u : TreeView). u.lost) c.refill.ensures.gave.upper
-          ∙ (stop_won (λ (x : _). g.A.Attempt.edits c.args.order.now.what.now x)
+      won = λ alone. subst (LosesNone start.0.upper) (sym c.refill.ensures.gave.upper)
+          (loses_both start.0.upper before.0.upper behind.0.upper (i.won alone)
+          (stop_won (λ (x : _). g.A.Attempt.edits c.args.order.now.what.now x)
           c.turns-come.result empty_halt before.0.upper behind.0.upper empty
           (c.turns-come.ensures.turns.won (alone_on
           c.args.tree.now.space.table.shared.key start.0.upper before.0.upper i.further.number
-          alone)) ∙ i.won alone);
+          alone))));
       waited = λ alone.
           subst (HasWaited c.args.tree.now.space.table.shared.key
           (g.A.Attempt.adds c.args.order.now.what.now) start.0.upper) (sym c.refill.ensures.gave.upper)
@@ -172,6 +174,12 @@ loop-come-preserved g c = let i = c.loop-come.invariant in
           (c.in_default.ensures.again refl).begins c.refill.ensures.gave.upper (let found = emptied.0 in omega arith) emptied.1
           (let looked = c.refill.ensures.looked in omega arith);
     }
+
+pub returns-in-Err-clause-frame : goal.returns-in-Err-clause-frame
+returns-in-Err-clause-frame g c = record {
+  number = c.refill.ensures.frame.number ∙ (c.turns-come.ensures.frame.number ∙ c.loop-come.invariant.number);
+  resting = c.refill.ensures.frame.resting;
+}
 
 pub returns-in-Err-clause-bounded : goal.returns-in-Err-clause-bounded
 returns-in-Err-clause-bounded g c = bounded_by (vec_len c.loop-come.pass.kept.rows) (vec_len c.args.pass.now.kept.rows) c.args.pass.now.seat.me
@@ -338,14 +346,15 @@ returns-in-Err-clause-turns g c = record {
       c.turns-come.new.pass.seat.me.0.upper
       c.requires.resting.known i.resting.known i.further i.waited c.turns-come.ensures.tried
       c.turns-come.ensures.turns.grown alone));
-  won = λ alone. let i = c.loop-come.invariant in
-      ap (λ (u : TreeView). u.lost) c.refill.ensures.gave.upper
-      ∙ (stop_won
+  won = λ alone. let i = c.loop-come.invariant in let u = c.args.pass.now.seat.me.0.upper in
+      subst (LosesNone u) (sym c.refill.ensures.gave.upper)
+      (loses_both u c.loop-come.pass.seat.me.0.upper c.turns-come.new.pass.seat.me.0.upper (i.won alone)
+      (stop_won
       (λ (x : _). g.A.Attempt.edits c.args.order.now.what.now x) c.turns-come.result empty_halt
       c.loop-come.pass.seat.me.0.upper c.turns-come.new.pass.seat.me.0.upper
       (c.if-is_empty.ensures.0 refl) (c.turns-come.ensures.turns.won (alone_on
-      c.args.tree.now.space.table.shared.key c.args.pass.now.seat.me.0.upper
-      c.loop-come.pass.seat.me.0.upper i.further.number alone)) ∙ i.won alone);
+      c.args.tree.now.space.table.shared.key u
+      c.loop-come.pass.seat.me.0.upper i.further.number alone))));
   cut = let edits = λ (x : _). g.A.Attempt.edits c.args.order.now.what.now x in
       let z = c.args.tree.now.space.table.shared.key in
       let adds = g.A.Attempt.adds c.args.order.now.what.now in

@@ -7,6 +7,7 @@ use Rattle.ca_replace.specs.Attempting.{IsPaid, total}
 use Rattle.ca_replace.specs.Cutting.{HasCutFull}
 use Rattle.ca_replace.specs.Growing.{HasWaited}
 use Rattle.ca_replace.specs.Resting.{IsResting}
+use Rattle.ca_replace.specs.Winning.{LosesNone}
 use Rattle.ca_replace.proofs.Pacing.{IsBoundedYet}
 use Rattle.ca_replace.proofs.Loads.{HasLoadedYet}
 use Rattle.ca_replace.proofs.calls.attempts.Given as goal
@@ -22,7 +23,7 @@ invariant-loop-come g l = record {
   waits : Waits l.fn.course.adapting l.course.adapting l.fn.pass.seat.me.0.upper
       l.pass.seat.me.0.upper;
   won : IsAlone l.tree.space.table.shared.key l.fn.pass.seat.me.0.upper
-      → l.pass.seat.me.0.upper.lost ≡ l.fn.pass.seat.me.0.upper.lost;
+      → LosesNone l.fn.pass.seat.me.0.upper l.pass.seat.me.0.upper;
   waited : IsAlone l.tree.space.table.shared.key l.fn.pass.seat.me.0.upper
       → HasWaited l.tree.space.table.shared.key (g.A.Attempt.adds l.order.what.now)
       l.fn.pass.seat.me.0.upper l.pass.seat.me.0.upper;

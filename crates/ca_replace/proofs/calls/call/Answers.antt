@@ -13,11 +13,12 @@ use Rattle.ca_rows.specs.declared.sizes.Sizes.{Sizes}
 use Rattle.ca_rows.specs.declared.tally.Tally.{Tally}
 use Rattle.ca_replace.specs.Resting.{IsResting}
 use Rattle.ca_replace.proofs.Turns.{MySeat}
-use Rattle.ca_replace.proofs.Alone.{first_number, lone_cause}
+use Rattle.ca_replace.specs.Winning.{LosesNone}
+use Rattle.ca_replace.proofs.Alone.{first_number, lone_cause, lone_losses, never_busy}
 use Rattle.ca_replace.proofs.Growing.{refused_grows}
 use Rattle.ca_replace.proofs.OneHand.{seen_still}
 use Rattle.ca_replace.proofs.Cutting.{refused_cuts}
-use Rattle.ca_replace.proofs.Winning.{refused_wins}
+use Rattle.ca_replace.proofs.Winning.{refused_wins, won_lost}
 use Rattle.ca_replace.proofs.Loads.{loads_told}
 use Rattle.ca_replace.proofs.calls.call.Goals as goal
 
@@ -53,6 +54,12 @@ returns-in-Ok-clause-told g c = let space = c.args.tree.now.space.table.shared i
       wins = λ one. turns.won
           (alone space.table_id space.key pass.number pass.tally pass.kept pass.seat
           c.requires.resting one);
+      unlost = λ one. lone_losses pass.seat.me last.seat.me (c.requires.resting.unlost one)
+          (c.attempts.ensures.frame.resting.unlost one)
+          (won_lost (g.A.Attempt.edits c.args.order.now.what.now c.in-Ok.answer) pass.seat.me.0.upper last.seat.me.0.upper
+          (turns.won (alone space.table_id space.key pass.number pass.tally pass.kept pass.seat
+          c.requires.resting one)));
+      never_busy = λ one two. tt;
       cut = turns.cut;
     }
 
@@ -107,7 +114,15 @@ returns-in-Err-clause-told g c = let space = c.args.tree.now.space.table.shared 
           c.give_up.ensures.counted;
       wins = λ one. refused_wins edits c.in-Err.why c.outcome_by.result pass.seat.me.0.upper
           behind.seat.me.0.upper c.outcome_by.ensures
-          (ap (λ (m : MyTree). m.0.upper.lost) c.give_up.ensures.counted ∙ turns.won (here one));
+          (subst (λ (m : MyTree). LosesNone pass.seat.me.0.upper m.0.upper) (sym c.give_up.ensures.counted) (turns.won (here one)));
+      unlost = λ one. lone_losses pass.seat.me behind.seat.me (c.requires.resting.unlost one)
+          (c.give_up.ensures.frame.resting.unlost one)
+          (ap (λ (m : MyTree). m.0.upper.lost) c.give_up.ensures.counted ∙ (turns.won (here one)).0);
+      never_busy = λ one two. never_busy space.key pass.number c.args.order.now.budget adds c.in-Err.why c.outcome_by.result
+          pass.seat.me last.seat.me pass.kept.rows last.kept.rows c.outcome_by.ensures
+          (lone_losses pass.seat.me last.seat.me (c.requires.resting.unlost one) (c.attempts.ensures.frame.resting.unlost one)
+          (turns.won (here one)).0)
+          (turns.won (here one)).1 (turns.grown (here one)) c.in-Err.ensures.caused two;
       cut = refused_cuts edits space.key adds _ c.in-Err.why c.outcome_by.result
           pass.seat.me.0.upper last.seat.me behind.seat.me turns.cut c.outcome_by.ensures
           c.give_up.ensures.counted;

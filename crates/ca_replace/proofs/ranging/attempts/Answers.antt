@@ -28,7 +28,8 @@ loop-answer-init g c = let m = c.args.pass.now.seat.me in record {
   looks = omega arith;
   worn = refl;
   first = inl (refl, refl);
-  unspent = let none = c.requires.none in let some = c.requires.budget in omega (arith, none.0, none.1, none.2);
+  unspent = let none = c.requires.none in let some = c.requires.budget in omega
+      (arith, none.0, none.1, none.2);
   lags = refl;
   yet = none_yet _ _ m;
   read = none_read c.args.tree.now.space.table.shared.key m;
@@ -48,59 +49,79 @@ returns-in-Ok-clause-works g c = record {
 
 pub returns-in-Ok-clause-come : goal.returns-in-Ok-clause-come
 returns-in-Ok-clause-come g c = let z = c.args.tree.now.space.table.shared.key in
-    let on = ranged_on (λ (x : _). g.L.Look.tells c.args.order.now.what.now z x c.tries.new.left) z (Ok c.in-Ok.answer)
-    c.args.pass.now.seat.me.0.upper c.loop-answer.pass.seat.me.0.upper c.tries.new.pass.seat.me.0.upper
+    let on = ranged_on (λ (x : _). g.L.Look.tells c.args.order.now.what.now z x c.tries.new.left) z
+    (Ok c.in-Ok.answer)
+    c.args.pass.now.seat.me.0.upper c.loop-answer.pass.seat.me.0.upper
+    c.tries.new.pass.seat.me.0.upper
     c.loop-answer.invariant.further c.loop-answer.invariant.acts c.in-Ok.ensures.tried in
     (on.0, on.2)
 
 pub returns-in-Ok-clause-lags : goal.returns-in-Ok-clause-lags
 returns-in-Ok-clause-lags g c = (
-  (let before = c.loop-answer.invariant.lags in let same = c.tries.ensures.pinned.lags in omega arith),
+  (let before = c.loop-answer.invariant.lags in let same = c.tries.ensures.pinned.lags in omega
+      arith),
   c.tries.ensures.pinned.entered ∙ c.loop-answer.invariant.lags,
 )
 
 pub returns-in-Ok-clause-looks : goal.returns-in-Ok-clause-looks
-returns-in-Ok-clause-looks g c = let before = c.loop-answer.invariant.looks in let same = c.tries.ensures.pinned.looks in
+returns-in-Ok-clause-looks g c = let before = c.loop-answer.invariant.looks in let
+    same = c.tries.ensures.pinned.looks in
     omega arith
 
 pub returns-in-Ok-clause-all_seen : goal.returns-in-Ok-clause-all_seen
 returns-in-Ok-clause-all_seen g c = c.tries.ensures.pinned.lags ∙ c.loop-answer.invariant.lags
 
 pub returns-in-Ok-clause-bounded : goal.returns-in-Ok-clause-bounded
-returns-in-Ok-clause-bounded g c = bounded_by (vec_len c.loop-answer.pass.kept.rows) (vec_len c.args.pass.now.kept.rows) c.args.pass.now.seat.me
-    c.loop-answer.pass.seat.me c.tries.new.pass.seat.me c.tries.new.pass.seat.me c.loop-answer.invariant.yet c.tries.ensures.paced
+returns-in-Ok-clause-bounded g c = bounded_by (vec_len c.loop-answer.pass.kept.rows)
+    (vec_len c.args.pass.now.kept.rows) c.args.pass.now.seat.me
+    c.loop-answer.pass.seat.me c.tries.new.pass.seat.me c.tries.new.pass.seat.me
+    c.loop-answer.invariant.yet c.tries.ensures.paced
     c.tries.ensures.pinned.looks refl (omega arith) refl (omega arith)
 
 pub returns-in-Ok-clause-looked : goal.returns-in-Ok-clause-looked
-returns-in-Ok-clause-looked g c = looked_by (vec_len c.loop-answer.pass.kept.rows) (vec_len c.args.pass.now.kept.rows) c.args.pass.now.seat.me
-    c.loop-answer.pass.seat.me c.tries.new.pass.seat.me c.tries.new.pass.seat.me c.loop-answer.invariant.yet c.tries.ensures.paced
+returns-in-Ok-clause-looked g c = looked_by (vec_len c.loop-answer.pass.kept.rows)
+    (vec_len c.args.pass.now.kept.rows) c.args.pass.now.seat.me
+    c.loop-answer.pass.seat.me c.tries.new.pass.seat.me c.tries.new.pass.seat.me
+    c.loop-answer.invariant.yet c.tries.ensures.paced
     c.tries.ensures.pinned.looks refl (omega arith) refl (omega arith) refl
 
-pub returns-then-not-is_without_row-clause-bounded : goal.returns-then-not-is_without_row-clause-bounded
-returns-then-not-is_without_row-clause-bounded g c = bounded_by (vec_len c.loop-answer.pass.kept.rows) (vec_len c.args.pass.now.kept.rows)
-    c.args.pass.now.seat.me c.loop-answer.pass.seat.me c.tries.new.pass.seat.me c.keep_few.new.pass.seat.me c.loop-answer.invariant.yet
-    c.tries.ensures.paced c.tries.ensures.pinned.looks c.keep_few.ensures.gave.bounded.0 c.keep_few.ensures.gave.bounded.1
+pub returns-then-not-is_without_row-clause-bounded :
+    goal.returns-then-not-is_without_row-clause-bounded
+returns-then-not-is_without_row-clause-bounded g c = bounded_by
+    (vec_len c.loop-answer.pass.kept.rows) (vec_len c.args.pass.now.kept.rows)
+    c.args.pass.now.seat.me c.loop-answer.pass.seat.me c.tries.new.pass.seat.me
+    c.keep_few.new.pass.seat.me c.loop-answer.invariant.yet
+    c.tries.ensures.paced c.tries.ensures.pinned.looks c.keep_few.ensures.gave.bounded.0
+    c.keep_few.ensures.gave.bounded.1
     c.keep_few.ensures.gave.lags.1
-    (kept_more c.keep_few.result c.tries.new.pass.seat.me c.keep_few.new.pass.seat.me c.keep_few.ensures.gave c.keep_few.ensures.lost)
+    (kept_more c.keep_few.result c.tries.new.pass.seat.me c.keep_few.new.pass.seat.me
+    c.keep_few.ensures.gave c.keep_few.ensures.lost)
 
 pub returns-in-Err-refill-clause-bounded : goal.returns-in-Err-refill-clause-bounded
-returns-in-Err-refill-clause-bounded g c = bounded_by (vec_len c.loop-answer.pass.kept.rows) (vec_len c.args.pass.now.kept.rows)
-    c.args.pass.now.seat.me c.loop-answer.pass.seat.me c.tries.new.pass.seat.me c.refill.new.pass.seat.me c.loop-answer.invariant.yet
-    c.tries.ensures.paced c.tries.ensures.pinned.looks c.refill.ensures.gave.bounded.0 c.refill.ensures.gave.bounded.1
+returns-in-Err-refill-clause-bounded g c = bounded_by (vec_len c.loop-answer.pass.kept.rows)
+    (vec_len c.args.pass.now.kept.rows)
+    c.args.pass.now.seat.me c.loop-answer.pass.seat.me c.tries.new.pass.seat.me
+    c.refill.new.pass.seat.me c.loop-answer.invariant.yet
+    c.tries.ensures.paced c.tries.ensures.pinned.looks c.refill.ensures.gave.bounded.0
+    c.refill.ensures.gave.bounded.1
     c.refill.ensures.gave.lags.1
-    (paid_more c.tries.new.spent c.refill.new.spent c.tries.new.pass.seat.me c.refill.new.pass.seat.me c.refill.ensures.counted)
+    (paid_more c.tries.new.spent c.refill.new.spent c.tries.new.pass.seat.me
+    c.refill.new.pass.seat.me c.refill.ensures.counted)
 
 pub returns-then-not-is_without_row-clause-rests :
     goal.returns-then-not-is_without_row-clause-rests
 returns-then-not-is_without_row-clause-rests g c = record {
-  number = c.keep_few.ensures.frame.number ∙ (c.in-Err.ensures.rests.number ∙ c.loop-answer.invariant.number);
+  number = c.keep_few.ensures.frame.number
+      ∙ (c.in-Err.ensures.rests.number ∙ c.loop-answer.invariant.number);
   resting = c.keep_few.ensures.frame.resting;
 }
 
 pub returns-then-not-is_without_row-clause-come : goal.returns-then-not-is_without_row-clause-come
 returns-then-not-is_without_row-clause-come g c = let u = c.args.pass.now.seat.me.0.upper in
-    subst (λ (v : TreeView). IsFurther u v × (acts_of v ≡ acts_of u)) (sym c.keep_few.ensures.gave.upper) (
-      further_on u c.loop-answer.pass.seat.me.0.upper c.tries.new.pass.seat.me.0.upper c.loop-answer.invariant.further
+    subst (λ (v : TreeView). IsFurther u v × (acts_of v ≡ acts_of u))
+    (sym c.keep_few.ensures.gave.upper) (
+      further_on u c.loop-answer.pass.seat.me.0.upper c.tries.new.pass.seat.me.0.upper
+          c.loop-answer.invariant.further
           c.in-Err.ensures.tried.0,
       c.in-Err.ensures.tried.2 ∙ c.loop-answer.invariant.acts,
     )
@@ -113,24 +134,32 @@ returns-then-not-is_without_row-clause-caused g c = let i = c.loop-answer.invari
     let z = c.args.tree.now.space.table.shared.key in let spent = c.tries.new.spent in
     let why = c.in-Err.why in
     let more = c.add-spent.ensures.more in
-    subst (λ (x : Cause). IsRangeCaused (g.L.Look.needs c.args.order.now.what.now) z c.args.pass.now.number c.args.order.now.budget x start c.args.pass.now.kept.rows last
+    subst (λ (x : Cause). IsRangeCaused (g.L.Look.needs c.args.order.now.what.now) z
+    c.args.pass.now.number c.args.order.now.budget x start c.args.pass.now.kept.rows last
     c.keep_few.new.pass.kept.rows) (sym c.refusal.ensures)
-    (range_caused (g.L.Look.needs c.args.order.now.what.now) z c.args.pass.now.number c.args.order.now.budget spent (record spent { lost = c.add-spent.result }) start before
-    behind last c.args.pass.now.kept.rows c.keep_few.new.pass.kept.rows i.worn c.keep_few.ensures.gave (omega arith)
+    (range_caused (g.L.Look.needs c.args.order.now.what.now) z c.args.pass.now.number
+    c.args.order.now.budget spent (record spent { lost = c.add-spent.result }) start before
+    behind last c.args.pass.now.kept.rows c.keep_few.new.pass.kept.rows i.worn
+    c.keep_few.ensures.gave (omega arith)
     record {
       spent = c.args.spent.now;
       none = c.requires.none;
-      counted = paid_both c.args.spent.now spent (record spent { lost = c.add-spent.result }) start behind last
-          (paid_both c.args.spent.now c.loop-answer.spent spent start before behind i.counted c.tries.ensures.counted)
-          (paid_given spent c.keep_few.result c.add-spent.result behind last c.add-spent.ensures.sum c.keep_few.ensures.lost
+      counted = paid_both c.args.spent.now spent (record spent { lost = c.add-spent.result }) start
+          behind last
+          (paid_both c.args.spent.now c.loop-answer.spent spent start before behind i.counted
+          c.tries.ensures.counted)
+          (paid_given spent c.keep_few.result c.add-spent.result behind last c.add-spent.ensures.sum
+          c.keep_few.ensures.lost
           c.keep_few.ensures.gave.upper);
     } why (λ e. let wrong : false ≡ true = c.if-not-is_without_row.ensures.1 e in cc)
     (λ e. c.in-Err.ensures.spent_all (ap Err e)) c.in-Err.ensures.missed)
 
 pub returns-then-not-is_without_row-clause-few : goal.returns-then-not-is_without_row-clause-few
-returns-then-not-is_without_row-clause-few g c = few_from c.args.pass.now.seat.me c.tries.new.pass.seat.me
+returns-then-not-is_without_row-clause-few g c = few_from c.args.pass.now.seat.me
+    c.tries.new.pass.seat.me
     c.keep_few.new.pass.seat.me c.keep_few.new.pass.kept.rows
-    (let before = c.loop-answer.invariant.looks in let same = c.tries.ensures.pinned.looks in omega arith)
+    (let before = c.loop-answer.invariant.looks in let same = c.tries.ensures.pinned.looks in omega
+    arith)
     c.keep_few.ensures.few
 
 pub returns-then-not-is_without_row-clause-lags : goal.returns-then-not-is_without_row-clause-lags
@@ -142,14 +171,17 @@ returns-then-not-is_without_row-clause-lags g c = let i = c.loop-answer.invarian
 
 pub returns-in-Err-refill-clause-rests : goal.returns-in-Err-refill-clause-rests
 returns-in-Err-refill-clause-rests g c = record {
-  number = c.refill.ensures.frame.number ∙ (c.in-Err.ensures.rests.number ∙ c.loop-answer.invariant.number);
+  number = c.refill.ensures.frame.number
+      ∙ (c.in-Err.ensures.rests.number ∙ c.loop-answer.invariant.number);
   resting = c.refill.ensures.frame.resting;
 }
 
 pub returns-in-Err-refill-clause-come : goal.returns-in-Err-refill-clause-come
 returns-in-Err-refill-clause-come g c = let u = c.args.pass.now.seat.me.0.upper in
-    subst (λ (v : TreeView). IsFurther u v × (acts_of v ≡ acts_of u)) (sym c.refill.ensures.gave.upper) (
-      further_on u c.loop-answer.pass.seat.me.0.upper c.tries.new.pass.seat.me.0.upper c.loop-answer.invariant.further
+    subst (λ (v : TreeView). IsFurther u v × (acts_of v ≡ acts_of u))
+    (sym c.refill.ensures.gave.upper) (
+      further_on u c.loop-answer.pass.seat.me.0.upper c.tries.new.pass.seat.me.0.upper
+          c.loop-answer.invariant.further
           c.in-Err.ensures.tried.0,
       c.in-Err.ensures.tried.2 ∙ c.loop-answer.invariant.acts,
     )
@@ -159,29 +191,39 @@ returns-in-Err-refill-clause-caused g c = let i = c.loop-answer.invariant in
     let start = c.args.pass.now.seat.me in let before = c.loop-answer.pass.seat.me in
     let behind = c.tries.new.pass.seat.me in let last = c.refill.new.pass.seat.me in
     let z = c.args.tree.now.space.table.shared.key in
-    let met = subst (λ (x : Miss). HasMissed (g.L.Look.needs c.args.order.now.what.now) c.args.order.now.budget c.tries.new.spent x before behind)
+    let met = subst
+    (λ (x : Miss). HasMissed (g.L.Look.needs c.args.order.now.what.now) c.args.order.now.budget
+    c.tries.new.spent x before behind)
     (c.if-not-is_without_row.ensures.0 refl) c.in-Err.ensures.missed in
-    refill_range_caused (g.L.Look.needs c.args.order.now.what.now) z c.args.pass.now.number c.args.order.now.budget c.kept-kept.result c.in-Err-refill.cause
+    refill_range_caused (g.L.Look.needs c.args.order.now.what.now) z c.args.pass.now.number
+    c.args.order.now.budget c.kept-kept.result c.in-Err-refill.cause
     c.refill.new.spent start behind last c.args.pass.now.kept.rows c.refill.new.pass.kept.rows
     record {
       spent = c.args.spent.now;
       none = c.requires.none;
       counted = paid_both c.args.spent.now c.tries.new.spent c.refill.new.spent start behind last
-          (paid_both c.args.spent.now c.loop-answer.spent c.tries.new.spent start before behind i.counted
+          (paid_both c.args.spent.now c.loop-answer.spent c.tries.new.spent start before behind
+          i.counted
           c.tries.ensures.counted) c.refill.ensures.counted;
     }
-    (begun_with z.rows c.kept-kept.result start before behind last c.args.pass.now.kept.rows c.loop-answer.pass.kept.rows
+    (begun_with z.rows c.kept-kept.result start before behind last c.args.pass.now.kept.rows
+    c.loop-answer.pass.kept.rows
     c.kept-kept.ensures i.resting.are_kept i.first
-    (let two = c.tries.ensures.counted.more in let three = c.refill.ensures.counted.more in omega arith) met
+    (let two = c.tries.ensures.counted.more in let three = c.refill.ensures.counted.more in omega
+    arith) met
     c.refill.ensures.gave.met c.tries.ensures.pinned c.refill.ensures.gave.lags)
     (let more = i.looks in let same = c.tries.ensures.pinned.looks in omega arith)
-    (subst (λ (k : ℕ). IsRefill z.passes k c.args.order.now.budget c.kept-kept.result c.refill.new.spent c.in-Err-refill.cause
-    behind last c.refill.new.pass.kept.rows) (c.in-Err.ensures.rests.number ∙ i.number) c.in-Err-refill.ensures.refused)
+    (subst (λ (k : ℕ). IsRefill z.passes k c.args.order.now.budget c.kept-kept.result
+    c.refill.new.spent c.in-Err-refill.cause
+    behind last c.refill.new.pass.kept.rows) (c.in-Err.ensures.rests.number ∙ i.number)
+    c.in-Err-refill.ensures.refused)
 
 pub returns-in-Err-refill-clause-few : goal.returns-in-Err-refill-clause-few
-returns-in-Err-refill-clause-few g c = few_from c.args.pass.now.seat.me c.tries.new.pass.seat.me c.refill.new.pass.seat.me
+returns-in-Err-refill-clause-few g c = few_from c.args.pass.now.seat.me c.tries.new.pass.seat.me
+    c.refill.new.pass.seat.me
     c.refill.new.pass.kept.rows
-    (let before = c.loop-answer.invariant.looks in let same = c.tries.ensures.pinned.looks in omega arith)
+    (let before = c.loop-answer.invariant.looks in let same = c.tries.ensures.pinned.looks in omega
+    arith)
     (c.in-Err-refill.ensures.few refl)
 
 pub returns-in-Err-refill-clause-lags : goal.returns-in-Err-refill-clause-lags
@@ -192,49 +234,69 @@ returns-in-Err-refill-clause-lags g c = let i = c.loop-answer.invariant in
     )
 
 pub loop-answer-smaller : goal.loop-answer-smaller
-loop-answer-smaller g c = let again = c.in_default.ensures.again refl in let i = c.loop-answer.invariant in
+loop-answer-smaller g c = let again = c.in_default.ensures.again refl in let
+    i = c.loop-answer.invariant in
     let start = c.args.pass.now.seat.me in let before = c.loop-answer.pass.seat.me in
     let behind = c.tries.new.pass.seat.me in let last = c.refill.new.pass.seat.me in
     let turns = c.tries.ensures.counted in
-    let so_far = paid_both c.args.spent.now c.loop-answer.spent c.tries.new.spent start before behind i.counted turns in
-    nearer c.args.order.now.budget (total c.loop-answer.spent) (total c.tries.new.spent) (total c.refill.new.spent)
+    let so_far = paid_both c.args.spent.now c.loop-answer.spent c.tries.new.spent start before
+    behind i.counted turns in
+    nearer c.args.order.now.budget (total c.loop-answer.spent) (total c.tries.new.spent)
+    (total c.refill.new.spent)
     (vec_len c.loop-answer.pass.kept.rows) (vec_len c.refill.new.pass.kept.rows)
-    (spends_more c.args.spent.now c.loop-answer.spent c.tries.new.spent start before behind c.requires.none i.counted turns)
-    (spends_more c.args.spent.now c.tries.new.spent c.refill.new.spent start behind last c.requires.none so_far
+    (spends_more c.args.spent.now c.loop-answer.spent c.tries.new.spent start before behind
+    c.requires.none i.counted turns)
+    (spends_more c.args.spent.now c.tries.new.spent c.refill.new.spent start behind last
+    c.requires.none so_far
     c.refill.ensures.counted)
     (subst (λ n. 0 < n) c.kept-kept.ensures again.some, again.unspent, again.nearer)
 
 pub loop-answer-preserved : goal.loop-answer-preserved
-loop-answer-preserved g c = let i = c.loop-answer.invariant in let again = c.in_default.ensures.again refl in
+loop-answer-preserved g c = let i = c.loop-answer.invariant in let
+    again = c.in_default.ensures.again refl in
     let start = c.args.pass.now.seat.me in let before = c.loop-answer.pass.seat.me in
     let behind = c.tries.new.pass.seat.me in let last = c.refill.new.pass.seat.me in
-    let met = subst (λ (x : Miss). HasMissed (g.L.Look.needs c.args.order.now.what.now) c.args.order.now.budget c.tries.new.spent x before behind)
+    let met = subst
+    (λ (x : Miss). HasMissed (g.L.Look.needs c.args.order.now.what.now) c.args.order.now.budget
+    c.tries.new.spent x before behind)
     (c.if-not-is_without_row.ensures.0 refl) c.in-Err.ensures.missed in
     let given = c.refill.ensures.gave.met in
-    let emptied = empty_before (vec_len c.loop-answer.pass.kept.rows) c.kept-kept.result (vec_len c.refill.new.pass.kept.rows)
+    let emptied = empty_before (vec_len c.loop-answer.pass.kept.rows) c.kept-kept.result
+    (vec_len c.refill.new.pass.kept.rows)
     start before behind last c.args.pass.now.kept.rows c.kept-kept.ensures again.some
     (let one = i.counted.more in let two = c.tries.ensures.counted.more in omega arith)
-    again.begins i.first met given c.tries.ensures.pinned c.refill.ensures.gave.lags c.refill.ensures.looked in record {
+    again.begins i.first met given c.tries.ensures.pinned c.refill.ensures.gave.lags
+    c.refill.ensures.looked in record {
       number = c.refill.ensures.frame.number ∙ (c.in-Err.ensures.rests.number ∙ i.number);
       resting = c.refill.ensures.frame.resting;
       further = subst (IsFurther start.0.upper) (sym c.refill.ensures.gave.upper)
-          (further_on start.0.upper before.0.upper behind.0.upper i.further c.in-Err.ensures.tried.0);
+          (further_on start.0.upper before.0.upper behind.0.upper i.further
+          c.in-Err.ensures.tried.0);
       acts = ap acts_of c.refill.ensures.gave.upper ∙ (c.in-Err.ensures.tried.2 ∙ i.acts);
       counted = paid_both c.args.spent.now c.tries.new.spent c.refill.new.spent start behind last
-          (paid_both c.args.spent.now c.loop-answer.spent c.tries.new.spent start before behind i.counted
+          (paid_both c.args.spent.now c.loop-answer.spent c.tries.new.spent start before behind
+          i.counted
           c.tries.ensures.counted) c.refill.ensures.counted;
-      looks = let before = i.looks in let same = c.tries.ensures.pinned.looks in let more = c.refill.ensures.looked in omega arith;
+      looks = let before = i.looks in let same = c.tries.ensures.pinned.looks in let
+          more = c.refill.ensures.looked in omega arith;
       worn = omega (arith, i.worn, met.1, given.1);
       first = inr emptied;
-      yet = bounded_yet (vec_len c.loop-answer.pass.kept.rows) (vec_len c.args.pass.now.kept.rows) start before behind last i.yet
-          c.tries.ensures.paced c.tries.ensures.pinned.looks c.refill.ensures.gave.bounded.0 c.refill.ensures.gave.bounded.1
-          c.refill.ensures.gave.lags.1 (paid_more c.tries.new.spent c.refill.new.spent behind last c.refill.ensures.counted)
-          (vec_len c.refill.new.pass.kept.rows) (subst (λ n. 0 < n) c.kept-kept.ensures again.some) again.begins c.refill.ensures.gave.upper
-          (let found = emptied.0 in omega arith) emptied.1 (let looked = c.refill.ensures.looked in omega arith);
+      yet = bounded_yet (vec_len c.loop-answer.pass.kept.rows) (vec_len c.args.pass.now.kept.rows)
+          start before behind last i.yet
+          c.tries.ensures.paced c.tries.ensures.pinned.looks c.refill.ensures.gave.bounded.0
+          c.refill.ensures.gave.bounded.1
+          c.refill.ensures.gave.lags.1
+          (paid_more c.tries.new.spent c.refill.new.spent behind last c.refill.ensures.counted)
+          (vec_len c.refill.new.pass.kept.rows) (subst (λ n. 0 < n) c.kept-kept.ensures again.some)
+          again.begins c.refill.ensures.gave.upper
+          (let found = emptied.0 in omega arith) emptied.1
+          (let looked = c.refill.ensures.looked in omega arith);
       unspent = again.unspent;
       lags = again.unlagged ∙ (c.tries.ensures.pinned.lags ∙ i.lags);
       read = let z = c.args.tree.now.space.table.shared.key in
-          read_still z start behind last (ap (λ (v : TreeView). v.loads) c.refill.ensures.gave.upper) c.refill.ensures.gave.bounded.0
+          read_still z start behind last
+          (ap (λ (v : TreeView). v.loads) c.refill.ensures.gave.upper)
+          c.refill.ensures.gave.bounded.0
           (paid_more c.tries.new.spent c.refill.new.spent behind last c.refill.ensures.counted)
           (read_both z start before behind i.read record {
             pins = let more = c.tries.ensures.paced.pins in omega arith;
@@ -244,37 +306,50 @@ loop-answer-preserved g c = let i = c.loop-answer.invariant in let again = c.in_
     }
 
 pub returns-in-Ok-clause-unspent : goal.returns-in-Ok-clause-unspent
-returns-in-Ok-clause-unspent g c = let start = c.args.pass.now.seat.me in let behind = c.tries.new.pass.seat.me in
+returns-in-Ok-clause-unspent g c = let start = c.args.pass.now.seat.me in let
+    behind = c.tries.new.pass.seat.me in
     unspent c.args.order.now.budget c.tries.new.spent start behind record {
       spent = c.args.spent.now;
       none = c.requires.none;
-      counted = paid_both c.args.spent.now c.loop-answer.spent c.tries.new.spent start c.loop-answer.pass.seat.me behind c.loop-answer.invariant.counted
+      counted = paid_both c.args.spent.now c.loop-answer.spent c.tries.new.spent start
+          c.loop-answer.pass.seat.me behind c.loop-answer.invariant.counted
           c.tries.ensures.counted;
     } c.in-Ok.ensures.in_budget
 
 pub returns-in-Ok-clause-loads : goal.returns-in-Ok-clause-loads
 returns-in-Ok-clause-loads g c = (
-    read_both c.args.tree.now.space.table.shared.key c.args.pass.now.seat.me c.loop-answer.pass.seat.me c.tries.new.pass.seat.me c.loop-answer.invariant.read record {
+    read_both c.args.tree.now.space.table.shared.key c.args.pass.now.seat.me
+    c.loop-answer.pass.seat.me c.tries.new.pass.seat.me c.loop-answer.invariant.read record {
       pins = let more = c.tries.ensures.paced.pins in omega arith;
       turns = c.tries.ensures.paced.more;
       few = c.tries.ensures.loads;
     }).few
 
 pub returns-then-not-is_without_row-clause-loads : goal.returns-then-not-is_without_row-clause-loads
-returns-then-not-is_without_row-clause-loads g c = (read_still c.args.tree.now.space.table.shared.key c.args.pass.now.seat.me c.tries.new.pass.seat.me
-    c.keep_few.new.pass.seat.me (ap (λ (v : TreeView). v.loads) c.keep_few.ensures.gave.upper) c.keep_few.ensures.gave.bounded.0
-    (kept_more c.keep_few.result c.tries.new.pass.seat.me c.keep_few.new.pass.seat.me c.keep_few.ensures.gave c.keep_few.ensures.lost)
-    (read_both c.args.tree.now.space.table.shared.key c.args.pass.now.seat.me c.loop-answer.pass.seat.me c.tries.new.pass.seat.me c.loop-answer.invariant.read record {
+returns-then-not-is_without_row-clause-loads g
+    c = (read_still c.args.tree.now.space.table.shared.key c.args.pass.now.seat.me
+    c.tries.new.pass.seat.me
+    c.keep_few.new.pass.seat.me (ap (λ (v : TreeView). v.loads) c.keep_few.ensures.gave.upper)
+    c.keep_few.ensures.gave.bounded.0
+    (kept_more c.keep_few.result c.tries.new.pass.seat.me c.keep_few.new.pass.seat.me
+    c.keep_few.ensures.gave c.keep_few.ensures.lost)
+    (read_both c.args.tree.now.space.table.shared.key c.args.pass.now.seat.me
+    c.loop-answer.pass.seat.me c.tries.new.pass.seat.me c.loop-answer.invariant.read record {
       pins = let more = c.tries.ensures.paced.pins in omega arith;
       turns = c.tries.ensures.paced.more;
       few = c.tries.ensures.loads;
     })).few
 
 pub returns-in-Err-refill-clause-loads : goal.returns-in-Err-refill-clause-loads
-returns-in-Err-refill-clause-loads g c = (read_still c.args.tree.now.space.table.shared.key c.args.pass.now.seat.me c.tries.new.pass.seat.me
-    c.refill.new.pass.seat.me (ap (λ (v : TreeView). v.loads) c.refill.ensures.gave.upper) c.refill.ensures.gave.bounded.0
-    (paid_more c.tries.new.spent c.refill.new.spent c.tries.new.pass.seat.me c.refill.new.pass.seat.me c.refill.ensures.counted)
-    (read_both c.args.tree.now.space.table.shared.key c.args.pass.now.seat.me c.loop-answer.pass.seat.me c.tries.new.pass.seat.me c.loop-answer.invariant.read record {
+returns-in-Err-refill-clause-loads g
+    c = (read_still c.args.tree.now.space.table.shared.key c.args.pass.now.seat.me
+    c.tries.new.pass.seat.me
+    c.refill.new.pass.seat.me (ap (λ (v : TreeView). v.loads) c.refill.ensures.gave.upper)
+    c.refill.ensures.gave.bounded.0
+    (paid_more c.tries.new.spent c.refill.new.spent c.tries.new.pass.seat.me
+    c.refill.new.pass.seat.me c.refill.ensures.counted)
+    (read_both c.args.tree.now.space.table.shared.key c.args.pass.now.seat.me
+    c.loop-answer.pass.seat.me c.tries.new.pass.seat.me c.loop-answer.invariant.read record {
       pins = let more = c.tries.ensures.paced.pins in omega arith;
       turns = c.tries.ensures.paced.more;
       few = c.tries.ensures.loads;

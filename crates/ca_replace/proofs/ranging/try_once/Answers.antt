@@ -56,7 +56,8 @@ pub returns-in-Err-clause-rests : goal.returns-in-Err-clause-rests
 returns-in-Err-clause-rests g c = let told = c.in-Err.ensures.tried in record {
   number = c.unpin.ensures.frame.number ∙ (c.look.ensures.frame.number ∙ c.pin.ensures.frame.number);
   resting = work_left (work_after (work_first c.pin.ensures.pinned.0 c.pin.ensures.pinned.1 c.requires.resting c.pin.ensures.frame
-      c.pin.ensures.pinned.3) c.look.ensures.frame told.1 told.0.number) c.unpin.ensures.frame c.unpin.ensures.unpinned;
+      c.pin.ensures.pinned.3) c.look.ensures.frame told.1 told.0.number) c.unpin.ensures.frame c.unpin.ensures.unpinned
+      c.unpin.ensures.only;
 }
 
 pub returns-in-Err-clause-tried : goal.returns-in-Err-clause-tried

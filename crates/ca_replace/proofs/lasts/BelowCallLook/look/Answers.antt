@@ -30,117 +30,176 @@ use Rattle.ca_replace.proofs.Working.{work_after}
 use Rattle.ca_replace.proofs.lasts.BelowCallLook.look.Goals as goal
 
 pub enter_last-requires-clause-answer : goal.enter_last-requires-clause-answer
-enter_last-requires-clause-answer c = let z = c.args.tree.now.space.table.shared.key in let m = c.args.pass.now.seat.me in
-    let n = c.look_near-near.new.pass.seat.me in let hi = c.args.self.now.hi in let object = c.look_near-near.new.into.items in
+enter_last-requires-clause-answer c = let z = c.args.tree.now.space.table.shared.key in let
+    m = c.args.pass.now.seat.me in
+    let n = c.look_near-near.new.pass.seat.me in let hi = c.args.self.now.hi in let
+    object = c.look_near-near.new.into.items in
     let walk = c.look_near-near.ensures.walked in let cursor = c.look_near-near.result.0 in
-    walked_last z hi m n cursor true object walk (learnt_unanswered z m.0.upper n.0.upper c.requires.at_pin c.requires.work.known
+    walked_last z hi m n cursor true object walk
+    (learnt_unanswered z m.0.upper n.0.upper c.requires.at_pin c.requires.work.known
     (walked_learnt z (spot_at hi) m n cursor walk))
-    (subst (λ (b : Bool). last_object (up_to (bound_of hi) (map pair (first_note n.0.upper.notes).objects)) ≡ cond b (Some object) None)
+    (subst (λ (b : Bool). last_object
+    (up_to (bound_of hi) (map pair (first_note n.0.upper.notes).objects)) ≡ cond b (Some object)
+    None)
     c.if-near.true c.look_near-near.ensures.last) (λ e. cc)
 
 pub returns-then-near-clause-tried : goal.returns-then-near-clause-tried
-returns-then-near-clause-tried c = let z = c.args.tree.now.space.table.shared.key in let m = c.args.pass.now.seat.me in
-    let n = c.look_near-near.new.pass.seat.me in let hi = c.args.self.now.hi in let object = c.look_near-near.new.into.items in
+returns-then-near-clause-tried c = let z = c.args.tree.now.space.table.shared.key in let
+    m = c.args.pass.now.seat.me in
+    let n = c.look_near-near.new.pass.seat.me in let hi = c.args.self.now.hi in let
+    object = c.look_near-near.new.into.items in
     let event = below_event (bound_of hi) true object in
     let done = learnt_done z m.0.upper n c.enter_last.new.pass.seat.me event c.requires.at_pin
-    (walked_learnt z (spot_at hi) m n c.look_near-near.result.0 c.look_near-near.ensures.walked) c.enter_last.ensures.entered in
+    (walked_learnt z (spot_at hi) m n c.look_near-near.result.0 c.look_near-near.ensures.walked)
+    c.enter_last.ensures.entered in
     ((event, refl, done.0), done.1, done.2)
 
 pub enter_last-requires-in_default-clause-answer : goal.enter_last-requires-in_default-clause-answer
-enter_last-requires-in_default-clause-answer c = let z = c.args.tree.now.space.table.shared.key in let m = c.args.pass.now.seat.me in
-    let n = c.look_near-near.new.pass.seat.me in let hi = c.args.self.now.hi in let object = c.look_near-near.new.into.items in
+enter_last-requires-in_default-clause-answer c = let z = c.args.tree.now.space.table.shared.key in
+    let m = c.args.pass.now.seat.me in
+    let n = c.look_near-near.new.pass.seat.me in let hi = c.args.self.now.hi in let
+    object = c.look_near-near.new.into.items in
     let walk = c.look_near-near.ensures.walked in let cursor = c.look_near-near.result.0 in
-    walked_last z hi m n cursor false object walk (learnt_unanswered z m.0.upper n.0.upper c.requires.at_pin c.requires.work.known
+    walked_last z hi m n cursor false object walk
+    (learnt_unanswered z m.0.upper n.0.upper c.requires.at_pin c.requires.work.known
     (walked_learnt z (spot_at hi) m n cursor walk))
-    (subst (λ (b : Bool). last_object (up_to (bound_of hi) (map pair (first_note n.0.upper.notes).objects)) ≡ cond b (Some object) None)
+    (subst (λ (b : Bool). last_object
+    (up_to (bound_of hi) (map pair (first_note n.0.upper.notes).objects)) ≡ cond b (Some object)
+    None)
     c.if-near.false c.look_near-near.ensures.last) (λ _. c.in_default.is)
 
 pub returns-in_default-clause-tried : goal.returns-in_default-clause-tried
-returns-in_default-clause-tried c = let z = c.args.tree.now.space.table.shared.key in let m = c.args.pass.now.seat.me in
-    let n = c.look_near-near.new.pass.seat.me in let hi = c.args.self.now.hi in let object = c.look_near-near.new.into.items in
+returns-in_default-clause-tried c = let z = c.args.tree.now.space.table.shared.key in let
+    m = c.args.pass.now.seat.me in
+    let n = c.look_near-near.new.pass.seat.me in let hi = c.args.self.now.hi in let
+    object = c.look_near-near.new.into.items in
     let event = below_event (bound_of hi) false object in
-    let done = learnt_done z m.0.upper n c.enter_last-in_default.new.pass.seat.me event c.requires.at_pin
+    let done = learnt_done z m.0.upper n c.enter_last-in_default.new.pass.seat.me event
+    c.requires.at_pin
     (walked_learnt z (spot_at hi) m n c.look_near-near.result.0 c.look_near-near.ensures.walked)
     c.enter_last-in_default.ensures.entered in
     ((event, (refl, c.look_near-near.ensures.emptied c.if-near.false), done.0), done.1, done.2)
 
 pub look_left-requires-clause-from : goal.look_left-requires-clause-from
-look_left-requires-clause-from c = let z = c.args.tree.now.space.table.shared.key in let u = c.look_near-near.new.pass.seat.me.0.upper in
+look_left-requires-clause-from c = let z = c.args.tree.now.space.table.shared.key in let
+    u = c.look_near-near.new.pass.seat.me.0.upper in
     let walk = c.look_near-near.ensures.walked in
-    left_end z u c.in-Some.route walk.note (ap (λ (x : MyTree). x.0.upper.notes) walk.now ∙ ap (λ (ns : List Note). walk.note ∷ ns) c.requires.none_shown)
-    (subst (λ (r : Option ℕ). IsLowRoute z u.ways r walk.note.place.span.low) c.in-Some.is walk.cursor_is.low)
+    left_end z u c.in-Some.route walk.note
+    (ap (λ (x : MyTree). x.0.upper.notes) walk.now ∙ ap (λ (ns : List Note). walk.note ∷ ns)
+    c.requires.none_shown)
+    (subst (λ (r : Option ℕ). IsLowRoute z u.ways r walk.note.place.span.low) c.in-Some.is
+    walk.cursor_is.low)
 
 pub returns-in_default-look_left-clause-tried : goal.returns-in_default-look_left-clause-tried
-returns-in_default-look_left-clause-tried c = let z = c.args.tree.now.space.table.shared.key in let m = c.args.pass.now.seat.me in
-    let k = c.look_left.new.pass.seat.me in let a = c.args.spent.now in let b = c.look_left.new.spent in
-    let learnt = left_learnt z a b m k (left_behind z a b (spot_at c.args.self.now.hi) m c.look_near-near.new.pass.seat.me k c.look_near-near.result.0
+returns-in_default-look_left-clause-tried c = let z = c.args.tree.now.space.table.shared.key in let
+    m = c.args.pass.now.seat.me in
+    let k = c.look_left.new.pass.seat.me in let a = c.args.spent.now in let
+    b = c.look_left.new.spent in
+    let learnt = left_learnt z a b m k
+    (left_behind z a b (spot_at c.args.self.now.hi) m c.look_near-near.new.pass.seat.me k
+    c.look_near-near.result.0
     c.look_near-near.ensures.walked c.look_left.ensures.looked) c.requires.work.known in
     (learnt.further, learnt.known, learnt.acts)
 
 pub returns-then-not-found-clause-frame : goal.returns-then-not-found-clause-frame
-returns-then-not-found-clause-frame c = let z = c.args.tree.now.space.table.shared.key in let m = c.args.pass.now.seat.me in
-    let k = c.look_left.new.pass.seat.me in let a = c.args.spent.now in let b = c.look_left.new.spent in
-    let looked = left_behind z a b (spot_at c.args.self.now.hi) m c.look_near-near.new.pass.seat.me k c.look_near-near.result.0
+returns-then-not-found-clause-frame c = let z = c.args.tree.now.space.table.shared.key in let
+    m = c.args.pass.now.seat.me in
+    let k = c.look_left.new.pass.seat.me in let a = c.args.spent.now in let
+    b = c.look_left.new.spent in
+    let looked = left_behind z a b (spot_at c.args.self.now.hi) m c.look_near-near.new.pass.seat.me
+    k c.look_near-near.result.0
     c.look_near-near.ensures.walked c.look_left.ensures.looked in
-    stays_both (left_stays c.requires.work.ready (keeps_both c.look_near-near.ensures.frame c.look_left.ensures.frame) looked)
+    stays_both (left_stays c.requires.work.ready
+    (keeps_both c.look_near-near.ensures.frame c.look_left.ensures.frame) looked)
     (stays_then_read c.take_run.ensures.frame c.last_within-found.ensures.frame)
 
 pub returns-then-not-found-clause-tried : goal.returns-then-not-found-clause-tried
-returns-then-not-found-clause-tried c = let z = c.args.tree.now.space.table.shared.key in let m = c.args.pass.now.seat.me in
-    let k = c.look_left.new.pass.seat.me in let a = c.args.spent.now in let b = c.look_left.new.spent in let v = c.take_run.new.pass.seat.me in
-    let looked = left_behind z a b (spot_at c.args.self.now.hi) m c.look_near-near.new.pass.seat.me k c.look_near-near.result.0
+returns-then-not-found-clause-tried c = let z = c.args.tree.now.space.table.shared.key in let
+    m = c.args.pass.now.seat.me in
+    let k = c.look_left.new.pass.seat.me in let a = c.args.spent.now in let
+    b = c.look_left.new.spent in let v = c.take_run.new.pass.seat.me in
+    let looked = left_behind z a b (spot_at c.args.self.now.hi) m c.look_near-near.new.pass.seat.me
+    k c.look_near-near.result.0
     c.look_near-near.ensures.walked c.look_left.ensures.looked in
-    let learnt = learnt_both z m.0.upper k.0.upper v.0.upper (left_learnt z a b m k looked c.requires.work.known) c.take_run.ensures.learnt in
-    subst (λ (x : MyTree). IsFurther m.0.upper x.0.upper × IsKnown z x.0.upper × (acts_of x.0.upper ≡ acts_of m.0.upper))
+    let learnt = learnt_both z m.0.upper k.0.upper v.0.upper
+    (left_learnt z a b m k looked c.requires.work.known) c.take_run.ensures.learnt in
+    subst (λ (x : MyTree). IsFurther m.0.upper x.0.upper × IsKnown z x.0.upper
+    × (acts_of x.0.upper ≡ acts_of m.0.upper))
     (sym c.last_within-found.ensures.frame.still) (learnt.further, learnt.known, learnt.acts)
 
 pub returns-then-not-found-clause-counted : goal.returns-then-not-found-clause-counted
-returns-then-not-found-clause-counted c = let z = c.args.tree.now.space.table.shared.key in let m = c.args.pass.now.seat.me in
-    let k = c.look_left.new.pass.seat.me in let a = c.args.spent.now in let b = c.look_left.new.spent in let v = c.take_run.new.pass.seat.me in
-    let looked = left_behind z a b (spot_at c.args.self.now.hi) m c.look_near-near.new.pass.seat.me k c.look_near-near.result.0
+returns-then-not-found-clause-counted c = let z = c.args.tree.now.space.table.shared.key in let
+    m = c.args.pass.now.seat.me in
+    let k = c.look_left.new.pass.seat.me in let a = c.args.spent.now in let
+    b = c.look_left.new.spent in let v = c.take_run.new.pass.seat.me in
+    let looked = left_behind z a b (spot_at c.args.self.now.hi) m c.look_near-near.new.pass.seat.me
+    k c.look_near-near.result.0
     c.look_near-near.ensures.walked c.look_left.ensures.looked in
-    subst (λ (x : MyTree). IsPaid a c.take_run.new.spent m x) (sym c.last_within-found.ensures.frame.still)
+    subst (λ (x : MyTree). IsPaid a c.take_run.new.spent m x)
+    (sym c.last_within-found.ensures.frame.still)
     (paid_both a b c.take_run.new.spent m k v looked.paid c.take_run.ensures.counted)
 
 pub enter_last-requires-in-Ok-clause-inside : goal.enter_last-requires-in-Ok-clause-inside
-enter_last-requires-in-Ok-clause-inside c = last_inside c.args.tree.now.space.table.shared.key c.take_run.new.pass.seat.me.0.upper
+enter_last-requires-in-Ok-clause-inside c = last_inside c.args.tree.now.space.table.shared.key
+    c.take_run.new.pass.seat.me.0.upper
     c.in-Ok.run' c.in-Ok.ensures.run.remembered
 
 pub enter_last-requires-in-Ok-clause-answer : goal.enter_last-requires-in-Ok-clause-answer
-enter_last-requires-in-Ok-clause-answer c = let z = c.args.tree.now.space.table.shared.key in let m = c.args.pass.now.seat.me in
-    let k = c.look_left.new.pass.seat.me in let a = c.args.spent.now in let b = c.look_left.new.spent in let v = c.take_run.new.pass.seat.me in
-    let hi = c.args.self.now.hi in let found = c.last_within-found.result in let object = c.last_within-found.new.into.items in
-    let looked = left_behind z a b (spot_at hi) m c.look_near-near.new.pass.seat.me k c.look_near-near.result.0
+enter_last-requires-in-Ok-clause-answer c = let z = c.args.tree.now.space.table.shared.key in let
+    m = c.args.pass.now.seat.me in
+    let k = c.look_left.new.pass.seat.me in let a = c.args.spent.now in let
+    b = c.look_left.new.spent in let v = c.take_run.new.pass.seat.me in
+    let hi = c.args.self.now.hi in let found = c.last_within-found.result in let
+    object = c.last_within-found.new.into.items in
+    let looked = left_behind z a b (spot_at hi) m c.look_near-near.new.pass.seat.me k
+    c.look_near-near.result.0
     c.look_near-near.ensures.walked c.look_left.ensures.looked in
-    let learnt = learnt_both z m.0.upper k.0.upper v.0.upper (left_learnt z a b m k looked c.requires.work.known) c.take_run.ensures.learnt in
-    let first : found ≡ false → bound_of c.edge_at-lo.result ≡ Unbounded = elim c.else-bounded.branch [
-      | else-bounded-via-then-bounded+else-not-found w ↦ λ none. let some = w.if-not-found.false in cc
+    let learnt = learnt_both z m.0.upper k.0.upper v.0.upper
+    (left_learnt z a b m k looked c.requires.work.known) c.take_run.ensures.learnt in
+    let first : found ≡ false → bound_of c.edge_at-lo.result ≡ Unbounded = elim
+    c.else-bounded.branch [
+      | else-bounded-via-then-bounded+else-not-found w ↦ λ none. let some = w.if-not-found.false in
+          cc
       | else-bounded-via-else-bounded w ↦ λ none. c.edge_at-lo.ensures
           ∙ ap (λ (x : Bool). cond x (Included c.deref.result.now) Unbounded) w.if-bounded.false
     ] in
     subst (λ (x : MyTree). IsReadSince (below_event (bound_of hi) found object) x.0.upper)
     (sym c.last_within-found.ensures.frame.still)
     (last_read _ _ c.in-Ok.ensures.run found object first
-    (learnt_unanswered z m.0.upper v.0.upper c.requires.at_pin c.requires.work.known learnt) c.last_within-found.ensures.last)
+    (learnt_unanswered z m.0.upper v.0.upper c.requires.at_pin c.requires.work.known learnt)
+    c.last_within-found.ensures.last)
 
 pub returns-else-bounded-clause-frame : goal.returns-else-bounded-clause-frame
-returns-else-bounded-clause-frame c = let z = c.args.tree.now.space.table.shared.key in let m = c.args.pass.now.seat.me in
-    let k = c.look_left.new.pass.seat.me in let a = c.args.spent.now in let b = c.look_left.new.spent in
-    let looked = left_behind z a b (spot_at c.args.self.now.hi) m c.look_near-near.new.pass.seat.me k c.look_near-near.result.0
+returns-else-bounded-clause-frame c = let z = c.args.tree.now.space.table.shared.key in let
+    m = c.args.pass.now.seat.me in
+    let k = c.look_left.new.pass.seat.me in let a = c.args.spent.now in let
+    b = c.look_left.new.spent in
+    let looked = left_behind z a b (spot_at c.args.self.now.hi) m c.look_near-near.new.pass.seat.me
+    k c.look_near-near.result.0
     c.look_near-near.ensures.walked c.look_left.ensures.looked in
-    ready_entered _ (stays_both (left_stays c.requires.work.ready (keeps_both c.look_near-near.ensures.frame c.look_left.ensures.frame) looked)
-    (stays_then_read c.take_run.ensures.frame c.last_within-found.ensures.frame)) c.enter_last-in-Ok.ensures.frame c.enter_last-in-Ok.ensures.entered
+    ready_entered _
+    (stays_both (left_stays c.requires.work.ready
+    (keeps_both c.look_near-near.ensures.frame c.look_left.ensures.frame) looked)
+    (stays_then_read c.take_run.ensures.frame c.last_within-found.ensures.frame))
+    c.enter_last-in-Ok.ensures.frame c.enter_last-in-Ok.ensures.entered
 
 pub returns-else-bounded-clause-tried : goal.returns-else-bounded-clause-tried
-returns-else-bounded-clause-tried c = let z = c.args.tree.now.space.table.shared.key in let m = c.args.pass.now.seat.me in
-    let k = c.look_left.new.pass.seat.me in let a = c.args.spent.now in let b = c.look_left.new.spent in let v = c.take_run.new.pass.seat.me in
-    let hi = c.args.self.now.hi in let found = c.last_within-found.result in let object = c.last_within-found.new.into.items in
+returns-else-bounded-clause-tried c = let z = c.args.tree.now.space.table.shared.key in let
+    m = c.args.pass.now.seat.me in
+    let k = c.look_left.new.pass.seat.me in let a = c.args.spent.now in let
+    b = c.look_left.new.spent in let v = c.take_run.new.pass.seat.me in
+    let hi = c.args.self.now.hi in let found = c.last_within-found.result in let
+    object = c.last_within-found.new.into.items in
     let event = below_event (bound_of hi) found object in let u = m.0.upper in
-    let looked = left_behind z a b (spot_at hi) m c.look_near-near.new.pass.seat.me k c.look_near-near.result.0
+    let looked = left_behind z a b (spot_at hi) m c.look_near-near.new.pass.seat.me k
+    c.look_near-near.result.0
     c.look_near-near.ensures.walked c.look_left.ensures.looked in
-    let learnt = learnt_both z u k.0.upper v.0.upper (left_learnt z a b m k looked c.requires.work.known) c.take_run.ensures.learnt in
-    let behind = subst (λ (x : MyTree). HasLearnt z u x.0.upper) (sym c.last_within-found.ensures.frame.still) learnt in
-    let done = learnt_done z u c.last_within-found.new.pass.seat.me c.enter_last-in-Ok.new.pass.seat.me event c.requires.at_pin behind
+    let learnt = learnt_both z u k.0.upper v.0.upper
+    (left_learnt z a b m k looked c.requires.work.known) c.take_run.ensures.learnt in
+    let behind = subst (λ (x : MyTree). HasLearnt z u x.0.upper)
+    (sym c.last_within-found.ensures.frame.still) learnt in
+    let done = learnt_done z u c.last_within-found.new.pass.seat.me
+    c.enter_last-in-Ok.new.pass.seat.me event c.requires.at_pin behind
     c.enter_last-in-Ok.ensures.entered in (
       (event, finds_below (bound_of hi) found object c.last_within-found.ensures.emptied, done.0),
       done.1,
@@ -148,46 +207,68 @@ returns-else-bounded-clause-tried c = let z = c.args.tree.now.space.table.shared
     )
 
 pub returns-else-bounded-clause-counted : goal.returns-else-bounded-clause-counted
-returns-else-bounded-clause-counted c = let z = c.args.tree.now.space.table.shared.key in let m = c.args.pass.now.seat.me in
-    let k = c.look_left.new.pass.seat.me in let a = c.args.spent.now in let b = c.look_left.new.spent in let v = c.take_run.new.pass.seat.me in
+returns-else-bounded-clause-counted c = let z = c.args.tree.now.space.table.shared.key in let
+    m = c.args.pass.now.seat.me in
+    let k = c.look_left.new.pass.seat.me in let a = c.args.spent.now in let
+    b = c.look_left.new.spent in let v = c.take_run.new.pass.seat.me in
     let s = c.take_run.new.spent in let n = c.enter_last-in-Ok.new.pass.seat.me in
-    let looked = left_behind z a b (spot_at c.args.self.now.hi) m c.look_near-near.new.pass.seat.me k c.look_near-near.result.0
+    let looked = left_behind z a b (spot_at c.args.self.now.hi) m c.look_near-near.new.pass.seat.me
+    k c.look_near-near.result.0
     c.look_near-near.ensures.walked c.look_left.ensures.looked in
     let read = subst (λ (x : MyTree). IsPaid a s m x) (sym c.last_within-found.ensures.frame.still)
     (paid_both a b s m k v looked.paid c.take_run.ensures.counted) in
-    paid_both a s s m c.last_within-found.new.pass.seat.me n read (paid_entered s c.last_within-found.new.pass.seat.me n _ c.enter_last-in-Ok.ensures.entered)
+    paid_both a s s m c.last_within-found.new.pass.seat.me n read
+    (paid_entered s c.last_within-found.new.pass.seat.me n _ c.enter_last-in-Ok.ensures.entered)
 
 pub returns-in-Err-clause-frame : goal.returns-in-Err-clause-frame
-returns-in-Err-clause-frame c = let z = c.args.tree.now.space.table.shared.key in let m = c.args.pass.now.seat.me in
-    let k = c.look_left.new.pass.seat.me in let a = c.args.spent.now in let b = c.look_left.new.spent in
-    let looked = left_behind z a b (spot_at c.args.self.now.hi) m c.look_near-near.new.pass.seat.me k c.look_near-near.result.0
+returns-in-Err-clause-frame c = let z = c.args.tree.now.space.table.shared.key in let
+    m = c.args.pass.now.seat.me in
+    let k = c.look_left.new.pass.seat.me in let a = c.args.spent.now in let
+    b = c.look_left.new.spent in
+    let looked = left_behind z a b (spot_at c.args.self.now.hi) m c.look_near-near.new.pass.seat.me
+    k c.look_near-near.result.0
     c.look_near-near.ensures.walked c.look_left.ensures.looked in
-    stays_both (left_stays c.requires.work.ready (keeps_both c.look_near-near.ensures.frame c.look_left.ensures.frame) looked) c.take_run.ensures.frame
+    stays_both (left_stays c.requires.work.ready
+    (keeps_both c.look_near-near.ensures.frame c.look_left.ensures.frame) looked)
+    c.take_run.ensures.frame
 
 pub returns-in-Err-clause-tried : goal.returns-in-Err-clause-tried
-returns-in-Err-clause-tried c = let z = c.args.tree.now.space.table.shared.key in let m = c.args.pass.now.seat.me in
-    let k = c.look_left.new.pass.seat.me in let a = c.args.spent.now in let b = c.look_left.new.spent in
-    let looked = left_behind z a b (spot_at c.args.self.now.hi) m c.look_near-near.new.pass.seat.me k c.look_near-near.result.0
+returns-in-Err-clause-tried c = let z = c.args.tree.now.space.table.shared.key in let
+    m = c.args.pass.now.seat.me in
+    let k = c.look_left.new.pass.seat.me in let a = c.args.spent.now in let
+    b = c.look_left.new.spent in
+    let looked = left_behind z a b (spot_at c.args.self.now.hi) m c.look_near-near.new.pass.seat.me
+    k c.look_near-near.result.0
     c.look_near-near.ensures.walked c.look_left.ensures.looked in
-    let learnt = learnt_both z m.0.upper k.0.upper c.take_run.new.pass.seat.me.0.upper (left_learnt z a b m k looked c.requires.work.known)
+    let learnt = learnt_both z m.0.upper k.0.upper c.take_run.new.pass.seat.me.0.upper
+    (left_learnt z a b m k looked c.requires.work.known)
     c.take_run.ensures.learnt in
     (learnt.further, learnt.known, learnt.acts)
 
 pub returns-in-Err-clause-counted : goal.returns-in-Err-clause-counted
-returns-in-Err-clause-counted c = let z = c.args.tree.now.space.table.shared.key in let m = c.args.pass.now.seat.me in
-    let k = c.look_left.new.pass.seat.me in let a = c.args.spent.now in let b = c.look_left.new.spent in
-    let looked = left_behind z a b (spot_at c.args.self.now.hi) m c.look_near-near.new.pass.seat.me k c.look_near-near.result.0
+returns-in-Err-clause-counted c = let z = c.args.tree.now.space.table.shared.key in let
+    m = c.args.pass.now.seat.me in
+    let k = c.look_left.new.pass.seat.me in let a = c.args.spent.now in let
+    b = c.look_left.new.spent in
+    let looked = left_behind z a b (spot_at c.args.self.now.hi) m c.look_near-near.new.pass.seat.me
+    k c.look_near-near.result.0
     c.look_near-near.ensures.walked c.look_left.ensures.looked in
-    paid_both a b c.take_run.new.spent m k c.take_run.new.pass.seat.me looked.paid c.take_run.ensures.counted
+    paid_both a b c.take_run.new.spent m k c.take_run.new.pass.seat.me looked.paid
+    c.take_run.ensures.counted
 
 pub returns-then-not-found-clause-again : goal.returns-then-not-found-clause-again
-returns-then-not-found-clause-again c = let z = c.args.tree.now.space.table.shared.key in let k = c.look_left.new.pass.seat.me in
-    let hi = c.args.self.now.hi in let v = c.take_run.new.pass.seat.me in let run = c.in-Ok.run' in let low = c.look_left.new.low.items in
+returns-then-not-found-clause-again c = let z = c.args.tree.now.space.table.shared.key in let
+    k = c.look_left.new.pass.seat.me in
+    let hi = c.args.self.now.hi in let v = c.take_run.new.pass.seat.me in let run = c.in-Ok.run' in
+    let low = c.look_left.new.low.items in
     let still = sym c.last_within-found.ensures.frame.still in
     let begins : bound_of c.edge_at-lo.result ≡ Included low = c.edge_at-lo.ensures
-    ∙ (ap (λ (x : Bool). cond x (Included c.deref.result.now) Unbounded) c.if-bounded.true ∙ ap (λ (x : List ℕ). Included x) c.deref.ensures.0) in
-    let ends = subst (λ (r : Option Bool). IsEndOfLooks c.args.budget c.look_left.new.spent r low k.0.upper)
-    (c.in-Some-look_left.is ∙ ap (λ (x : Bool). Some x) c.if-bounded.true) c.look_left.ensures.ends in
+    ∙ (ap (λ (x : Bool). cond x (Included c.deref.result.now) Unbounded) c.if-bounded.true ∙ ap
+    (λ (x : List ℕ). Included x) c.deref.ensures.0) in
+    let ends = subst
+    (λ (r : Option Bool). IsEndOfLooks c.args.budget c.look_left.new.spent r low k.0.upper)
+    (c.in-Some-look_left.is ∙ ap (λ (x : Bool). Some x) c.if-bounded.true) c.look_left.ensures.ends
+    in
     inr record {
       near = c.look_near-near.new.pass.seat.me;
       cursor = c.look_near-near.result.0;
@@ -200,79 +281,130 @@ returns-then-not-found-clause-again c = let z = c.args.tree.now.space.table.shar
       begins = ends.0;
       some = ends.1;
       run = run;
-      bases = subst (λ (x : Bound × MyTree). HasAllUpTo x.0 (bound_of hi) z x.1.0.upper run) (λ i. (begins i, still i)) c.in-Ok.ensures.run;
-      none = subst (λ (x : MyTree). last_object (up_to (bound_of hi) (all_of run x.0.upper)) ≡ None) still
-          (c.last_within-found.ensures.last ∙ ap (λ (x : Bool). cond x (Some c.last_within-found.new.into.items) None) c.if-not-found.true);
+      bases = subst (λ (x : Bound × MyTree). HasAllUpTo x.0 (bound_of hi) z x.1.0.upper run)
+          (λ i. (begins i, still i)) c.in-Ok.ensures.run;
+      none = subst (λ (x : MyTree). last_object (up_to (bound_of hi) (all_of run x.0.upper)) ≡ None)
+          still
+          (c.last_within-found.ensures.last ∙ ap
+          (λ (x : Bool). cond x (Some c.last_within-found.new.into.items) None)
+          c.if-not-found.true);
     }
 
 pub returns-in-Err-clause-missed : goal.returns-in-Err-clause-missed
-returns-in-Err-clause-missed c = let z = c.args.tree.now.space.table.shared.key in let m = c.args.pass.now.seat.me in
-    let k = c.look_left.new.pass.seat.me in let a = c.args.spent.now in let b = c.look_left.new.spent in
-    let looked = left_behind z a b (spot_at c.args.self.now.hi) m c.look_near-near.new.pass.seat.me k c.look_near-near.result.0
+returns-in-Err-clause-missed c = let z = c.args.tree.now.space.table.shared.key in let
+    m = c.args.pass.now.seat.me in
+    let k = c.look_left.new.pass.seat.me in let a = c.args.spent.now in let
+    b = c.look_left.new.spent in
+    let looked = left_behind z a b (spot_at c.args.self.now.hi) m c.look_near-near.new.pass.seat.me
+    k c.look_near-near.result.0
     c.look_near-near.ensures.walked c.look_left.ensures.looked in
-    missed_behind {T = Unit {0}} (NeedsBelow (bound_of c.args.self.now.hi)) c.args.budget a c.take_run.new.spent (Err c.in-Err.why) b m k
-    c.take_run.new.pass.seat.me (raised_met m k k.0.upper looked.raised) looked.paid c.in-Err.ensures.missed
+    missed_behind {T = Unit {0}} (NeedsBelow (bound_of c.args.self.now.hi)) c.args.budget a
+    c.take_run.new.spent (Err c.in-Err.why) b m k
+    c.take_run.new.pass.seat.me (raised_met m k k.0.upper looked.raised) looked.paid
+    c.in-Err.ensures.missed
 
 pub returns-in-Err-clause-again : goal.returns-in-Err-clause-again
-returns-in-Err-clause-again c = let z = c.args.tree.now.space.table.shared.key in let m = c.args.pass.now.seat.me in
-    let k = c.look_left.new.pass.seat.me in let a = c.args.spent.now in let b = c.look_left.new.spent in
-    let looked = left_behind z a b (spot_at c.args.self.now.hi) m c.look_near-near.new.pass.seat.me k c.look_near-near.result.0
+returns-in-Err-clause-again c = let z = c.args.tree.now.space.table.shared.key in let
+    m = c.args.pass.now.seat.me in
+    let k = c.look_left.new.pass.seat.me in let a = c.args.spent.now in let
+    b = c.look_left.new.spent in
+    let looked = left_behind z a b (spot_at c.args.self.now.hi) m c.look_near-near.new.pass.seat.me
+    k c.look_near-near.result.0
     c.look_near-near.ensures.walked c.look_left.ensures.looked in
-    again_then (HasVanished c.args.self.now.hi z) a b c.in-Err.why m k c.take_run.new.pass.seat.me looked.paid c.in-Err.ensures.again
+    again_then (HasVanished c.args.self.now.hi z) a b c.in-Err.why m k c.take_run.new.pass.seat.me
+    looked.paid c.in-Err.ensures.again
 
 pub returns-then-near-clause-loads : goal.returns-then-near-clause-loads
-returns-then-near-clause-loads c = let walk = c.look_near-near.ensures.walked in let few = walk.few in
-    let now = ap (λ (x : MyTree). x.0.upper.loads) walk.now in let same = ap (λ (x : MyTree). x.0.upper.loads) c.enter_last.ensures.entered.now in omega arith
+returns-then-near-clause-loads c = let walk = c.look_near-near.ensures.walked in let few = walk.few
+    in
+    let now = ap (λ (x : MyTree). x.0.upper.loads) walk.now in let same = ap
+    (λ (x : MyTree). x.0.upper.loads) c.enter_last.ensures.entered.now in omega arith
 
 pub returns-in_default-clause-loads : goal.returns-in_default-clause-loads
-returns-in_default-clause-loads c = let walk = c.look_near-near.ensures.walked in let few = walk.few in
+returns-in_default-clause-loads c = let walk = c.look_near-near.ensures.walked in let few = walk.few
+    in
     let now = ap (λ (x : MyTree). x.0.upper.loads) walk.now in
-    let same = ap (λ (x : MyTree). x.0.upper.loads) c.enter_last-in_default.ensures.entered.now in omega arith
+    let same = ap (λ (x : MyTree). x.0.upper.loads) c.enter_last-in_default.ensures.entered.now in
+    omega arith
 
 pub returns-in_default-look_left-clause-loads : goal.returns-in_default-look_left-clause-loads
-returns-in_default-look_left-clause-loads c = let z = c.args.tree.now.space.table.shared.key in let m = c.args.pass.now.seat.me in
-    let k = c.look_left.new.pass.seat.me in let a = c.args.spent.now in let b = c.look_left.new.spent in let near = c.look_near-near.new.pass.seat.me in
-    let place = spot_at c.args.self.now.hi in let cursor = c.look_near-near.result.0 in let walk = c.look_near-near.ensures.walked in
-    let looks = looks_behind z place a b m near k cursor walk c.look_left.ensures.looked c.look_left.ensures.loads in
-    let paid = paid_more a b m k (left_behind z a b place m near k cursor walk c.look_left.ensures.looked).paid in
+returns-in_default-look_left-clause-loads c = let z = c.args.tree.now.space.table.shared.key in let
+    m = c.args.pass.now.seat.me in
+    let k = c.look_left.new.pass.seat.me in let a = c.args.spent.now in let
+    b = c.look_left.new.spent in let near = c.look_near-near.new.pass.seat.me in
+    let place = spot_at c.args.self.now.hi in let cursor = c.look_near-near.result.0 in let
+    walk = c.look_near-near.ensures.walked in
+    let looks = looks_behind z place a b m near k cursor walk c.look_left.ensures.looked
+    c.look_left.ensures.loads in
+    let paid = paid_more a b m k
+    (left_behind z a b place m near k cursor walk c.look_left.ensures.looked).paid in
     omega arith
 
 pub returns-then-not-found-clause-loads : goal.returns-then-not-found-clause-loads
-returns-then-not-found-clause-loads c = let z = c.args.tree.now.space.table.shared.key in let m = c.args.pass.now.seat.me in
-    let k = c.look_left.new.pass.seat.me in let a = c.args.spent.now in let b = c.look_left.new.spent in let near = c.look_near-near.new.pass.seat.me in
-    let place = spot_at c.args.self.now.hi in let cursor = c.look_near-near.result.0 in let walk = c.look_near-near.ensures.walked in
-    let looks = looks_behind z place a b m near k cursor walk c.look_left.ensures.looked c.look_left.ensures.loads in
-    let paid = paid_more a b m k (left_behind z a b place m near k cursor walk c.look_left.ensures.looked).paid in
+returns-then-not-found-clause-loads c = let z = c.args.tree.now.space.table.shared.key in let
+    m = c.args.pass.now.seat.me in
+    let k = c.look_left.new.pass.seat.me in let a = c.args.spent.now in let
+    b = c.look_left.new.spent in let near = c.look_near-near.new.pass.seat.me in
+    let place = spot_at c.args.self.now.hi in let cursor = c.look_near-near.result.0 in let
+    walk = c.look_near-near.ensures.walked in
+    let looks = looks_behind z place a b m near k cursor walk c.look_left.ensures.looked
+    c.look_left.ensures.loads in
+    let paid = paid_more a b m k
+    (left_behind z a b place m near k cursor walk c.look_left.ensures.looked).paid in
     let v = c.take_run.new.pass.seat.me in
-    let all = looks_snapped z m k v paid (paid_more b c.take_run.new.spent k v c.take_run.ensures.counted) looks c.take_run.ensures.loads in
+    let all = looks_snapped z m k v paid
+    (paid_more b c.take_run.new.spent k v c.take_run.ensures.counted) looks
+    c.take_run.ensures.loads in
     subst (λ (x : MyTree). LoadsInLook z m x) (sym c.last_within-found.ensures.frame.still) all
 
 pub returns-else-bounded-clause-loads : goal.returns-else-bounded-clause-loads
-returns-else-bounded-clause-loads c = let z = c.args.tree.now.space.table.shared.key in let m = c.args.pass.now.seat.me in
-    let k = c.look_left.new.pass.seat.me in let a = c.args.spent.now in let b = c.look_left.new.spent in let near = c.look_near-near.new.pass.seat.me in
-    let place = spot_at c.args.self.now.hi in let cursor = c.look_near-near.result.0 in let walk = c.look_near-near.ensures.walked in
-    let looks = looks_behind z place a b m near k cursor walk c.look_left.ensures.looked c.look_left.ensures.loads in
-    let paid = paid_more a b m k (left_behind z a b place m near k cursor walk c.look_left.ensures.looked).paid in
+returns-else-bounded-clause-loads c = let z = c.args.tree.now.space.table.shared.key in let
+    m = c.args.pass.now.seat.me in
+    let k = c.look_left.new.pass.seat.me in let a = c.args.spent.now in let
+    b = c.look_left.new.spent in let near = c.look_near-near.new.pass.seat.me in
+    let place = spot_at c.args.self.now.hi in let cursor = c.look_near-near.result.0 in let
+    walk = c.look_near-near.ensures.walked in
+    let looks = looks_behind z place a b m near k cursor walk c.look_left.ensures.looked
+    c.look_left.ensures.loads in
+    let paid = paid_more a b m k
+    (left_behind z a b place m near k cursor walk c.look_left.ensures.looked).paid in
     let v = c.take_run.new.pass.seat.me in
-    let all = looks_snapped z m k v paid (paid_more b c.take_run.new.spent k v c.take_run.ensures.counted) looks c.take_run.ensures.loads in
-    let read = c.last_within-found.new.pass.seat.me in let now = c.enter_last-in-Ok.ensures.entered.now in
-    look_still z m read c.enter_last-in-Ok.new.pass.seat.me (ap (λ (x : MyTree). x.0.upper.loads) now) (ap turns_at now)
+    let all = looks_snapped z m k v paid
+    (paid_more b c.take_run.new.spent k v c.take_run.ensures.counted) looks
+    c.take_run.ensures.loads in
+    let read = c.last_within-found.new.pass.seat.me in let
+    now = c.enter_last-in-Ok.ensures.entered.now in
+    look_still z m read c.enter_last-in-Ok.new.pass.seat.me
+    (ap (λ (x : MyTree). x.0.upper.loads) now) (ap turns_at now)
     (subst (λ (x : MyTree). LoadsInLook z m x) (sym c.last_within-found.ensures.frame.still) all)
 
 pub returns-in-Err-clause-loads : goal.returns-in-Err-clause-loads
-returns-in-Err-clause-loads c = let z = c.args.tree.now.space.table.shared.key in let m = c.args.pass.now.seat.me in
-    let k = c.look_left.new.pass.seat.me in let a = c.args.spent.now in let b = c.look_left.new.spent in let near = c.look_near-near.new.pass.seat.me in
-    let place = spot_at c.args.self.now.hi in let cursor = c.look_near-near.result.0 in let walk = c.look_near-near.ensures.walked in
-    let looks = looks_behind z place a b m near k cursor walk c.look_left.ensures.looked c.look_left.ensures.loads in
-    let paid = paid_more a b m k (left_behind z a b place m near k cursor walk c.look_left.ensures.looked).paid in
+returns-in-Err-clause-loads c = let z = c.args.tree.now.space.table.shared.key in let
+    m = c.args.pass.now.seat.me in
+    let k = c.look_left.new.pass.seat.me in let a = c.args.spent.now in let
+    b = c.look_left.new.spent in let near = c.look_near-near.new.pass.seat.me in
+    let place = spot_at c.args.self.now.hi in let cursor = c.look_near-near.result.0 in let
+    walk = c.look_near-near.ensures.walked in
+    let looks = looks_behind z place a b m near k cursor walk c.look_left.ensures.looked
+    c.look_left.ensures.loads in
+    let paid = paid_more a b m k
+    (left_behind z a b place m near k cursor walk c.look_left.ensures.looked).paid in
     let v = c.take_run.new.pass.seat.me in
-    let all = looks_snapped z m k v paid (paid_more b c.take_run.new.spent k v c.take_run.ensures.counted) looks c.take_run.ensures.loads in
+    let all = looks_snapped z m k v paid
+    (paid_more b c.take_run.new.spent k v c.take_run.ensures.counted) looks
+    c.take_run.ensures.loads in
     all
 
 pub take_run-requires-clause-work : goal.take_run-requires-clause-work
-take_run-requires-clause-work c = let z = c.args.tree.now.space.table.shared.key in let m = c.args.pass.now.seat.me in
-    let k = c.look_left.new.pass.seat.me in let a = c.args.spent.now in let b = c.look_left.new.spent in let work = c.requires.work in
-    let looked = left_behind z a b (spot_at c.args.self.now.hi) m c.look_near-near.new.pass.seat.me k c.look_near-near.result.0
+take_run-requires-clause-work c = let z = c.args.tree.now.space.table.shared.key in let
+    m = c.args.pass.now.seat.me in
+    let k = c.look_left.new.pass.seat.me in let a = c.args.spent.now in let
+    b = c.look_left.new.spent in let work = c.requires.work in
+    let looked = left_behind z a b (spot_at c.args.self.now.hi) m c.look_near-near.new.pass.seat.me
+    k c.look_near-near.result.0
     c.look_near-near.ensures.walked c.look_left.ensures.looked in
-    work_after work (left_stays work.ready (keeps_both c.look_near-near.ensures.frame c.look_left.ensures.frame) looked)
-    (left_learnt z a b m k looked work.known).known (ap (λ (u : TreeView). u.number) looked.steps.only)
+    work_after work
+    (left_stays work.ready (keeps_both c.look_near-near.ensures.frame c.look_left.ensures.frame)
+    looked)
+    (left_learnt z a b m k looked work.known).known
+    (ap (λ (u : TreeView). u.number) looked.steps.only)

@@ -8,7 +8,7 @@ use Rattle.ca_rows.specs.declared.sizes.Sizes.{Sizes}
 use Rattle.ca_replace.proofs.Entries.{held_upper}
 use Rattle.ca_replace.proofs.ReadLoads.{led_once}
 use Rattle.ca_replace.proofs.Showing.{led_further}
-use Rattle.ca_replace.proofs.Turns.{none_pinned, rests_as, rests_again}
+use Rattle.ca_replace.proofs.Turns.{is_lone, none_pinned, rests_as, rests_again}
 use Rattle.ca_replace.specs.Resting.{StoreAndRun, knows}
 use Rattle.ca_replace.specs.Seen.{store_of}
 use Rattle.ca_replace.proofs.OpenStores.{between_rests, closed_still, rests_of}
@@ -77,7 +77,9 @@ keep_few-requires c = let rests = rests_of (store_of c.self.inside.tree.now c.se
           ∙ (c.pin.ensures.frame.tally ∙ c.learn.ensures.frame.tally))
           (counts.0 ∙ ap (λ (m : MyTree). m.0.upper.splits) both) (counts.1
           ∙ ap (λ (m : MyTree). m.0.upper.joins) both))
-          (counts.2 ∙ (ap (λ (m : MyTree). m.0.upper.ranges.own) both ∙ ap left_over rests.quiet)));
+          (counts.2 ∙ (ap (λ (m : MyTree). m.0.upper.ranges.own) both ∙ ap left_over rests.quiet))
+          (λ one. c.unpin.ensures.only (is_lone z c.load_link.new.pass.seat.me
+          (ap (λ (m : MyTree). m.0.sizes) led.1 ∙ (ap (λ (m : MyTree). m.0.sizes) both ∙ rests.of.1)) tree.space.few.0 one)));
     }
 
 pub learn-requires-clause-own : goal.learn-requires-clause-own

@@ -13,7 +13,7 @@ use Rattle.ca_replace.proofs.Meeting.{meets}
 use Rattle.ca_node.specs.declared.cursor.Spot.TheVariants as spot
 use Rattle.ca_replace.proofs.Showing.{looking, read_tried, walked_unanswered}
 use Rattle.ca_replace.proofs.States.{none_since, pinned_first}
-use Rattle.ca_replace.proofs.Turns.{known_pinned, none_pinned, rests_as, rests_again, tried_known, tried_pinned}
+use Rattle.ca_replace.proofs.Turns.{is_lone, known_pinned, none_pinned, rests_as, rests_again, tried_known, tried_pinned}
 use Rattle.ca_replace.specs.Resting.{StoreAndRun, known_of, knows, run_left}
 use Rattle.ca_replace.specs.Seen.{store_of}
 use Rattle.ca_replace.proofs.OpenStores.{between_rests, closed_still, rests_of, knows_closed, of_both}
@@ -97,7 +97,10 @@ keep_few-requires c = let rests = rests_of (store_of c.self.inside.tree.now c.se
           ∙ (ap (λ (m : MyTree). m.0.upper.joins) walk
           ∙ ap (λ (m : MyTree). m.0.upper.joins) pin)))
           (ap (λ (m : MyTree). m.0.upper.ranges.own) look ∙ (ap (λ (m : MyTree). m.0.upper.ranges.own) walk
-          ∙ (ap (λ (m : MyTree). m.0.upper.ranges.own) pin ∙ ap left_over rests.quiet))));
+          ∙ (ap (λ (m : MyTree). m.0.upper.ranges.own) pin ∙ ap left_over rests.quiet)))
+          (λ one. c.unpin.ensures.only (is_lone z c.look_up-found.new.pass.seat.me
+          (ap (λ (m : MyTree). m.0.sizes) look ∙ (ap (λ (m : MyTree). m.0.sizes) walk
+          ∙ (ap (λ (m : MyTree). m.0.sizes) pin ∙ rests.of.1))) tree.space.few.0 one)));
     }
 
 pub returns-clause-got : goal.returns-clause-got
@@ -141,10 +144,6 @@ returns-clause-got c = let rests = rests_of (store_of c.self.inside.tree.now c.s
 pub pin-requires-clause-own : goal.pin-requires-clause-own
 pin-requires-clause-own c = (rests_of (store_of c.self.inside.tree.now c.self.inside.pass c.self.inside.last) c.self.inside.run c.self.invariant
     (subst (λ (s : StoreAndRun). (knows s).run ≡ None) (sym c.self.view_is) c.requires.closed)).of
-
-pub pin-requires-clause-number : goal.pin-requires-clause-number
-pin-requires-clause-number c = (rests_of (store_of c.self.inside.tree.now c.self.inside.pass c.self.inside.last) c.self.inside.run c.self.invariant
-    (subst (λ (s : StoreAndRun). (knows s).run ≡ None) (sym c.self.view_is) c.requires.closed)).numbered
 
 pub pin-requires-clause-unpinned : goal.pin-requires-clause-unpinned
 pin-requires-clause-unpinned c = (rests_of (store_of c.self.inside.tree.now c.self.inside.pass c.self.inside.last) c.self.inside.run c.self.invariant
