@@ -24,7 +24,7 @@ more : (t : Tree) (ts : List Tree) → row_code (row_of (t ∷ ts)) ≡ code_of 
 unfolding row_code
 more t ts = refl
 
-none : [] ≡ row_code (row_of [])
+pub none : [] ≡ row_code (row_of [])
 unfolding row_code
 none = refl
 
@@ -191,7 +191,7 @@ row_terms : (row : Row) (n : ℕ) → row_depth row ≤ n → n ≤ 192 → IsNa
 row_terms Ends n d m h = tt
 row_terms (More t row) n d m h = (record { shallow = omega arith; narrow = h.0 }, row_terms row n (omega arith) m h.1)
 
-both_terms : (ts us : List Tree) → AreTerms ts → AreTerms us → AreTerms (ts ++ us)
+pub both_terms : (ts us : List Tree) → AreTerms ts → AreTerms us → AreTerms (ts ++ us)
 both_terms [] us h k = k
 both_terms (t ∷ ts) us h k = (h.0, both_terms ts us h.1 k)
 

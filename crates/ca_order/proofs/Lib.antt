@@ -1,5 +1,6 @@
 pub mod Around
 pub mod ByteOrder
+pub mod CodeLists
 pub mod CodeParts
 pub mod Counted
 pub mod Cuts

@@ -115,7 +115,7 @@ heads_term (suc l) bytes heads rest last whole behind k m p w e =
 
 -- ---- rows
 
-row_push : (ts : List Tree) (t : Tree) → row_code (row_of (ts ++ t ∷ [])) ≡ row_code (row_of ts) ++ code_of t
+pub row_push : (ts : List Tree) (t : Tree) → row_code (row_of (ts ++ t ∷ [])) ≡ row_code (row_of ts) ++ code_of t
 unfolding row_code
 row_push [] t = append-nil (code_of t)
 row_push (u ∷ ts) t = ap (λ x. code_of u ++ x) (row_push ts t) ∙ sym (append_assoc (code_of u) (row_code (row_of ts)) (code_of t))

@@ -196,7 +196,7 @@ no_row end = refl
 pub code_begun : (t : Tree) → 1 ≤ length (code_of t)
 code_begun t = let b = begun t in omega (arith, ap length b.2)
 
-row_longer : (ts : List Tree) → length ts ≤ length (row_code (row_of ts))
+pub row_longer : (ts : List Tree) → length ts ≤ length (row_code (row_of ts))
 unfolding row_code
 row_longer [] = omega arith
 row_longer (t ∷ ts) = omega (arith, code_begun t, row_longer ts, length-append (code_of t) (row_code (row_of ts)))

@@ -1,3 +1,4 @@
+pub mod CodeListView
 pub mod Codes
 pub mod CodesView
 pub mod Escapes

@@ -208,6 +208,17 @@ impl<'a> Codes<'a> {
         (Part { bytes: front }, Codes { bytes: behind })
     }
 
+    /// The first code, and the ones behind it, where there is one.
+    #[inline(always)]
+    pub fn first(self) -> Option<(Part<'a>, Codes<'a>)>
+        ensures { MatchOption result (terms_of self.entry ≡ []) (λ p. terms_of self.entry ≡ tree_of p.0 ∷ terms_of p.1) }
+    {
+        if self.bytes.is_empty() {
+            return None;
+        }
+        Some(self.split())
+    }
+
     /// Where the first term is a tuple, how many elements it has, and the codes with its elements in its place.
     #[inline(always)]
     pub fn open_tuple(self) -> Option<(usize, Codes<'a>)>

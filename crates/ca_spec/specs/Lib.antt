@@ -5,6 +5,7 @@ pub mod ExpressionFalls
 pub mod ExpressionView
 pub mod Faults
 pub mod FittedView
+pub mod FoundView
 pub mod Held
 pub mod PartBound
 pub mod Parts

@@ -10,6 +10,7 @@ mod expressions;
 mod fault;
 mod fitted;
 mod fitting;
+mod found;
 mod heads;
 mod held;
 mod matching;
@@ -22,6 +23,7 @@ mod spec;
 
 pub use compiler::compile;
 pub use fault::{SpecFault, SpecWhy};
+pub use found::Found;
 pub use on_codes::{apply_code, chooses};
 pub use results::apply;
 pub use spec::Spec;

@@ -1,11 +1,12 @@
 //! What a specification makes of an object, by the object's code.
-ghost use Rattle.std.specs.Prelude.{◌≡◌, ◌≤◌, ◌∷◌, IfOk, OnErr, is_some, length};
+ghost use Rattle.std.specs.Prelude.{◌≡◌, ◌≤◌, ◌∷◌, IfOk, OnErr, is_some, length, option_map};
 ghost use Rattle.ca_term.specs.Code.{code_of};
 ghost use Rattle.ca_term.specs.Tree.{Cons, IsTerm, Nil, Tree, list_of};
 ghost use Rattle.ca_match.specs.Match.{clause_result, guarded, no_bindings, pass, result_of};
 ghost use Rattle.ca_order.specs.CodesView.{tree_of};
 ghost use Rattle.ca_order.specs.Languages.{IsTermCode};
 ghost use Rattle.ca_spec.specs.ClauseView.{tree_of_clause, trees_of_clauses};
+ghost use Rattle.ca_spec.specs.FoundView.{tree_of_found};
 ghost use Rattle.ca_spec.specs.PartBound.{parts_of, scene_in};
 ghost use Rattle.ca_spec.specs.Places.{places};
 ghost use Rattle.ca_spec.specs.QuickView.{IsKnown, IsTold};
@@ -16,6 +17,7 @@ use crate::evaluation::{pass, value};
 use crate::expression::Expression;
 use crate::fitted::Fitted;
 use crate::fitting::fit_object;
+use crate::found::Found;
 use crate::quick::{self, Quick, passed, quick_result, result_where};
 use crate::results::{FEW, result_of_clause};
 use crate::spec::Spec;
@@ -24,12 +26,18 @@ use ca_term::{Term, try_copy};
 use std::alloc::{AllocError, Global};
 
 /// What `apply` makes of the object whose code this is. Nothing is decoded for comparisons of parts and constants, tests of their kinds, and `andalso`,
-/// `orelse` and `not` of these; else, where the head fits, the parts that a guard or the body asks for. The whole object is decoded for `'$_'` alone, or
-/// where a constant of a head is longer than a code may be. Memory is taken only where a head may fit, for what is decoded and as by `apply`.
-pub fn apply_code(alloc: Global, spec: &Spec, code: &[u8]) -> Result<Option<Term>, AllocError>
+/// `orelse` and `not` of these, nor for a result that is a part of the object, the whole object or a constant; else, where the head fits, the parts that a
+/// guard or the body asks for. The whole object is decoded for `'$_'` within an expression alone, or where a constant of a head is longer than a code may be.
+/// Memory is taken only where a head may fit, for what is decoded and as by `apply`.
+pub fn apply_code<'a>(
+    alloc: Global,
+    spec: &'a Spec,
+    code: &'a [u8],
+) -> Result<Option<Found<'a>>, AllocError>
     requires { IsTermCode code.now }
-    ensures found { IfOk result (λ found. (object : Tree) → IsTerm object → code.now ≡ code_of object → found ≡ result_of spec.now object) }
-    ensures lack { OnErr result ((object : Tree) → IsTerm object → code.now ≡ code_of object → SomeMayFit spec.now object) }
+    ensures found { IfOk result (λ found. (object : Tree) → IsTerm object → code.entry.now ≡ code_of object
+        → option_map tree_of_found found ≡ result_of spec.entry.now object) }
+    ensures lack { OnErr result ((object : Tree) → IsTerm object → code.entry.now ≡ code_of object → SomeMayFit spec.entry.now object) }
 {
     result_of_clauses(alloc, spec.clauses.as_slice(), Part::of(code))
 }
@@ -84,8 +92,8 @@ fn result_of_clauses<'a>(
     alloc: Global,
     clauses: &'a [Clause],
     object: Part<'a>,
-) -> Result<Option<Term>, AllocError>
-    ensures found { IfOk result (λ found. found ≡ result_of (list_of (trees_of_clauses clauses.entry.now) Nil) (tree_of object.entry)) }
+) -> Result<Option<Found<'a>>, AllocError>
+    ensures found { IfOk result (λ found. option_map tree_of_found found ≡ result_of (list_of (trees_of_clauses clauses.entry.now) Nil) (tree_of object.entry)) }
     ensures lack { OnErr result (SomeMayFit (list_of (trees_of_clauses clauses.entry.now) Nil) (tree_of object.entry)) }
 {
     let mut left = clauses;
@@ -112,10 +120,10 @@ fn result_from<'a>(
     object: Part<'a>,
     known: Option<bool>,
     table: &[Option<Part<'a>>],
-) -> Result<Option<Term>, AllocError>
+) -> Result<Option<Found<'a>>, AllocError>
     requires { IsKnown known clause.now object table.now }
     ensures found { IfOk result (λ found.
-        found ≡ result_of (list_of (trees_of_clauses (clause.entry.now ∷ others.entry.now)) Nil) (tree_of object.entry)) }
+        option_map tree_of_found found ≡ result_of (list_of (trees_of_clauses (clause.entry.now ∷ others.entry.now)) Nil) (tree_of object.entry)) }
     ensures lack { OnErr result (SomeMayFit (list_of (trees_of_clauses (clause.entry.now ∷ others.entry.now)) Nil) (tree_of object.entry)) }
 {
     let told = result_where(known, clause, object, table);
@@ -128,13 +136,13 @@ fn result_from<'a>(
 // The result of the first clause that holds, where more of them may be known than codes tell.
 #[inline(never)]
 #[tactic(auto, using(crate::proofs::ClauseResults::first_results))]
-fn first_result(
+fn first_result<'a>(
     alloc: Global,
-    clauses: &[Clause],
-    object: Part<'_>,
-) -> Result<Option<Term>, AllocError>
-    ensures found { IfOk result (λ found. found ≡ result_of (list_of (trees_of_clauses clauses.now) Nil) (tree_of object.entry)) }
-    ensures lack { OnErr result (SomeMayFit (list_of (trees_of_clauses clauses.now) Nil) (tree_of object.entry)) }
+    clauses: &'a [Clause],
+    object: Part<'a>,
+) -> Result<Option<Found<'a>>, AllocError>
+    ensures found { IfOk result (λ found. option_map tree_of_found found ≡ result_of (list_of (trees_of_clauses clauses.entry.now) Nil) (tree_of object.entry)) }
+    ensures lack { OnErr result (SomeMayFit (list_of (trees_of_clauses clauses.entry.now) Nil) (tree_of object.entry)) }
 {
     for clause in clauses {
         if let Some(found) = result_of_part(alloc, clause, object)? {
@@ -149,8 +157,8 @@ fn result_of_part<'a>(
     alloc: Global,
     clause: &'a Clause,
     object: Part<'a>,
-) -> Result<Option<Term>, AllocError>
-    ensures found { IfOk result (λ found. found ≡ clause_result (tree_of_clause clause.entry.now) (tree_of object.entry)) }
+) -> Result<Option<Found<'a>>, AllocError>
+    ensures found { IfOk result (λ found. option_map tree_of_found found ≡ clause_result (tree_of_clause clause.entry.now) (tree_of object.entry)) }
     ensures lack { OnErr result (MayFit clause.entry.now.head (tree_of object.entry)) }
 {
     result_told(alloc, clause, object, told(clause, object))
@@ -163,20 +171,23 @@ fn result_told<'a>(
     clause: &'a Clause,
     object: Part<'a>,
     told: Quick<'a>,
-) -> Result<Option<Term>, AllocError>
+) -> Result<Option<Found<'a>>, AllocError>
     requires told { IsTold told (clause_result (tree_of_clause clause.now) (tree_of object)) }
     requires reached { IsReached told clause.now.head (tree_of object) }
-    ensures found { IfOk result (λ found. found ≡ clause_result (tree_of_clause clause.entry.now) (tree_of object.entry)) }
+    ensures found { IfOk result (λ found. option_map tree_of_found found ≡ clause_result (tree_of_clause clause.entry.now) (tree_of object.entry)) }
     ensures lack { OnErr result (MayFit clause.entry.now.head (tree_of object.entry)) }
 {
     match told {
         Quick::None => Ok(None),
-        Quick::Part(part) => Ok(Some(part.term(alloc)?)),
+        Quick::Part(part) => Ok(Some(Found::Coded(part))),
         Quick::Term(term) => match try_copy(alloc, term) {
-            Ok(copy) => Ok(Some(copy)),
+            Ok(copy) => Ok(Some(Found::Made(copy))),
             Err(_) => Err(AllocError),
         },
-        Quick::Unknown => valued_result(alloc, clause, object),
+        Quick::Unknown => match valued_result(alloc, clause, object)? {
+            Some(value) => Ok(Some(Found::Made(value))),
+            None => Ok(None),
+        },
     }
 }
 

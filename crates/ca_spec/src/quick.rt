@@ -258,12 +258,12 @@ pub(crate) fn quick_result<'a>(
 fn told_value<'a>(body: &'a Expression, object: Part<'a>, table: &[Option<Part<'a>>]) -> Quick<'a>
     ensures { IsTold result (value (scene_in object.entry table.now) body.now) }
 {
-    match &body.form {
-        Form::Literal(constant) => Quick::Term(constant.term()),
-        Form::Constant(constant) => Quick::Term(constant.term()),
-        _ => match operand(body, object, table) {
-            Some(part) => Quick::Part(part),
-            None => Quick::Unknown,
+    match operand(body, object, table) {
+        Some(part) => Quick::Part(part),
+        None => match &body.form {
+            Form::Literal(constant) => Quick::Term(constant.term()),
+            Form::Constant(constant) => Quick::Term(constant.term()),
+            _ => Quick::Unknown,
         },
     }
 }
