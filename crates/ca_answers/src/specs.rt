@@ -5,7 +5,7 @@ use crate::say::{say, say_term, say_value};
 use ca_match::match_result;
 use ca_order::{Code, encode};
 use ca_plan::{Plan, plan};
-use ca_spec::{Spec, apply, apply_code, chooses, compile};
+use ca_spec::{Found, Spec, apply, apply_code, chooses, compile};
 use ca_term::{Term, term_order};
 use std::alloc::{AllocError, Global};
 
@@ -43,7 +43,7 @@ fn say_both(alloc: Global, spec: &Spec, object: &Term, into: &mut Vec<u8>) {
     let Ok(()) = encode(object, &mut code) else {
         return say_result(found, into);
     };
-    let by_code = apply_code(alloc, spec, code.as_slice());
+    let by_code = made(alloc, apply_code(alloc, spec, code.as_slice()));
     let chosen = chooses(alloc, spec, code.as_slice());
     let differs = !is_same(&found, &by_code);
     let told_otherwise = !tells(&found, chosen);
@@ -54,6 +54,17 @@ fn say_both(alloc: Global, spec: &Spec, object: &Term, into: &mut Vec<u8>) {
     }
     if told_otherwise {
         say(b", and it is told otherwise whether there is one", into);
+    }
+}
+
+// The term of what is told of a result.
+fn made(
+    alloc: Global,
+    found: Result<Option<Found<'_>>, AllocError>,
+) -> Result<Option<Term>, AllocError> {
+    match found? {
+        Some(found) => Ok(Some(found.term(alloc)?)),
+        None => Ok(None),
     }
 }
 

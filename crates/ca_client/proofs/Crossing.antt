@@ -8,7 +8,6 @@ use Rattle.ca_term.proofs.term.Term.TheLaws.TheKnot.{crosses as of_terms}
 use Rattle.ca_term.specs.contracts.term.Term as term
 use Rattle.ca_model.specs.declared.store.OrderedStore.{Ghosts}
 use Rattle.ca_table.proofs.Crossing.{spec_send}
-use Rattle.ca_table.specs.contracts.table.Table as table
 use Rattle.ca_cmd.specs.contracts.answers.Answers as answers
 use Rattle.ca_cmd.specs.contracts.line.Lines as lines
 use Rattle.ca_client.specs.contracts.clients.Client as client
@@ -22,11 +21,5 @@ lines_sync = search (sendable, of_std, term_sync) depth 40
 pub answers_send : IsSend answers.the_row
 answers_send = search (sendable, of_std) depth 40
 
-pub table_send : (T : RattleType) (g : Ghosts T.Denot) → IsSend T → IsSend (table.the_row T g)
-table_send T g s = search (sendable, of_std, spec_send) depth 40
-
 pub client_send : (a : NamedLft) (T : RattleType) (g : Ghosts T.Denot) → IsSend T → IsSend (client.the_row a T g)
-client_send a T g s = by (table_send T g s)
-  where
-    by : IsSend (table.the_row T g) → IsSend (client.the_row a T g)
-    by t = search (sendable, of_std, answers_send, lines_sync) depth 40
+client_send a T g s = search (sendable, of_std, spec_send, answers_send, lines_sync) depth 60

@@ -7,4 +7,5 @@ pub mod Refusals
 pub mod Shares
 pub mod Sharing
 mod Telling
+pub mod Tended
 pub mod Trying

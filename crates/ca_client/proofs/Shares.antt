@@ -24,7 +24,7 @@ use Rattle.ca_node.specs.TreePasses.{tree_of}
 use Rattle.ca_node.specs.TreeView.{Ended, TreeView, no_refusals}
 use Rattle.ca_replace.specs.Closing.{IsClosed}
 use Rattle.ca_replace.specs.Past.{TreePast, left_by}
-use Rattle.ca_replace.specs.Resting.{numbers_of}
+use Rattle.ca_replace.specs.Resting.{StoreAndRun, knows, numbers_of}
 use Rattle.ca_rows.specs.Closed.{IsClosable}
 use Rattle.ca_rows.specs.declared.sizes.Sizes.{Sizes}
 use Rattle.ca_rows.specs.declared.space.Pass.{Pass}
@@ -70,13 +70,13 @@ module _ {R : Type 0} (table : TableId) (z : Sizes) where
   AreShares first (file ∷ files) (told ∷ all) (pass ∷ passes) = IsShare table z first file told pass × AreShares (suc first) files all passes
   AreShares first files all passes = ⊥
 
-module _ {S R : Type 0} (table : TableId) (z : Sizes) where
-  module _ (number : ℕ) (file : List Line) (a b : Client S) (told : Answers) (pass : Pass R TreeView)
-      (ready : IsReady table z number file a) (behind : IsBehind a b) (part : IsPart b told pass) where
-    tells : HasTold a.table b.table (numbered a.lines.now) told
+module _ {R : Type 0} (table : TableId) (z : Sizes) where
+  module _ (number : ℕ) (file : List Line) (a b : Client StoreAndRun) (told : Answers) (pass : Pass R TreeView)
+      (ready : IsReady table z number file a) (behind : IsBehind knows a b) (part : IsPart b told pass) where
+    tells : HasTold (knows a.table) (knows b.table) (numbered a.lines.now) told
     tells = behind.played told part.answered
 
-    play : HasPlayed a.table b.table (commands_in (numbered a.lines.now)) tells.answers
+    play : HasPlayed (knows a.table) (knows b.table) (commands_in (numbered a.lines.now)) tells.answers
     play = tells.played
 
     -- What a pass that was just made played is its client's share.
@@ -89,22 +89,23 @@ module _ {S R : Type 0} (table : TableId) (z : Sizes) where
       plays = subst (λ (l : List Line). Plays z.keypos Never (commands_in (numbered l)) tells.answers play.parts) ready.lines
           (subst (λ (k : Known). Plays k.keypos Never (commands_in (numbered a.lines.now)) tells.answers play.parts) ready.begins play.plays);
       played = record {
-        number_is = sym (ap (λ (k : Known). k.pass) part.knows) ∙ play.grown.same.pass ∙ ap (λ (k : Known). k.pass) ready.begins;
-        log = log_of_parts a.table b.table (commands_in (numbered a.lines.now)) tells.answers [] (tree_of pass).seen (tree_of pass).log play
-            (ap (λ (k : Known). k.seen) ready.begins) (ap (λ (k : Known). k.seen) part.knows);
-        counted = subst (λ (k : Known). AreCounted no_refusals k.counts tells.answers) part.knows
-            (subst (λ (k : Known). AreCounted k.counts b.table.counts tells.answers) ready.begins play.counted);
+        number_is = sym (ap (λ (k : Known). k.pass) part.known) ∙ play.grown.same.pass ∙ ap (λ (k : Known). k.pass) ready.begins;
+        log = log_of_parts (knows a.table) (knows b.table) (commands_in (numbered a.lines.now)) tells.answers [] (tree_of pass).seen (tree_of pass).log play
+            (ap (λ (k : Known). k.seen) ready.begins) (ap (λ (k : Known). k.seen) part.known);
+        counted = subst (λ (k : Known). AreCounted no_refusals k.counts tells.answers) part.known
+            (subst (λ (k : Known). AreCounted k.counts (knows b.table).counts tells.answers) ready.begins play.counted);
       };
       closable = (
         one_table pass.seat.table_id table
-            (sym (ap (λ (k : Known). k.store) part.knows) ∙ play.grown.same.store ∙ ap (λ (k : Known). k.store) ready.begins),
+            (sym (ap (λ (k : Known). k.store) part.known) ∙ play.grown.same.store ∙ ap (λ (k : Known). k.store) ready.begins),
         part.unpinned,
       );
     }
 
   -- What these played is their clients' shares.
-  pub shares : (first : ℕ) (files : List (List Line)) (olds news : List (Client S)) (all : List Answers) (passes : List (Pass R TreeView))
-      → length news ≡ length olds → AreReady table z first files olds → HavePlayed olds news → AreParts news all passes → AreShares table z first files all passes
+  pub shares : (first : ℕ) (files : List (List Line)) (olds news : List (Client StoreAndRun)) (all : List Answers) (passes : List (Pass R TreeView))
+      → length news ≡ length olds → AreReady table z first files olds → HavePlayed knows olds news
+      → AreParts news all passes → AreShares table z first files all passes
   shares first [] [] [] [] [] e ready played parts = tt
   shares first [] [] [] [] (p ∷ passes) e ready played parts = absurd parts
   shares first [] [] [] (x ∷ all) passes e ready played parts = absurd parts
@@ -120,14 +121,14 @@ module _ {S R : Type 0} (table : TableId) (z : Sizes) where
   )
 
 -- The same of clients that were lent to be played, and came back.
-pub shares_left : {S : Type 0} (table : TableId) (z : Sizes) (files : List (List Line)) (n : ℕ) (olds lent news : List (Client S)) (parts : Parts)
-    → n ≡ length olds → lent ≡ olds → length news ≡ length lent → AreReady table z 1 files olds → HavePlayed lent news
+pub shares_left : (table : TableId) (z : Sizes) (files : List (List Line)) (n : ℕ) (olds lent news : List (Client StoreAndRun)) (parts : Parts)
+    → n ≡ length olds → lent ≡ olds → length news ≡ length lent → AreReady table z 1 files olds → HavePlayed knows lent news
     → AreLeft (take n (news ++ drop (length news) olds)) parts → AreShares table z 1 files parts.answers.items parts.passes.items
 shares_left table z files n olds lent news parts many same all ready played left =
     let count : length news ≡ length olds = all ∙ ap (λ cs. length cs) same in
     let whole : take n (news ++ drop (length news) olds) ≡ news =
     ap (λ (k : ℕ). take k (news ++ drop (length news) olds)) (many ∙ sym count) ∙ take-append_seam news (drop (length news) olds) in
-    shares table z 1 files olds news parts.answers.items parts.passes.items count ready (subst (λ cs. HavePlayed cs news) same played)
+    shares table z 1 files olds news parts.answers.items parts.passes.items count ready (subst (λ cs. HavePlayed knows cs news) same played)
     (subst (λ cs. AreParts cs parts.answers.items parts.passes.items) whole left.each)
 
 -- What a closed tree has is a map.

@@ -9,6 +9,7 @@ use Rattle.ca_cmd.specs.declared.line.Line.{Line}
 use Rattle.ca_node.specs.TreePasses.{tree_of}
 use Rattle.ca_node.specs.TreeView.{Ended, TreeView}
 use Rattle.ca_replace.specs.Past.{left_by}
+use Rattle.ca_replace.specs.Resting.{StoreAndRun}
 use Rattle.ca_rows.specs.declared.sizes.Sizes.{Sizes}
 use Rattle.ca_rows.specs.declared.space.Pass.{Pass}
 use Rattle.ca_client.specs.Ran.{splits_of, joins_of}
@@ -21,8 +22,8 @@ module _ {R : Type 0} (table : TableId) (z : Sizes) where
   new_more first number [] pass e all new = (subst (λ (n : ℕ). IsNew table z n pass) (omega (arith, e)) new, tt)
   new_more first number (x ∷ passes) pass e all new = (all.0, new_more (suc first) number passes pass (omega (arith, e)) all.1 new)
 
-module _ {S : Type 0} (table : TableId) (z : Sizes) where
-  pub ready_more : (first number : ℕ) (files : List (List Line)) (clients : List (Client S)) (file : List Line) (client : Client S)
+module _ (table : TableId) (z : Sizes) where
+  pub ready_more : (first number : ℕ) (files : List (List Line)) (clients : List (Client StoreAndRun)) (file : List Line) (client : Client StoreAndRun)
       → number ≡ first + length clients → AreReady table z first files clients → IsReady table z number file client
       → AreReady table z first (files ++ file ∷ []) (clients ++ client ∷ [])
   ready_more first number [] [] file client e all ready = (subst (λ (n : ℕ). IsReady table z n file client) (omega (arith, e)) ready, tt)
@@ -31,9 +32,9 @@ module _ {S : Type 0} (table : TableId) (z : Sizes) where
   ready_more first number (f ∷ files) (c ∷ clients) file client e all ready =
       (all.0, ready_more (suc first) number files clients file client (omega (arith, e)) all.1 ready)
 
-module _ {S R : Type 0} where
-  pub parts_more : (clients : List (Client S)) (all : List Answers) (passes : List (Pass R TreeView)) (client : Client S) (answers : Answers)
-      (pass : Pass R TreeView) → AreParts clients all passes → IsPart client answers pass
+module _ {R : Type 0} where
+  pub parts_more : (clients : List (Client StoreAndRun)) (all : List Answers) (passes : List (Pass R TreeView))
+      (client : Client StoreAndRun) (answers : Answers) (pass : Pass R TreeView) → AreParts clients all passes → IsPart client answers pass
       → AreParts (clients ++ client ∷ []) (all ++ answers ∷ []) (passes ++ pass ∷ [])
   parts_more [] [] [] client answers pass parts part = (part, tt)
   parts_more [] [] (p ∷ passes) client answers pass parts part = absurd parts

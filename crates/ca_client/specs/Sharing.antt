@@ -6,7 +6,7 @@ use Rattle.ca_cmd.specs.declared.line.Line.{Line}
 use Rattle.ca_node.specs.TreePasses.{tree_of}
 use Rattle.ca_node.specs.TreeView.{TreeView, blank}
 use Rattle.ca_replace.specs.Past.{left_by}
-use Rattle.ca_replace.specs.Resting.{IsResting, known_of}
+use Rattle.ca_replace.specs.Resting.{IsResting, StoreAndRun, known_of, knows}
 use Rattle.ca_rows.specs.declared.sizes.Sizes.{Sizes}
 use Rattle.ca_rows.specs.declared.space.Pass.{Pass}
 use Rattle.ca_rows.specs.Rule.{fresh}
@@ -25,34 +25,34 @@ module _ {R : Type 0} (table : TableId) (z : Sizes) where
   AreNew first [] = Unit {0}
   AreNew first (pass ∷ passes) = IsNew first pass × AreNew (suc first) passes
 
-module _ {S : Type 0} (table : TableId) (z : Sizes) where
+module _ (table : TableId) (z : Sizes) where
   -- The client has these lines, and its store is that of the pass of this number, which was just made.
-  pub record IsReady (number : ℕ) (file : List Line) (client : Client S) : Type 0 where
+  pub record IsReady (number : ℕ) (file : List Line) (client : Client StoreAndRun) : Type 0 where
     pub lines : client.lines.now ≡ file
-    pub begins : client.table ≡ known_of table z (blank number)
+    pub begins : knows client.table ≡ known_of table z (blank number)
 
   -- So it is with a client for each file, of which the first has this number.
-  abbrev pub AreReady : ℕ → List (List Line) → List (Client S) → Type 0
+  abbrev pub AreReady : ℕ → List (List Line) → List (Client StoreAndRun) → Type 0
   AreReady first [] [] = Unit {0}
   AreReady first (file ∷ files) (client ∷ clients) = IsReady first file client × AreReady (suc first) files clients
   AreReady first files clients = ⊥
 
-module _ {S R : Type 0} where
+module _ {R : Type 0} where
   -- The client was told so, and this is its store's pass, which isn't pinned.
-  pub record IsPart (client : Client S) (told : Answers) (pass : Pass R TreeView) : Type 0 where
+  pub record IsPart (client : Client StoreAndRun) (told : Answers) (pass : Pass R TreeView) : Type 0 where
     pub answered : client.answers ≡ Some told
     pub z : Sizes
-    pub knows : client.table ≡ known_of pass.seat.table_id z (tree_of pass)
+    pub known : knows client.table ≡ known_of pass.seat.table_id z (tree_of pass)
     pub unpinned : pass.seat.me.0.pin.pinned ≡ false
 
   -- So it is with each client.
-  abbrev pub AreParts : List (Client S) → List Answers → List (Pass R TreeView) → Type 0
+  abbrev pub AreParts : List (Client StoreAndRun) → List Answers → List (Pass R TreeView) → Type 0
   AreParts [] [] [] = Unit {0}
   AreParts (client ∷ clients) (told ∷ all) (pass ∷ passes) = IsPart client told pass × AreParts clients all passes
   AreParts clients all passes = ⊥
 
 -- These are the clients' answers and passes, and what all passes together did to the tree.
-pub record AreLeft {S : Type 0} (clients : List (Client S)) (parts : Parts) : Type 0 where
+pub record AreLeft (clients : List (Client StoreAndRun)) (parts : Parts) : Type 0 where
   pub each : AreParts clients parts.answers.items parts.passes.items
   pub splits_are : parts.splits ≡ splits_of (map left_by parts.passes.items)
   pub joins_are : parts.joins ≡ joins_of (map left_by parts.passes.items)

@@ -1,6 +1,6 @@
 //! Clients that play on threads, each on a table of its own.
 ghost use Rattle.std.specs.Prelude.{◌≡◌, length};
-ghost use Rattle.ca_client.specs.Clients.{IsBehind, HavePlayed};
+ghost use Rattle.ca_client.specs.Clients.{HavePlayed, IsBehind, IsTended};
 
 use crate::gate::Gate;
 use crate::giving::give_back;
@@ -28,7 +28,7 @@ pub struct Client<'l, S: OrderedStore + Drop> {
 impl<S: OrderedStore + Drop> Client<'_, S> {
     // Plays its lines.
     fn play<R: Wait, G: Gate>(&mut self, rt: &R, alloc: Global, gate: &G)
-        ensures { IsBehind self.old self.new }
+        ensures { IsBehind S.knows self.old self.new }
     {
         let played = play(rt, alloc, self.number, &mut self.table, self.lines, gate);
         self.answers = match played {
@@ -39,7 +39,7 @@ impl<S: OrderedStore + Drop> Client<'_, S> {
 
     // Tends its store once it has played, while others play still.
     fn end<U: Upkeep<S>>(&mut self, upkeep: &U, playing: &AtomicUsize)
-        ensures { self.new ≡ self.old }
+        ensures { IsTended S.knows self.old self.new }
     {
         playing.fetch_sub(1, Ordering::SeqCst);
         give_back(&mut self.table, upkeep, playing);
@@ -48,6 +48,7 @@ impl<S: OrderedStore + Drop> Client<'_, S> {
 
 /// Plays the clients, each on a thread of its own as far as threads can be made, and else behind another one. One that finds no memory has no answers, and
 /// the others play to their ends. At a client's end its store is tended, while others play still.
+#[tactic(auto, using(crate::proofs::Tended::behind_tended))]
 pub fn play_all<
     R: Threads + Wait + Sync,
     S: OrderedStore + Drop + Send,
@@ -55,7 +56,7 @@ pub fn play_all<
     U: Upkeep<S> + Sync,
 >(rt: &R, alloc: Global, clients: &mut [Client<'_, S>], gate: &G, upkeep: &U)
     ensures same { length clients.new ≡ length clients.old }
-    ensures played { HavePlayed clients.old clients.new }
+    ensures played { HavePlayed S.knows clients.old clients.new }
 {
     let playing = &AtomicUsize::new(clients.len());
     for_each_mut(
@@ -63,7 +64,7 @@ pub fn play_all<
         clients,
         MOST_THREADS,
         &|_place, client: &mut Client<'_, S>|
-            ensures { IsBehind client.entry.now client.exit.now }
+            ensures { IsBehind S.knows client.entry.now client.exit.now }
         {
             client.play(rt, alloc, gate);
             client.end(upkeep, playing);

@@ -23,7 +23,7 @@ pub(crate) fn give_back<S: OrderedStore + Drop, U: Upkeep<S>>(
     upkeep: &U,
     playing: &AtomicUsize,
 )
-    ensures { table.new ≡ table.old }
+    ensures { S.knows table.new ≡ S.knows table.old }
 {
     for waits in 0..MOST_WAITS {
         if playing.load(Ordering::SeqCst) == 0 || !table.tend(upkeep) {

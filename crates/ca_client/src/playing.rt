@@ -73,8 +73,8 @@ fn answer_to<R: Wait, S: OrderedStore + Drop>(
     requires { IsContinuation (continuation_of cont.old) }
     ensures continuation { IsContinuation (continuation_of cont.new) }
     ensures answered { IfOk result (λ answer.
-        HasAnswered table.old table.new (continuation_of cont.old) cmd.now (answer_of answer) (continuation_of cont.new)) }
-    ensures stopped { OnErr result (HasRead table.old table.new) }
+        HasAnswered (S.knows table.old) (S.knows table.new) (continuation_of cont.old) cmd.now (answer_of answer) (continuation_of cont.new)) }
+    ensures stopped { OnErr result (HasRead (S.knows table.old) (S.knows table.new)) }
 {
     let mut budget = FIRST_BUDGET;
     let mut waits = 0_u32;
@@ -113,8 +113,8 @@ pub fn play<R: Wait, S: OrderedStore + Drop, G: Gate>(
     lines: &Lines,
     gate: &G,
 ) -> Result<Answers, AllocError>
-    ensures played { IfOk result (λ told. HasTold table.old table.new (numbered lines.now) told) }
-    ensures stopped { OnErr result (HasStopped table.old table.new (commands_in (numbered lines.now))) }
+    ensures played { IfOk result (λ told. HasTold (S.knows table.old) (S.knows table.new) (numbered lines.now) told) }
+    ensures stopped { OnErr result (HasStopped (S.knows table.old) (S.knows table.new) (commands_in (numbered lines.now))) }
 {
     let mut cont = Cont::Never;
     let mut answers = Answers::new(alloc);

@@ -1,6 +1,7 @@
 //! Answers as text.
 ghost use Rattle.std.specs.Prelude.{◌≡◌, ◌++◌, OnOk, OnErr};
 ghost use Rattle.ca_ets.specs.Command.{Results, response_of};
+ghost use Rattle.ca_order.specs.CodesView.{terms_of, tree_of};
 ghost use Rattle.ca_term.specs.Tree.{Nil, list_of};
 ghost use Rattle.ca_text.specs.Text.{text_of};
 ghost use Rattle.ca_text.specs.Written.{BeginsWith};
@@ -8,6 +9,7 @@ ghost use Rattle.ca_cmd.specs.Answers.{answer_of};
 ghost use Rattle.ca_cmd.specs.Output.{batch_end, text_of_answer, text_of_fault, text_of_response};
 
 use ca_ets::{Fault, Reply};
+use ca_order::{Codes, Part};
 use ca_term::Term;
 use ca_text::{print_term, put};
 use std::alloc::AllocError;
@@ -56,6 +58,8 @@ fn put_reply(reply: &Reply, into: &mut Vec<u8>) -> Result<(), AllocError>
         Reply::Value(term) => put_term(term, into),
         Reply::List(terms) => put_list(terms.as_slice(), into),
         Reply::Batch(terms, more) => put_batch(terms.as_slice(), *more, into),
+        Reply::Coded(list) => put_codes(list.codes(), into),
+        Reply::CodedBatch(list, more) => put_coded_batch(list.codes(), *more, into),
         Reply::End => put(b"'$end_of_table'", into),
         Reply::Error(fault) => put_fault(*fault, into),
     }
@@ -67,6 +71,15 @@ fn put_batch(terms: &[Term], more: bool, into: &mut Vec<u8>) -> Result<(), Alloc
 {
     put(b"{", into)?;
     put_list(terms, into)?;
+    put_batch_end(more, into)
+}
+
+fn put_coded_batch(codes: Codes<'_>, more: bool, into: &mut Vec<u8>) -> Result<(), AllocError>
+    ensures ok { OnOk result (into.new.items ≡ into.old.items ++ text_of_response (Results (terms_of codes.entry) more)) }
+    ensures front { BeginsWith into.new.items into.old.items }
+{
+    put(b"{", into)?;
+    put_codes(codes, into)?;
     put_batch_end(more, into)
 }
 
@@ -96,6 +109,35 @@ fn put_list(terms: &[Term], into: &mut Vec<u8>) -> Result<(), AllocError>
         put_term(term, into)?;
     }
     put(b"]", into)
+}
+
+// The list of the terms of these codes.
+#[tactic(auto, using(ca_text::proofs::Fronts::begins_more))]
+fn put_codes(codes: Codes<'_>, into: &mut Vec<u8>) -> Result<(), AllocError>
+    ensures ok { OnOk result (into.new.items ≡ into.old.items ++ text_of (list_of (terms_of codes.entry) Nil)) }
+    ensures front { BeginsWith into.new.items into.old.items }
+{
+    let Some((first, others)) = codes.first() else {
+        return put(b"[]", into);
+    };
+    put(b"[", into)?;
+    put_part(first, into)?;
+    let mut left = others;
+    while let Some((part, behind)) = left.first() {
+        put(b",", into)?;
+        put_part(part, into)?;
+        left = behind;
+    }
+    put(b"]", into)
+}
+
+// The term of a code, which is a term only for that.
+fn put_part(part: Part<'_>, into: &mut Vec<u8>) -> Result<(), AllocError>
+    ensures ok { OnOk result (into.new.items ≡ into.old.items ++ text_of (tree_of part.entry)) }
+    ensures front { BeginsWith into.new.items into.old.items }
+{
+    let term = part.term(*into.allocator())?;
+    put_term(&term, into)
 }
 
 fn put_fault(fault: Fault, into: &mut Vec<u8>) -> Result<(), AllocError>

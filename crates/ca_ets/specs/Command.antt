@@ -14,7 +14,7 @@ use Rattle.ca_ets.specs.declared.command.Fault.{Fault}
 abbrev pub Command : Type 0
 Command = Cmd
 
--- the reply to a command
+-- the reply to a command: it is the same whether its terms are kept as terms or by their codes
 pub data Response : Type 0 where
   Truth : Bool → Response
   Value : Tree → Response
@@ -50,6 +50,8 @@ response_of (reply.Truth b) = Truth b
 response_of (reply.Value t) = Value t
 response_of (reply.List ts) = Items ts.items
 response_of (reply.Batch ts more) = Results ts.items more
+response_of (reply.Coded ts) = Items ts
+response_of (reply.CodedBatch ts more) = Results ts more
 response_of reply.End = End
 response_of (reply.Error fault) = Error fault
 

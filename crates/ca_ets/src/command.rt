@@ -1,4 +1,5 @@
 //! Commands of a client, replies to them, and where a client's batches stand.
+use ca_order::CodeList;
 use ca_term::{Term, Terms};
 
 /// A call of one client on the table. Source: the ets manual's calls of these names.
@@ -51,6 +52,10 @@ pub enum Reply {
     List(Terms),
     /// Results in key order, and whether there may be more.
     Batch(Terms, bool),
+    /// As `List`, by the terms' codes: none of them was made a term.
+    Coded(CodeList),
+    /// As `Batch`, by the terms' codes.
+    CodedBatch(CodeList, bool),
     /// The end of the table.
     End,
     /// An error: nothing was changed.

@@ -10,6 +10,7 @@ pub mod KeyRead
 pub mod Keyed
 pub mod Listed
 pub mod LongElements
+pub mod Making
 pub mod Once
 pub mod ReadBack
 pub mod Recent

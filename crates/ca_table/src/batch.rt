@@ -9,17 +9,21 @@ ghost use Rattle.ca_ets.specs.Step.{fault_of_specification, limit_of};
 ghost use Rattle.ca_model.specs.Edges.{IsProperBound, bound_of};
 ghost use Rattle.ca_table.specs.Collected.{IsBatch, IsNextOf, IsPlaceOf, IsStopped, reply_of_batch};
 ghost use Rattle.ca_table.specs.ComesTo.{ComesToFrom};
+ghost use Rattle.ca_table.specs.ResultsView.{results_of};
+ghost use Rattle.ca_table.specs.Made.{HasMade, HasRead};
 
 use crate::codes::key_code;
+use crate::follower::Follower;
 use crate::kept::Object;
 use crate::outcome::{Played, Stop};
+use crate::results::Results;
 use crate::run::is_full;
 use crate::select::specification;
 use crate::table::Table;
 use ca_ets::{Cont, Fault, Reply};
 use ca_model::{Code, Edge, OrderedStore, Outcome};
 use ca_spec::Spec;
-use ca_term::{Kind, Term, Terms, term_order, try_copy};
+use ca_term::{Kind, Term, term_order, try_copy};
 use std::alloc::{AllocError, Global};
 
 // Where a client's batches go on.
@@ -32,7 +36,7 @@ pub(crate) enum Place {
     AtEnd,
 }
 
-impl<S: OrderedStore + Drop> Table<S> {
+impl<S: OrderedStore + Drop, W: Follower<S>> Table<S, W> {
     /// `batch`: the first results, as many as `limit` says, at one state, and whether there may be more; the manual's call is `select` with a limit.
     /// The next batch goes on behind the last object that gave one. It is refused as `badarg` where the specification is none, or the limit is no
     /// integer of at least 1. A batch alone moves the continuation: with an error, a refusal or `Err`, where memory wasn't found, it stays.
@@ -46,7 +50,9 @@ impl<S: OrderedStore + Drop> Table<S> {
     ) -> Played
         requires budget { 1 ≤ budget }
         requires continuation { IsContinuation (continuation_of cont.old) }
-        ensures comes { ComesToFrom self.old self.new budget (Batch spec.now limit.now) (continuation_of cont.old) (continuation_of cont.new) result }
+        ensures comes { ComesToFrom (S.knows self.old) (S.knows self.new) budget (Batch spec.now limit.now)
+            (continuation_of cont.old) (continuation_of cont.new) result }
+        ensures made { HasMade S.knows S.promises W.asked (Batch spec.now limit.now) self.old self.new result }
         ensures continuation { IsContinuation (continuation_of cont.new) }
     {
         let Some(limit) = limit_of(limit) else {
@@ -74,7 +80,8 @@ impl<S: OrderedStore + Drop> Table<S> {
     pub fn more(&mut self, alloc: Global, cont: &mut Cont, budget: u32) -> Played
         requires budget { 1 ≤ budget }
         requires continuation { IsContinuation (continuation_of cont.old) }
-        ensures comes { ComesToFrom self.old self.new budget More (continuation_of cont.old) (continuation_of cont.new) result }
+        ensures comes { ComesToFrom (S.knows self.old) (S.knows self.new) budget More (continuation_of cont.old) (continuation_of cont.new) result }
+        ensures made { HasMade S.knows S.promises W.asked More self.old self.new result }
         ensures continuation { IsContinuation (continuation_of cont.new) }
     {
         let recent = self.take_recent();
@@ -108,9 +115,11 @@ impl<S: OrderedStore + Drop> Table<S> {
         requires edge { IsProperBound (bound_of lo) }
         requires limit { 1 ≤ limit }
         requires specification { IsSpecification spec }
-        ensures batch { IfOk result (λ b. IsBatch self.old self.new (bound_of lo.entry) spec limit (response_of b.0) (continuation_of b.1)) }
+        ensures read { HasRead S.promises self.old self.new }
+        ensures batch { IfOk result (λ b.
+            IsBatch (S.knows self.old) (S.knows self.new) (bound_of lo.entry) spec limit (response_of b.0) (continuation_of b.1)) }
         ensures next { IfOk result (λ b. IsContinuation (continuation_of b.1)) }
-        ensures stopped { IfErr result (λ stop. IsStopped self.old self.new budget stop) }
+        ensures stopped { IfErr result (λ stop. IsStopped (S.knows self.old) (S.knows self.new) budget stop) }
     {
         let found = self.batch_within(alloc, &spec, limit, lo, budget);
         self.keep_recent(spec);
@@ -130,9 +139,11 @@ impl<S: OrderedStore + Drop> Table<S> {
         requires edge { IsProperBound (bound_of lo) }
         requires limit { 1 ≤ limit }
         requires specification { IsSpecification spec.now }
-        ensures batch { IfOk result (λ b. IsBatch self.old self.new (bound_of lo.entry) spec.now limit (response_of b.0) (continuation_of b.1)) }
+        ensures read { HasRead S.promises self.old self.new }
+        ensures batch { IfOk result (λ b.
+            IsBatch (S.knows self.old) (S.knows self.new) (bound_of lo.entry) spec.now limit (response_of b.0) (continuation_of b.1)) }
         ensures next { IfOk result (λ b. IsContinuation (continuation_of b.1)) }
-        ensures stopped { IfErr result (λ stop. IsStopped self.old self.new budget stop) }
+        ensures stopped { IfErr result (λ stop. IsStopped (S.knows self.old) (S.knows self.new) budget stop) }
     {
         let keypos = self.keypos();
         let found = match self.within(alloc, spec, lo, Edge::Open, Some(limit), budget) {
@@ -203,13 +214,13 @@ fn specification_again(
 }
 
 // The reply with the results of a batch, which are as many as were wanted, or the last ones.
-fn reply_of(results: Terms, full: bool) -> Reply
-    ensures { response_of result ≡ reply_of_batch full results.items }
+fn reply_of(results: Results, full: bool) -> Reply
+    ensures { response_of result ≡ reply_of_batch full (results_of results) }
 {
-    if !full && results.is_empty() {
+    if !full && results.len() == 0 {
         Reply::End
     } else {
-        Reply::Batch(results, full)
+        results.into_batch(full)
     }
 }
 

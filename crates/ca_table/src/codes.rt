@@ -11,8 +11,8 @@ ghost use Rattle.ca_ets.specs.Unless.{IsUnless};
 
 use ca_ets::{Fault, element};
 use ca_model::Code;
-use ca_order::{DecodeFault, decode, encode, object_parts};
-use ca_term::{Kind, Term, Terms};
+use ca_order::{CodeList, DecodeFault, Part, decode, encode, object_parts};
+use ca_term::{Kind, Term};
 use std::alloc::{AllocError, Global};
 
 // Where an object's key stands in the object's code.
@@ -99,20 +99,12 @@ fn part(bytes: &[u8], start: usize, end: usize) -> &[u8]
     &bytes[start..end]
 }
 
-// The list of the term that these bytes are the code of.
-pub(crate) fn only(alloc: Global, code: &Code) -> Result<Terms, AllocError>
+// The list of the term that these bytes are the code of, by its code.
+pub(crate) fn only(alloc: Global, code: &Code) -> Result<CodeList, AllocError>
     requires { IsTermCode code.now.items }
-    ensures { IfOk result (λ terms. IsOnly code.now.items terms.items) }
+    ensures { IfOk result (λ list. IsOnly code.now.items list) }
 {
-    let term = match decode(alloc, code.as_slice()) {
-        Ok(term) => term,
-        Err(DecodeFault::NoMemory) => return Err(AllocError),
-        Err(DecodeFault::NotACode { at: _ }) => unreachable!(),
-    };
-    let _kind = term.kind();
-    let mut terms = Terms::new(alloc);
-    let Ok(()) = terms.push(term) else {
-        return Err(AllocError);
-    };
-    Ok(terms)
+    let mut list = CodeList::new(alloc);
+    list.push(Part::of(code.as_slice()))?;
+    Ok(list)
 }

@@ -5,30 +5,32 @@ ghost use Rattle.ca_term.specs.Tree.{IsTerm, Tree};
 ghost use Rattle.ca_order.specs.Languages.{IsTermCode};
 ghost use Rattle.ca_model.specs.Edges.{IsProperBound, bound_of};
 ghost use Rattle.ca_model.specs.Known.{StaysBesideRun};
+ghost use Rattle.ca_table.specs.ResultsView.{results_of};
 ghost use Rattle.ca_table.specs.Collected.{AddsObject, AreCollected, AreWithin, CountsOnly, IsOpenRun, IsStopped, WasAsked, is_full, left_of, wanted};
+ghost use Rattle.ca_table.specs.Made.{HasRead};
 
 use crate::kept::Object;
 use crate::outcome::{Stop, done};
+use crate::results::Results;
 use ca_model::{Code, Edge, OrderedStore};
 use ca_spec::{Spec, apply_code, chooses};
-use ca_term::{Term, Terms};
 use std::alloc::{AllocError, Global};
 
 // What is collected of a run: results in key order, and the last object that gave one, where there are as many as are wanted.
 #[derive(Drop)]
 pub(crate) struct Collected {
-    pub results: Terms,
+    pub results: Results,
     pub last: Option<Object>,
 }
 
 impl Collected {
     // Nothing yet.
     pub(crate) fn new(alloc: Global) -> Collected
-        ensures results { result.results.items ≡ [] }
+        ensures results { results_of result.results ≡ [] }
         ensures last { result.last ≡ None }
     {
         Collected {
-            results: Terms::new(alloc),
+            results: Results::new(alloc),
             last: None,
         }
     }
@@ -43,14 +45,12 @@ impl Collected {
         code: &Code,
     ) -> Result<(), AllocError>
         requires { IsTermCode code.now.items }
-        ensures { OnOk result (AddsObject limit spec.now code.now.items self.old.results.items self.old.last self.new.results.items self.new.last) }
+        ensures { OnOk result (AddsObject limit spec.now code.now.items (results_of self.old.results) self.old.last (results_of self.new.results) self.new.last) }
     {
         let Some(found) = apply_code(alloc, spec, code.as_slice())? else {
             return Ok(());
         };
-        let Ok(()) = self.results.push(found) else {
-            return Err(AllocError);
-        };
+        self.results.push(alloc, found)?;
         self.keep(limit, code);
         Ok(())
     }
@@ -61,7 +61,7 @@ impl Collected {
         requires { IsTermCode code.now.items }
         ensures results { self.new.results ≡ self.old.results }
         ensures last { (o : Tree) → IsTerm o → code.now.items ≡ code_of o
-            → self.new.last ≡ (if is_full limit (length self.old.results.items) then Some o else self.old.last) }
+            → self.new.last ≡ (if is_full limit (length (results_of self.old.results)) then Some o else self.old.last) }
     {
         if is_full(limit, self.results.len()) {
             self.set_last(code);
@@ -97,8 +97,9 @@ fn collect<S: OrderedStore>(
     limit: Option<u64>,
 ) -> Result<Collected, AllocError>
     requires run { IsOpenRun (S.knows store.old) }
-    ensures collected { IfOk result (λ c. AreCollected (S.knows store.old).keypos spec.now limit (left_of (S.knows store.old)) c.results.items c.last) }
+    ensures collected { IfOk result (λ c. AreCollected (S.knows store.old).keypos spec.now limit (left_of (S.knows store.old)) (results_of c.results) c.last) }
     ensures stays { StaysBesideRun (S.knows store.old) (S.knows store.new) }
+    ensures read { HasRead S.promises store.old store.new }
 {
     let mut collected = Collected::new(alloc);
     let mut code = Code::new();
@@ -146,9 +147,10 @@ pub(crate) fn results_within<S: OrderedStore>(
     requires upper_edge { IsProperBound (bound_of hi) }
     requires keypos { 1 ≤ (S.knows store.old).keypos }
     ensures within { IfOk result (λ c.
-        AreWithin (S.knows store.old) (S.knows store.new) (bound_of lo.entry) (bound_of hi.entry) spec.now limit c.results.items c.last) }
+        AreWithin (S.knows store.old) (S.knows store.new) (bound_of lo.entry) (bound_of hi.entry) spec.now limit (results_of c.results) c.last) }
     ensures stopped { IfErr result (λ stop. IsStopped (S.knows store.old) (S.knows store.new) budget stop) }
     ensures asked { WasAsked (S.promises.range budget store.old) (bound_of lo.entry) (bound_of hi.entry) (wanted limit) }
+    ensures read { HasRead S.promises store.old store.new }
     ensures closed { (S.knows store.new).run ≡ None }
 {
     let counts = |code: &[u8]| -> bool

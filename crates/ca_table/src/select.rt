@@ -11,8 +11,10 @@ ghost use Rattle.ca_model.specs.Answer.{IsDone};
 ghost use Rattle.ca_model.specs.Known.{Stays};
 ghost use Rattle.ca_plan.specs.Plan.{shared_key};
 ghost use Rattle.ca_table.specs.ComesTo.{ComesTo};
+ghost use Rattle.ca_table.specs.Made.{HasMade};
 
 use crate::codes::key_code;
+use crate::follower::Follower;
 use crate::outcome::{Played, Stop};
 use crate::run::Collected;
 use crate::table::Table;
@@ -35,15 +37,17 @@ pub(crate) fn specification(alloc: Global, spec: &Term) -> Result<Option<Spec>, 
     }
 }
 
-impl<S: OrderedStore + Drop> Table<S> {
+impl<S: OrderedStore + Drop, W: Follower<S>> Table<S, W> {
     /// `select`: the results of all objects that the match specification chooses, in key order, at one state. Where the specification fixes
     /// the key of the objects, that key's object alone is looked for, the call is never refused, and no call of the store is made for a key that is
     /// too long. `Err` where memory for the specification or the results wasn't found; then nothing was edited.
     pub fn select(&mut self, alloc: Global, spec: &Term, budget: u32) -> Played
         requires { 1 ≤ budget }
-        ensures comes { ComesTo self.old self.new budget (Select spec.now) result }
-        ensures done { shared_key self.old.keypos spec.now ≢ None → IfOk result (λ outcome. IsDone outcome) }
-        ensures stays { (key : Tree) → shared_key self.old.keypos spec.now ≡ Some key → fits key ≡ false → Stays self.old self.new }
+        ensures comes { ComesTo (S.knows self.old) (S.knows self.new) budget (Select spec.now) result }
+        ensures made { HasMade S.knows S.promises W.asked (Select spec.now) self.old self.new result }
+        ensures done { shared_key (S.knows self.old).keypos spec.now ≢ None → IfOk result (λ outcome. IsDone outcome) }
+        ensures stays { (key : Tree) → shared_key (S.knows self.old).keypos spec.now ≡ Some key
+            → fits key ≡ false → Stays (S.knows self.old) (S.knows self.new) }
     {
         let Ok(compiled) = specification(alloc, spec) else {
             return Err(AllocError);
@@ -69,7 +73,8 @@ impl<S: OrderedStore + Drop> Table<S> {
         budget: u32,
     ) -> Played
         requires { 1 ≤ budget }
-        ensures { ComesTo self.old self.new budget (SelectRange lo.now hi.now spec.now) result }
+        ensures comes { ComesTo (S.knows self.old) (S.knows self.new) budget (SelectRange lo.now hi.now spec.now) result }
+        ensures made { HasMade S.knows S.promises W.asked (SelectRange lo.now hi.now spec.now) self.old self.new result }
     {
         let Ok(compiled) = specification(alloc, spec) else {
             return Err(AllocError);
@@ -88,7 +93,7 @@ impl<S: OrderedStore + Drop> Table<S> {
         let lower = Edge::At(low.as_slice());
         let upper = Edge::At(high.as_slice());
         match self.within(alloc, &spec, lower, upper, None, budget) {
-            Ok(found) => Ok(Outcome::Done(Reply::List(found.results))),
+            Ok(found) => Ok(Outcome::Done(found.results.into_reply())),
             Err(Stop::Refused(refusal)) => Ok(refusal),
             Err(Stop::NoMemory) => Err(AllocError),
         }
@@ -98,11 +103,12 @@ impl<S: OrderedStore + Drop> Table<S> {
     fn select_all(&mut self, alloc: Global, spec: &Spec, budget: u32) -> Played
         requires budget { 1 ≤ budget }
         requires specification { IsSpecification spec.now }
-        requires several { shared_key self.old.keypos spec.now ≡ None }
-        ensures { ComesTo self.old self.new budget (Select spec.now) result }
+        requires several { shared_key (S.knows self.old).keypos spec.now ≡ None }
+        ensures comes { ComesTo (S.knows self.old) (S.knows self.new) budget (Select spec.now) result }
+        ensures made { HasMade S.knows S.promises W.asked (Select spec.now) self.old self.new result }
     {
         match self.within(alloc, spec, Edge::Open, Edge::Open, None, budget) {
-            Ok(found) => Ok(Outcome::Done(Reply::List(found.results))),
+            Ok(found) => Ok(Outcome::Done(found.results.into_reply())),
             Err(Stop::Refused(refusal)) => Ok(refusal),
             Err(Stop::NoMemory) => Err(AllocError),
         }
@@ -112,11 +118,12 @@ impl<S: OrderedStore + Drop> Table<S> {
     fn select_key(&mut self, alloc: Global, spec: &Spec, key: &Term, budget: u32) -> Played
         requires budget { 1 ≤ budget }
         requires specification { IsSpecification spec.now }
-        requires positive { 1 ≤ self.old.keypos }
-        requires covers { (object : Tree) → result_of spec.now object ≢ None → key_of self.old.keypos object ≡ key.now }
-        ensures comes { ComesTo self.old self.new budget (Select spec.now) result }
+        requires positive { 1 ≤ (S.knows self.old).keypos }
+        requires covers { (object : Tree) → result_of spec.now object ≢ None → key_of (S.knows self.old).keypos object ≡ key.now }
+        ensures comes { ComesTo (S.knows self.old) (S.knows self.new) budget (Select spec.now) result }
+        ensures made { HasMade S.knows S.promises W.asked (Select spec.now) self.old self.new result }
         ensures done { IfOk result (λ outcome. IsDone outcome) }
-        ensures stays { fits key.now ≡ false → Stays self.old self.new }
+        ensures stays { fits key.now ≡ false → Stays (S.knows self.old) (S.knows self.new) }
     {
         let mut code = Code::new();
         let Ok(()) = key_code(key, &mut code) else {
@@ -130,6 +137,6 @@ impl<S: OrderedStore + Drop> Table<S> {
         let Ok(()) = found.add(alloc, spec, None, &object) else {
             return Err(AllocError);
         };
-        Ok(Outcome::Done(Reply::List(found.results)))
+        Ok(Outcome::Done(found.results.into_reply()))
     }
 }

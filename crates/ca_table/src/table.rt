@@ -20,10 +20,13 @@ ghost use Rattle.ca_table.specs.Collected.{AreWithin, IsStopped};
 ghost use Rattle.ca_ets.specs.Unless.{IsUnless};
 ghost use Rattle.ca_ets.specs.Update.{IsFilledList};
 ghost use Rattle.ca_table.specs.ComesTo.{ComesTo, ComesToFrom, EditsNothing, IsEmptyUpdate};
+ghost use Rattle.ca_table.specs.Made.{HasDeclined, HasEdited, HasMade, HasRead, HasReadKeys};
 ghost use Rattle.ca_table.specs.Renewed.{Updated, by_element, by_operations};
 ghost use Rattle.ca_table.specs.Refusals.{IsRefusal, IsSame, RemovedSame};
+ghost use Rattle.ca_table.specs.ResultsView.{results_of};
 
 use crate::codes::{KeyRange, asked_element, key_code, key_of, object_code, only};
+use crate::follower::{Follower, Unfollowed};
 use crate::outcome::{ONE_LOST, Played, Stop, done};
 use crate::reply::Room;
 use crate::run::{Collected, results_within};
@@ -35,46 +38,60 @@ use ca_order::encode;
 use ca_spec::Spec;
 use ca_term::{Add, Term, Terms};
 use std::alloc::{AllocError, Global};
-use std::marker::Model;
+use std::marker::{Model, PhantomData};
 
-/// An `ordered_set` over a store of bytes. Contracts see what is known of the store.
+/// An `ordered_set` over a store of bytes. Contracts see the store: what is known of it, and what it promises of the calls that a command made. Of the calls
+/// that ask a function they tell what the follower says.
 #[derive(Drop)]
-pub struct Table<S: OrderedStore + Drop> {
+pub struct Table<S: OrderedStore + Drop, W: Follower<S> = Unfollowed> {
     store: S,
     keypos: u32,
+    follower: PhantomData<W>,
     // the specification of the last batch, compiled
     recent: Option<Spec>,
 }
 
-impl<S: OrderedStore + Drop> Model for Table<S> {
+impl<S: OrderedStore + Drop, W: Follower<S>> Model for Table<S, W> {
     ghost use Rattle.std.specs.Prelude.{◌≡◌, ◌≤◌, None};
-    ghost use Rattle.ca_model.specs.Known.{Known};
 
-    ghost Value = { Known };
+    ghost Value = { S };
 
-    ghost view = { λ t. S.knows t.store };
+    ghost view = { λ t. t.store };
 
     ghost invariant = { λ t. (t.keypos ≡ (S.knows t.store).keypos) × (1 ≤ t.keypos) × ((S.knows t.store).run ≡ None) };
 }
 
 impl<S: OrderedStore + Drop> Table<S> {
-    /// The table of a store whose `keypos` this is, counted from 1. The store has no run open.
+    /// The table of a store whose `keypos` this is, counted from 1, and which nobody follows. The store has no run open.
     pub fn new(store: S, keypos: u32) -> Table<S>
         requires keypos { keypos ≡ (S.knows store).keypos }
         requires positive { 1 ≤ keypos }
         requires closed { (S.knows store).run ≡ None }
-        ensures { result ≡ S.knows store }
+        ensures { result ≡ store }
+    {
+        Table::followed(store, keypos)
+    }
+}
+
+impl<S: OrderedStore + Drop, W: Follower<S>> Table<S, W> {
+    /// The table of a store whose `keypos` this is, counted from 1, and which `W` follows. The store has no run open.
+    pub fn followed(store: S, keypos: u32) -> Table<S, W>
+        requires keypos { keypos ≡ (S.knows store).keypos }
+        requires positive { 1 ≤ keypos }
+        requires closed { (S.knows store).run ≡ None }
+        ensures { result ≡ store }
     {
         Table {
             store,
             keypos,
+            follower: PhantomData,
             recent: None,
         }
     }
 
     /// The store. It has no run open.
     pub fn into_store(self) -> S
-        ensures store { S.knows result ≡ self }
+        ensures store { result ≡ self }
         ensures closed { (S.knows result).run ≡ None }
     {
         self.store
@@ -82,7 +99,7 @@ impl<S: OrderedStore + Drop> Table<S> {
 
     /// Does this to the store, and answers whether doing it again may come to more.
     pub fn tend<U: Upkeep<S>>(&mut self, upkeep: &U) -> bool
-        ensures { self.new ≡ self.old }
+        ensures { S.knows self.new ≡ S.knows self.old }
     {
         upkeep.tend(&mut self.store)
     }
@@ -93,11 +110,13 @@ impl<S: OrderedStore + Drop> Table<S> {
     pub fn apply(&mut self, alloc: Global, cmd: &Cmd, cont: &mut Cont, budget: u32) -> Played
         requires budget { 1 ≤ budget }
         requires continuation { IsContinuation (continuation_of cont.old) }
-        ensures comes { ComesToFrom self.old self.new budget cmd.now (continuation_of cont.old) (continuation_of cont.new) result }
+        ensures comes { ComesToFrom (S.knows self.old) (S.knows self.new) budget cmd.now (continuation_of cont.old) (continuation_of cont.new) result }
+        ensures made { HasMade S.knows S.promises W.asked cmd.now self.old self.new result }
         ensures continuation { IsContinuation (continuation_of cont.new) }
-        ensures stays { (s key : Tree) → cmd.now ≡ Select s → shared_key self.old.keypos s ≡ Some key → fits key ≡ false → Stays self.old self.new }
-        ensures read { IsEmptyUpdate self.old.keypos (nature_of cmd.now).asks → EditsNothing self.old self.new }
-        ensures done { IsEmptyUpdate self.old.keypos (nature_of cmd.now).asks → IfOk result (λ outcome. IsDone outcome) }
+        ensures stays { (s key : Tree) → cmd.now ≡ Select s → shared_key (S.knows self.old).keypos s ≡ Some key → fits key ≡ false
+            → Stays (S.knows self.old) (S.knows self.new) }
+        ensures read { IsEmptyUpdate (S.knows self.old).keypos (nature_of cmd.now).asks → EditsNothing (S.knows self.old) (S.knows self.new) }
+        ensures done { IsEmptyUpdate (S.knows self.old).keypos (nature_of cmd.now).asks → IfOk result (λ outcome. IsDone outcome) }
     {
         match cmd {
             Cmd::Insert(object) => self.insert(object, budget),
@@ -122,7 +141,8 @@ impl<S: OrderedStore + Drop> Table<S> {
     /// `insert`: it replaces the object of an equal key. `Err` where the store found no memory for a new key.
     pub fn insert(&mut self, object: &Term, budget: u32) -> Played
         requires { 1 ≤ budget }
-        ensures { ComesTo self.old self.new budget (Insert object.now) result }
+        ensures comes { ComesTo (S.knows self.old) (S.knows self.new) budget (Insert object.now) result }
+        ensures made { HasMade S.knows S.promises W.asked (Insert object.now) self.old self.new result }
     {
         let mut code = Code::new();
         let key = match self.object_code(object, &mut code) {
@@ -141,7 +161,8 @@ impl<S: OrderedStore + Drop> Table<S> {
     /// `insert_new`: it inserts where no object has the key. `Err` where the store found no memory for a new key.
     pub fn insert_new(&mut self, object: &Term, budget: u32) -> Played
         requires { 1 ≤ budget }
-        ensures { ComesTo self.old self.new budget (InsertNew object.now) result }
+        ensures comes { ComesTo (S.knows self.old) (S.knows self.new) budget (InsertNew object.now) result }
+        ensures made { HasMade S.knows S.promises W.asked (InsertNew object.now) self.old self.new result }
     {
         let mut code = Code::new();
         let key = match self.object_code(object, &mut code) {
@@ -160,7 +181,8 @@ impl<S: OrderedStore + Drop> Table<S> {
     /// `lookup`: the list of the key's object, or the empty list. It is never refused; `Err` where memory for the list wasn't found.
     pub fn lookup(&mut self, alloc: Global, key: &Term, budget: u32) -> Played
         requires { 1 ≤ budget }
-        ensures comes { ComesTo self.old self.new budget (Lookup key.now) result }
+        ensures comes { ComesTo (S.knows self.old) (S.knows self.new) budget (Lookup key.now) result }
+        ensures made { HasMade S.knows S.promises W.asked (Lookup key.now) self.old self.new result }
         ensures done { IfOk result (λ outcome. IsDone outcome) }
     {
         let mut code = Code::new();
@@ -174,13 +196,14 @@ impl<S: OrderedStore + Drop> Table<S> {
         let Ok(list) = only(alloc, &object) else {
             return Err(AllocError);
         };
-        Ok(Outcome::Done(Reply::List(list)))
+        Ok(Outcome::Done(Reply::Coded(list)))
     }
 
     /// `member`: whether an object has the key. It is never refused, and takes no memory.
     pub fn member(&mut self, key: &Term, budget: u32) -> Played
         requires { 1 ≤ budget }
-        ensures comes { ComesTo self.old self.new budget (Member key.now) result }
+        ensures comes { ComesTo (S.knows self.old) (S.knows self.new) budget (Member key.now) result }
+        ensures made { HasMade S.knows S.promises W.asked (Member key.now) self.old self.new result }
         ensures done { IfOk result (λ outcome. IsDone outcome) }
         ensures ok { IsOk result }
     {
@@ -195,7 +218,8 @@ impl<S: OrderedStore + Drop> Table<S> {
     /// `delete`: no object has the key behind it. It takes no memory.
     pub fn delete(&mut self, key: &Term, budget: u32) -> Played
         requires { 1 ≤ budget }
-        ensures comes { ComesTo self.old self.new budget (Delete key.now) result }
+        ensures comes { ComesTo (S.knows self.old) (S.knows self.new) budget (Delete key.now) result }
+        ensures made { HasMade S.knows S.promises W.asked (Delete key.now) self.old self.new result }
         ensures ok { IsOk result }
     {
         let mut code = Code::new();
@@ -213,7 +237,8 @@ impl<S: OrderedStore + Drop> Table<S> {
     /// turn. `Err` where memory for the list wasn't found; then the object stays.
     pub fn take(&mut self, alloc: Global, key: &Term, budget: u32) -> Played
         requires { 1 ≤ budget }
-        ensures { ComesTo self.old self.new budget (Take key.now) result }
+        ensures comes { ComesTo (S.knows self.old) (S.knows self.new) budget (Take key.now) result }
+        ensures made { HasMade S.knows S.promises W.asked (Take key.now) self.old self.new result }
     {
         let mut code = Code::new();
         if let Err(fault) = key_code(key, &mut code) {
@@ -227,7 +252,7 @@ impl<S: OrderedStore + Drop> Table<S> {
             return Err(AllocError);
         };
         match self.remove_same(&code, &object, budget) {
-            Ok(Changed::Put) => return Ok(Outcome::Done(Reply::List(list))),
+            Ok(Changed::Put) => return Ok(Outcome::Done(Reply::Coded(list))),
             Ok(Changed::Absent) => return Ok(Outcome::Done(Reply::List(Terms::new(alloc)))),
             Ok(Changed::Kept) => return Ok(Outcome::Busy(ONE_LOST)),
             Err(refusal) => return Ok(refusal),
@@ -238,9 +263,10 @@ impl<S: OrderedStore + Drop> Table<S> {
     /// a list of no operations only reads. `Err` where memory for a list of operations or for the reply's wasn't found; then nothing was edited.
     pub fn update_counter(&mut self, alloc: Global, key: &Term, op: &Term, budget: u32) -> Played
         requires { 1 ≤ budget }
-        ensures comes { ComesTo self.old self.new budget (UpdateCounter key.now op.now) result }
-        ensures read { IsEmptyUpdate self.old.keypos (EditsBy op.now) → EditsNothing self.old self.new }
-        ensures done { IsEmptyUpdate self.old.keypos (EditsBy op.now) → IfOk result (λ outcome. IsDone outcome) }
+        ensures comes { ComesTo (S.knows self.old) (S.knows self.new) budget (UpdateCounter key.now op.now) result }
+        ensures made { HasMade S.knows S.promises W.asked (UpdateCounter key.now op.now) self.old self.new result }
+        ensures read { IsEmptyUpdate (S.knows self.old).keypos (EditsBy op.now) → EditsNothing (S.knows self.old) (S.knows self.new) }
+        ensures done { IsEmptyUpdate (S.knows self.old).keypos (EditsBy op.now) → IfOk result (λ outcome. IsDone outcome) }
         ensures lack { OnErr result (IsFilledList op.now) }
     {
         let keypos = self.keypos();
@@ -279,7 +305,8 @@ impl<S: OrderedStore + Drop> Table<S> {
     /// `update_element`: another element in the key's object, by its code. It takes no memory.
     pub fn update_element(&mut self, key: &Term, op: &Term, budget: u32) -> Played
         requires { 1 ≤ budget }
-        ensures comes { ComesTo self.old self.new budget (UpdateElement key.now op.now) result }
+        ensures comes { ComesTo (S.knows self.old) (S.knows self.new) budget (UpdateElement key.now op.now) result }
+        ensures made { HasMade S.knows S.promises W.asked (UpdateElement key.now op.now) self.old self.new result }
         ensures ok { IsOk result }
     {
         let keypos = self.keypos();
@@ -312,7 +339,8 @@ impl<S: OrderedStore + Drop> Table<S> {
     /// `first`: the least key of the table, or its end. `Err` where memory for the key wasn't found.
     pub fn first(&mut self, alloc: Global, budget: u32) -> Played
         requires { 1 ≤ budget }
-        ensures { ComesTo self.old self.new budget First result }
+        ensures comes { ComesTo (S.knows self.old) (S.knows self.new) budget First result }
+        ensures made { HasMade S.knows S.promises W.asked First self.old self.new result }
     {
         let keypos = self.keypos();
         let mut object = Code::new();
@@ -331,7 +359,8 @@ impl<S: OrderedStore + Drop> Table<S> {
     /// `last`: the greatest key of the table, or its end. `Err` where memory for the key wasn't found.
     pub fn last(&mut self, alloc: Global, budget: u32) -> Played
         requires { 1 ≤ budget }
-        ensures { ComesTo self.old self.new budget Last result }
+        ensures comes { ComesTo (S.knows self.old) (S.knows self.new) budget Last result }
+        ensures made { HasMade S.knows S.promises W.asked Last self.old self.new result }
     {
         let keypos = self.keypos();
         let mut object = Code::new();
@@ -350,7 +379,8 @@ impl<S: OrderedStore + Drop> Table<S> {
     /// `next`: the least key above this one, which need not be in the table, or the table's end. `Err` where memory for the key wasn't found.
     pub fn next(&mut self, alloc: Global, key: &Term, budget: u32) -> Played
         requires { 1 ≤ budget }
-        ensures { ComesTo self.old self.new budget (Next key.now) result }
+        ensures comes { ComesTo (S.knows self.old) (S.knows self.new) budget (Next key.now) result }
+        ensures made { HasMade S.knows S.promises W.asked (Next key.now) self.old self.new result }
     {
         let keypos = self.keypos();
         let mut code = Code::new();
@@ -374,7 +404,8 @@ impl<S: OrderedStore + Drop> Table<S> {
     /// found.
     pub fn prev(&mut self, alloc: Global, key: &Term, budget: u32) -> Played
         requires { 1 ≤ budget }
-        ensures { ComesTo self.old self.new budget (Prev key.now) result }
+        ensures comes { ComesTo (S.knows self.old) (S.knows self.new) budget (Prev key.now) result }
+        ensures made { HasMade S.knows S.promises W.asked (Prev key.now) self.old self.new result }
     {
         let keypos = self.keypos();
         let mut code = Code::new();
@@ -396,32 +427,34 @@ impl<S: OrderedStore + Drop> Table<S> {
 }
 
 // The table's `keypos`, and objects by it.
-impl<S: OrderedStore + Drop> Table<S> {
+impl<S: OrderedStore + Drop, W: Follower<S>> Table<S, W> {
     // Which element of an object is its key, counted from 1.
     pub(crate) fn keypos(&self) -> u32
-        ensures value { result ≡ self.now.keypos }
-        ensures positive { 1 ≤ self.now.keypos }
+        ensures value { result ≡ (S.knows self.now).keypos }
+        ensures positive { 1 ≤ (S.knows self.now).keypos }
     {
         self.keypos
     }
 
     // Writes the code of an object into `into`: where its key stands in it, or why the object is refused.
     fn object_code(&self, object: &Term, into: &mut Code) -> Result<KeyRange, Fault>
-        ensures code { IsUnless (fault_of_object self.now.keypos object.now)
-            (λ key. HasObjectCode self.now.keypos object.now into.new.items key.start key.end) result }
-        ensures positive { 1 ≤ self.now.keypos }
+        ensures code { IsUnless (fault_of_object (S.knows self.now).keypos object.now)
+            (λ key. HasObjectCode (S.knows self.now).keypos object.now into.new.items key.start key.end) result }
+        ensures positive { 1 ≤ (S.knows self.now).keypos }
     {
         object_code(object, self.keypos, into)
     }
 }
 
 // The calls of the store, with what is known of it in the table's words.
-impl<S: OrderedStore + Drop> Table<S> {
+impl<S: OrderedStore + Drop, W: Follower<S>> Table<S, W> {
     // Makes room for a new key.
     fn reserve(&mut self) -> Result<(), AllocError>
-        ensures room { OnOk result (1 ≤ self.new.spare) }
-        ensures lack { OnErr result (self.old.spare ≡ 0) }
-        ensures stays { Stays self.old self.new }
+        ensures room { OnOk result (1 ≤ (S.knows self.new).spare) }
+        ensures lack { OnErr result ((S.knows self.old).spare ≡ 0) }
+        ensures stays { Stays (S.knows self.old) (S.knows self.new) }
+        ensures by_key { HasReadKeys S.promises self.old self.new }
+        ensures read { HasRead S.promises self.old self.new }
     {
         self.store.reserve()
     }
@@ -430,7 +463,9 @@ impl<S: OrderedStore + Drop> Table<S> {
     pub(crate) fn get(&mut self, key: &Code, into: &mut Code, budget: u32) -> bool
         requires budget { 1 ≤ budget }
         requires key { 1 ≤ length key.now.items }
-        ensures { Got self.old self.new key.now.items result into.new.items }
+        ensures by_key { HasReadKeys S.promises self.old self.new }
+        ensures read { HasRead S.promises self.old self.new }
+        ensures got { Got (S.knows self.old) (S.knows self.new) key.now.items result into.new.items }
     {
         let Outcome::Done(found) = self.store.get(key.as_slice(), into, budget) else {
             unreachable!()
@@ -441,11 +476,15 @@ impl<S: OrderedStore + Drop> Table<S> {
     // Puts the object, in the place of its key's object where there is one.
     fn put(&mut self, object: &Code, key: KeyRange, budget: u32) -> Result<(), Outcome<Reply>>
         requires budget { 1 ≤ budget }
-        requires room { 1 ≤ self.old.spare }
+        requires room { 1 ≤ (S.knows self.old).spare }
         requires place { (key.start ≤ key.end) × (key.end ≤ length object.now.items) }
-        requires pair { IsPair self.old.keypos (slice_range object.now.items key.start key.end, object.now.items) }
-        ensures put { OnOk result (Meets self.old self.new (Write (slice_range object.now.items key.start key.end) object.now.items)) }
-        ensures refused { IfErr result (λ refusal. IsRefusal self.old self.new budget refusal) }
+        requires pair { IsPair (S.knows self.old).keypos (slice_range object.now.items key.start key.end, object.now.items) }
+        ensures put { OnOk result (Meets (S.knows self.old) (S.knows self.new) (Write (slice_range object.now.items key.start key.end) object.now.items)) }
+        ensures refused { IfErr result (λ refusal. IsRefusal (S.knows self.old) (S.knows self.new) budget refusal) }
+        ensures edited { IfOk result (λ _.
+            HasEdited S.promises W.asked (Some (slice_range object.now.items key.start key.end)) None self.old self.new) }
+        ensures declined { IfErr result (λ answer.
+            HasDeclined S.promises W.asked (Some (slice_range object.now.items key.start key.end)) answer self.old self.new) }
     {
         let KeyRange { start, end } = key;
         done(self.store.put(object.as_slice(), start, end, budget))
@@ -454,11 +493,16 @@ impl<S: OrderedStore + Drop> Table<S> {
     // Puts the object where no object has its key, and answers whether it did.
     fn put_new(&mut self, object: &Code, key: KeyRange, budget: u32) -> Result<bool, Outcome<Reply>>
         requires budget { 1 ≤ budget }
-        requires room { 1 ≤ self.old.spare }
+        requires room { 1 ≤ (S.knows self.old).spare }
         requires place { (key.start ≤ key.end) × (key.end ≤ length object.now.items) }
-        requires pair { IsPair self.old.keypos (slice_range object.now.items key.start key.end, object.now.items) }
-        ensures put { IfOk result (λ new. Meets self.old self.new (WriteNew (slice_range object.now.items key.start key.end) object.now.items new)) }
-        ensures refused { IfErr result (λ refusal. IsRefusal self.old self.new budget refusal) }
+        requires pair { IsPair (S.knows self.old).keypos (slice_range object.now.items key.start key.end, object.now.items) }
+        ensures put { IfOk result (λ new.
+            Meets (S.knows self.old) (S.knows self.new) (WriteNew (slice_range object.now.items key.start key.end) object.now.items new)) }
+        ensures refused { IfErr result (λ refusal. IsRefusal (S.knows self.old) (S.knows self.new) budget refusal) }
+        ensures edited { IfOk result (λ _.
+            HasEdited S.promises W.asked (Some (slice_range object.now.items key.start key.end)) None self.old self.new) }
+        ensures declined { IfErr result (λ answer.
+            HasDeclined S.promises W.asked (Some (slice_range object.now.items key.start key.end)) answer self.old self.new) }
     {
         let KeyRange { start, end } = key;
         done(self.store.put_new(object.as_slice(), start, end, budget))
@@ -468,8 +512,10 @@ impl<S: OrderedStore + Drop> Table<S> {
     fn remove(&mut self, key: &Code, old: &mut Code, budget: u32) -> Result<bool, Outcome<Reply>>
         requires budget { 1 ≤ budget }
         requires key { 1 ≤ length key.now.items }
-        ensures removed { IfOk result (λ was. Removed self.old self.new key.now.items was old.new.items) }
-        ensures refused { IfErr result (λ refusal. IsRefusal self.old self.new budget refusal) }
+        ensures removed { IfOk result (λ was. Removed (S.knows self.old) (S.knows self.new) key.now.items was old.new.items) }
+        ensures refused { IfErr result (λ refusal. IsRefusal (S.knows self.old) (S.knows self.new) budget refusal) }
+        ensures edited { IfOk result (λ _. HasEdited S.promises W.asked None None self.old self.new) }
+        ensures declined { IfErr result (λ answer. HasDeclined S.promises W.asked None answer self.old self.new) }
         ensures never_deep { IfErr result (λ refusal. IsNeverDeep refusal) }
     {
         done(self.store.remove(key.as_slice(), old, budget))
@@ -484,8 +530,10 @@ impl<S: OrderedStore + Drop> Table<S> {
     ) -> Result<Changed, Outcome<Reply>>
         requires budget { 1 ≤ budget }
         requires key { 1 ≤ length key.now.items }
-        ensures removed { IfOk result (λ changed. RemovedSame self.old self.new key.now.items object.now.items changed) }
-        ensures refused { IfErr result (λ refusal. IsRefusal self.old self.new budget refusal) }
+        ensures removed { IfOk result (λ changed. RemovedSame (S.knows self.old) (S.knows self.new) key.now.items object.now.items changed) }
+        ensures refused { IfErr result (λ refusal. IsRefusal (S.knows self.old) (S.knows self.new) budget refusal) }
+        ensures edited { IfOk result (λ _. HasEdited S.promises W.asked None None self.old self.new) }
+        ensures declined { IfErr result (λ answer. HasDeclined S.promises W.asked None answer self.old self.new) }
         ensures never_deep { IfErr result (λ refusal. IsNeverDeep refusal) }
     {
         let read = object.as_slice();
@@ -493,18 +541,16 @@ impl<S: OrderedStore + Drop> Table<S> {
             ensures { IsSame result bytes.now read.entry.now }
         { bytes == read };
         let mut old = Code::new();
-        done(
-            self.store
-                .remove_if(key.as_slice(), &same, &mut old, budget),
-        )
+        done(W::remove_if(&mut self.store, key.as_slice(), &same, &mut old, budget))
     }
 
     // Whether an object is within the lower edge; then `into` is the first one.
     fn above(&mut self, lo: Edge<'_>, into: &mut Code, budget: u32) -> Result<bool, Outcome<Reply>>
         requires budget { 1 ≤ budget }
         requires edge { IsProperBound (bound_of lo) }
-        ensures found { IfOk result (λ found. FoundAbove self.old self.new (bound_of lo.entry) found into.new.items) }
-        ensures refused { IfErr result (λ refusal. IsRefusal self.old self.new budget refusal) }
+        ensures read { HasRead S.promises self.old self.new }
+        ensures found { IfOk result (λ found. FoundAbove (S.knows self.old) (S.knows self.new) (bound_of lo.entry) found into.new.items) }
+        ensures refused { IfErr result (λ refusal. IsRefusal (S.knows self.old) (S.knows self.new) budget refusal) }
         ensures never_deep { IfErr result (λ refusal. IsNeverDeep refusal) }
     {
         done(self.store.above(lo, into, budget))
@@ -514,8 +560,9 @@ impl<S: OrderedStore + Drop> Table<S> {
     fn below(&mut self, hi: Edge<'_>, into: &mut Code, budget: u32) -> Result<bool, Outcome<Reply>>
         requires budget { 1 ≤ budget }
         requires edge { IsProperBound (bound_of hi) }
-        ensures found { IfOk result (λ found. FoundBelow self.old self.new (bound_of hi.entry) found into.new.items) }
-        ensures refused { IfErr result (λ refusal. IsRefusal self.old self.new budget refusal) }
+        ensures read { HasRead S.promises self.old self.new }
+        ensures found { IfOk result (λ found. FoundBelow (S.knows self.old) (S.knows self.new) (bound_of hi.entry) found into.new.items) }
+        ensures refused { IfErr result (λ refusal. IsRefusal (S.knows self.old) (S.knows self.new) budget refusal) }
         ensures never_deep { IfErr result (λ refusal. IsNeverDeep refusal) }
     {
         done(self.store.below(hi, into, budget))
@@ -531,12 +578,14 @@ impl<S: OrderedStore + Drop> Table<S> {
     ) -> Result<Changed, Outcome<Reply>>
         requires budget { 1 ≤ budget }
         requires key { 1 ≤ length key.now.items }
-        ensures updated { IfOk result (λ changed. Updated self.old self.new key.now.items
-            (by_operations self.old.keypos (map addition_of adds.now)) changed object.new.items) }
-        ensures refused { IfErr result (λ refusal. IsRefusal self.old self.new budget refusal) }
+        ensures updated { IfOk result (λ changed. Updated (S.knows self.old) (S.knows self.new) key.now.items
+            (by_operations (S.knows self.old).keypos (map addition_of adds.now)) changed object.new.items) }
+        ensures refused { IfErr result (λ refusal. IsRefusal (S.knows self.old) (S.knows self.new) budget refusal) }
+        ensures edited { IfOk result (λ _. HasEdited S.promises W.asked None None self.old self.new) }
+        ensures declined { IfErr result (λ answer. HasDeclined S.promises W.asked None answer self.old self.new) }
         ensures never_deep { IfErr result (λ refusal. IsNeverDeep refusal) }
     {
-        done(count(&mut self.store, key, self.keypos, adds, object, budget))
+        done(count::<S, W>(&mut self.store, key, self.keypos, adds, object, budget))
     }
 
     // Puts another element, of this code, into the key's object, if it is there; then `object` is the one before it.
@@ -550,14 +599,16 @@ impl<S: OrderedStore + Drop> Table<S> {
     ) -> Result<Changed, Outcome<Reply>>
         requires budget { 1 ≤ budget }
         requires key { 1 ≤ length key.now.items }
-        requires pos { IsTrue (is_open self.old.keypos pos) }
+        requires pos { IsTrue (is_open (S.knows self.old).keypos pos) }
         requires value { (v : Tree) × IsElementCode v value.now.items }
         ensures updated { (v : Tree) → IsElementCode v value.now.items → IfOk result (λ changed.
-            Updated self.old self.new key.now.items (by_element pos v) changed object.new.items) }
-        ensures refused { IfErr result (λ refusal. IsRefusal self.old self.new budget refusal) }
+            Updated (S.knows self.old) (S.knows self.new) key.now.items (by_element pos v) changed object.new.items) }
+        ensures refused { IfErr result (λ refusal. IsRefusal (S.knows self.old) (S.knows self.new) budget refusal) }
+        ensures edited { IfOk result (λ _. HasEdited S.promises W.asked None None self.old self.new) }
+        ensures declined { IfErr result (λ answer. HasDeclined S.promises W.asked None answer self.old self.new) }
         ensures never_deep { IfErr result (λ refusal. IsNeverDeep refusal) }
     {
-        done(replace(
+        done(replace::<S, W>(
             &mut self.store,
             key,
             self.keypos,
@@ -595,9 +646,11 @@ impl<S: OrderedStore + Drop> Table<S> {
         requires budget { 1 ≤ budget }
         requires lower_edge { IsProperBound (bound_of lo) }
         requires upper_edge { IsProperBound (bound_of hi) }
-        ensures within { IfOk result (λ c. AreWithin self.old self.new (bound_of lo.entry) (bound_of hi.entry) spec.now limit c.results.items c.last) }
-        ensures stopped { IfErr result (λ stop. IsStopped self.old self.new budget stop) }
-        ensures positive { 1 ≤ self.old.keypos }
+        ensures read { HasRead S.promises self.old self.new }
+        ensures within { IfOk result (λ c.
+            AreWithin (S.knows self.old) (S.knows self.new) (bound_of lo.entry) (bound_of hi.entry) spec.now limit (results_of c.results) c.last) }
+        ensures stopped { IfErr result (λ stop. IsStopped (S.knows self.old) (S.knows self.new) budget stop) }
+        ensures positive { 1 ≤ (S.knows self.old).keypos }
     {
         results_within(&mut self.store, alloc, spec, lo, hi, limit, budget)
     }

@@ -12,13 +12,14 @@ ghost use Rattle.ca_model.specs.Known.{Declines};
 ghost use Rattle.ca_model.specs.Answer.{IfDone, IfRefused, IfBusy, IsNeverDeep};
 ghost use Rattle.ca_table.specs.Renewed.{IsObjectCode, IsUpdate, Renews, Updated, by_element, by_operations};
 
+use crate::follower::Follower;
 use ca_ets::Fault;
 use ca_model::{Changed, Code, OrderedStore, Outcome};
 use ca_order::{Patched, object_parts, patch, set};
 use ca_term::Add;
 
 // Carries out operations on counters of the key's object: none but those that all pass together. `old` is the object before them.
-pub(crate) fn count<S: OrderedStore>(
+pub(crate) fn count<S: OrderedStore, W: Follower<S>>(
     store: &mut S,
     key: &Code,
     keypos: u32,
@@ -36,6 +37,7 @@ pub(crate) fn count<S: OrderedStore>(
     ensures refused { IfRefused result (λ rise. Declines (S.knows store.old) (S.knows store.new) (rise (S.knows store.old).counts)) }
     ensures never_deep { IsNeverDeep result }
     ensures busy { IfBusy result (λ spent. budget ≤ spent) }
+    ensures asked { W.asked budget store.old store.new result }
     ensures closed { (S.knows store.new).run ≡ None }
 {
     let renew = |object: &[u8], into: &mut Code, at: &mut usize| -> bool
@@ -43,11 +45,11 @@ pub(crate) fn count<S: OrderedStore>(
         ensures { (row : Row) → IsObjectCode keypos row object.now
             → Renews keypos (Tuple row) (by_operations keypos (map addition_of adds.entry.now) (Tuple row)) result into.new.items at.new }
     { counted(object, keypos, adds, into, at) };
-    store.change(key.as_slice(), &renew, old, budget)
+    W::change(store, key.as_slice(), &renew, old, budget)
 }
 
 // Puts another element, of this code, into the key's object. `old` is the object before it.
-pub(crate) fn replace<S: OrderedStore>(
+pub(crate) fn replace<S: OrderedStore, W: Follower<S>>(
     store: &mut S,
     key: &Code,
     keypos: u32,
@@ -68,6 +70,7 @@ pub(crate) fn replace<S: OrderedStore>(
     ensures refused { IfRefused result (λ rise. Declines (S.knows store.old) (S.knows store.new) (rise (S.knows store.old).counts)) }
     ensures never_deep { IsNeverDeep result }
     ensures busy { IfBusy result (λ spent. budget ≤ spent) }
+    ensures asked { W.asked budget store.old store.new result }
     ensures closed { (S.knows store.new).run ≡ None }
 {
     let renew = |object: &[u8], into: &mut Code, at: &mut usize| -> bool
@@ -78,7 +81,7 @@ pub(crate) fn replace<S: OrderedStore>(
         ensures { (row : Row) (v : Tree) → IsObjectCode keypos row object.now → IsElementCode v value.entry.now.items
             → Renews keypos (Tuple row) (by_element pos v (Tuple row)) result into.new.items at.new }
     { replaced(object, keypos, pos, value, into, at) };
-    store.change(key.as_slice(), &renew, old, budget)
+    W::change(store, key.as_slice(), &renew, old, budget)
 }
 
 // Writes what operations leave of an object, and where its key begins there.

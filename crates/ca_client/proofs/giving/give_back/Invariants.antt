@@ -3,4 +3,4 @@ use Rattle.ca_client.proofs.giving.give_back.Given as goal
 
 -- nothing that is known of the table changes
 abbrev pub invariant-loop-waits : goal.invariant-loop-waits
-invariant-loop-waits g l = l.table ≡ l.initial.table
+invariant-loop-waits g l = g.S.OrderedStore.knows l.table ≡ g.S.OrderedStore.knows l.initial.table

@@ -13,7 +13,7 @@ on_err (Err e) p = p
 
 pub loop-init : goal.loop-init
 loop-init g c = record {
-  tried = not_tried c.args.table.now;
+  tried = not_tried (g.S.OrderedStore.knows c.args.table.now);
   stays = refl;
   continuation = c.requires;
   budget = omega arith;
@@ -22,23 +22,32 @@ loop-init g c = record {
 
 pub returns-in_err-reply-clause-stopped : goal.returns-in_err-reply-clause-stopped
 returns-in_err-reply-clause-stopped g c =
+    let first = g.S.OrderedStore.knows c.args.table.now in
+    let table = g.S.OrderedStore.knows c.loop.table in
+    let next = g.S.OrderedStore.knows c.apply.new.self in
     on_err c.from_residual.result
-    (stopped c.args.table.now c.loop.table c.apply.new.self c.loop.budget c.loop.waits c.loop.invariant.tried
-    (lacking_reads c.loop.table c.apply.new.self (nature_of c.args.cmd.now).takes c.in_err-reply.ensures.comes.0))
+    (stopped first table next c.loop.budget c.loop.waits c.loop.invariant.tried
+    (lacking_reads table next (nature_of c.args.cmd.now).takes c.in_err-reply.ensures.comes.0))
 
 pub returns-in-Done-clause-answered : goal.returns-in-Done-clause-answered
 returns-in-Done-clause-answered g c =
+    let first = g.S.OrderedStore.knows c.args.table.now in
+    let table = g.S.OrderedStore.knows c.loop.table in
+    let next = g.S.OrderedStore.knows c.apply.new.self in
     let once = rw c.in-Done.is at c.in_ok-reply.ensures.comes in
-    replied c.args.table.now c.loop.table c.apply.new.self c.loop.budget c.loop.waits c.loop.invariant.tried
+    replied first table next c.loop.budget c.loop.waits c.loop.invariant.tried
     (continuation_of c.args.cont.now) (continuation_of c.apply.new.cont) c.args.cmd.now (response_of c.in-Done.reply)
-    (subst (λ (k : Continuation). StepsOnce c.loop.table c.apply.new.self k c.args.cmd.now (response_of c.in-Done.reply) (continuation_of c.apply.new.cont))
+    (subst (λ (k : Continuation). StepsOnce table next k c.args.cmd.now (response_of c.in-Done.reply) (continuation_of c.apply.new.cont))
     c.loop.invariant.stays once)
 
 pub loop-preserved-then-budget-lt-MOST_BUDGET : goal.loop-preserved-then-budget-lt-MOST_BUDGET
 loop-preserved-then-budget-lt-MOST_BUDGET g c =
+    let first = g.S.OrderedStore.knows c.args.table.now in
+    let table = g.S.OrderedStore.knows c.loop.table in
+    let next = g.S.OrderedStore.knows c.apply.new.self in
     let busy = rw c.in-Busy.is at c.in_ok-reply.ensures.comes in
     let low = c.loop.invariant.budget in record {
-      tried = tried_again c.args.table.now c.loop.table c.apply.new.self c.loop.budget c.loop.waits (c.loop.budget * 2) c.args.cmd.now c.in-Busy.field-0
+      tried = tried_again first table next c.loop.budget c.loop.waits (c.loop.budget * 2) c.args.cmd.now c.in-Busy.field-0
           c.loop.invariant.tried busy.0 (omega arith) (omega arith);
       stays = busy.1 ∙ c.loop.invariant.stays;
       continuation = c.apply.ensures.continuation;
@@ -48,9 +57,12 @@ loop-preserved-then-budget-lt-MOST_BUDGET g c =
 
 pub loop-preserved-else-budget-lt-MOST_BUDGET : goal.loop-preserved-else-budget-lt-MOST_BUDGET
 loop-preserved-else-budget-lt-MOST_BUDGET g c =
+    let first = g.S.OrderedStore.knows c.args.table.now in
+    let table = g.S.OrderedStore.knows c.loop.table in
+    let next = g.S.OrderedStore.knows c.apply.new.self in
     let busy = rw c.in-Busy.is at c.in_ok-reply.ensures.comes in
     let most = c.if-budget-lt-MOST_BUDGET.false in record {
-      tried = tried_again c.args.table.now c.loop.table c.apply.new.self c.loop.budget c.loop.waits c.loop.budget c.args.cmd.now c.in-Busy.field-0
+      tried = tried_again first table next c.loop.budget c.loop.waits c.loop.budget c.args.cmd.now c.in-Busy.field-0
           c.loop.invariant.tried busy.0 (omega arith) (omega arith);
       stays = busy.1 ∙ c.loop.invariant.stays;
       continuation = c.apply.ensures.continuation;
@@ -60,18 +72,24 @@ loop-preserved-else-budget-lt-MOST_BUDGET g c =
 
 pub returns-then-not-is_worth_a_wait-clause-answered : goal.returns-then-not-is_worth_a_wait-clause-answered
 returns-then-not-is_worth_a_wait-clause-answered g c =
+    let first = g.S.OrderedStore.knows c.args.table.now in
+    let table = g.S.OrderedStore.knows c.loop.table in
+    let next = g.S.OrderedStore.knows c.apply.new.self in
     let full = rw c.in-Full.is at c.in_ok-reply.ensures.comes in
     let last = rw c.if-not-is_worth_a_wait.true at c.is_worth_a_wait.ensures in
-    refused c.args.table.now c.loop.table c.apply.new.self c.loop.budget c.loop.waits c.loop.invariant.tried
+    refused first table next c.loop.budget c.loop.waits c.loop.invariant.tried
     (continuation_of c.args.cont.now) (continuation_of c.apply.new.cont) c.args.cmd.now Full (cause.Full c.in-Full.why) full.0.1
     (full.1 ∙ c.loop.invariant.stays) (at_last c.in-Full.why c.loop.waits last c.loop.invariant.few)
 
 pub loop-preserved : goal.loop-preserved
 loop-preserved g c =
+    let first = g.S.OrderedStore.knows c.args.table.now in
+    let table = g.S.OrderedStore.knows c.loop.table in
+    let next = g.S.OrderedStore.knows c.apply.new.self in
     let full = rw c.in-Full.is at c.in_ok-reply.ensures.comes in
     let worth = rw c.if-not-is_worth_a_wait.false at c.is_worth_a_wait.ensures in
     let few = worth.1 in record {
-      tried = behind_wait c.args.table.now c.loop.table c.apply.new.self c.loop.budget c.loop.waits c.loop.invariant.tried c.in-Full.why full.0.1
+      tried = behind_wait first table next c.loop.budget c.loop.waits c.loop.invariant.tried c.in-Full.why full.0.1
           worth.0 few;
       stays = full.1 ∙ c.loop.invariant.stays;
       continuation = c.apply.ensures.continuation;
@@ -81,14 +99,20 @@ loop-preserved g c =
 
 pub returns-in-Deep-clause-answered : goal.returns-in-Deep-clause-answered
 returns-in-Deep-clause-answered g c =
+    let first = g.S.OrderedStore.knows c.args.table.now in
+    let table = g.S.OrderedStore.knows c.loop.table in
+    let next = g.S.OrderedStore.knows c.apply.new.self in
     let deep = rw c.in-Deep.is at c.in_ok-reply.ensures.comes in
-    refused c.args.table.now c.loop.table c.apply.new.self c.loop.budget c.loop.waits c.loop.invariant.tried
+    refused first table next c.loop.budget c.loop.waits c.loop.invariant.tried
     (continuation_of c.args.cont.now) (continuation_of c.apply.new.cont) c.args.cmd.now Deep (cause.Deep c.in-Deep.field-0) deep.0.1
     (deep.1 ∙ c.loop.invariant.stays) tt
 
 pub returns-in-Worn-clause-answered : goal.returns-in-Worn-clause-answered
 returns-in-Worn-clause-answered g c =
+    let first = g.S.OrderedStore.knows c.args.table.now in
+    let table = g.S.OrderedStore.knows c.loop.table in
+    let next = g.S.OrderedStore.knows c.apply.new.self in
     let worn = rw c.in-Worn.is at c.in_ok-reply.ensures.comes in
-    refused c.args.table.now c.loop.table c.apply.new.self c.loop.budget c.loop.waits c.loop.invariant.tried
+    refused first table next c.loop.budget c.loop.waits c.loop.invariant.tried
     (continuation_of c.args.cont.now) (continuation_of c.apply.new.cont) c.args.cmd.now Worn (cause.Worn c.in-Worn.field-0) worn.0.1
     (worn.1 ∙ c.loop.invariant.stays) tt

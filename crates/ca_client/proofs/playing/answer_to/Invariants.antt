@@ -5,7 +5,7 @@ use Rattle.ca_client.proofs.playing.answer_to.Given as goal
 
 abbrev pub invariant-loop : goal.invariant-loop
 invariant-loop g l = record {
-  tried : IsTried l.initial.table l.table l.budget l.waits;
+  tried : IsTried (g.S.OrderedStore.knows l.initial.table) (g.S.OrderedStore.knows l.table) l.budget l.waits;
   stays : continuation_of l.cont ≡ continuation_of l.initial.cont;
   continuation : IsContinuation (continuation_of l.cont);
   budget : 1 ≤ l.budget;

@@ -23,7 +23,7 @@ none_left (x ∷ xs) (suc i) h = none_left xs i (omega arith)
 
 pub loop-at-init : goal.loop-at-init
 loop-at-init g c =
-    let table = c.args.table.now in
+    let table = (g.S.OrderedStore.knows c.args.table.now) in
     let lines = c.args.lines.now in record {
       so_far = record {
         answers = [];
@@ -35,18 +35,23 @@ loop-at-init g c =
 
 pub returns-in_err-line-clause-stopped : goal.returns-in_err-line-clause-stopped
 returns-in_err-line-clause-stopped g c =
+    let first = g.S.OrderedStore.knows c.args.table.now in
+    let table = g.S.OrderedStore.knows c.loop-at.table in
     let now = c.loop-at.invariant.so_far in
     on_err c.from_residual.result
-    (stops c.args.table.now c.loop-at.table (continuation_of c.loop-at.cont) (commands_in (numbered c.args.lines.now))
-    (commands_in (numbered (drop c.loop-at.at c.args.lines.now))) now.answers now.playing c.loop-at.table (read_nothing c.loop-at.table))
+    (stops first table (continuation_of c.loop-at.cont) (commands_in (numbered c.args.lines.now))
+    (commands_in (numbered (drop c.loop-at.at c.args.lines.now))) now.answers now.playing table (read_nothing table))
 
 pub returns-in_err-answer-clause-stopped : goal.returns-in_err-answer-clause-stopped
 returns-in_err-answer-clause-stopped g c =
+    let first = g.S.OrderedStore.knows c.args.table.now in
+    let table = g.S.OrderedStore.knows c.loop-at.table in
+    let next = g.S.OrderedStore.knows c.answer_to.new.table in
     let now = c.loop-at.invariant.so_far in
     on_err c.from_residual-in_err-answer.result
-    (stops c.args.table.now c.loop-at.table (continuation_of c.loop-at.cont) (commands_in (numbered c.args.lines.now))
+    (stops first table (continuation_of c.loop-at.cont) (commands_in (numbered c.args.lines.now))
     (commands_in (numbered (drop c.loop-at.at c.args.lines.now))) now.answers now.playing
-    c.answer_to.new.table c.in_err-answer.ensures.stopped)
+    next c.in_err-answer.ensures.stopped)
 
 pub add-requires : goal.add-requires
 add-requires g c =
@@ -59,9 +64,9 @@ returns-in_err-add-clause-stopped g c =
     let i = c.loop-at.at in
     let lines = c.args.lines.now in
     let item = c.in_ok-line.line in
-    let first = c.args.table.now in
-    let table = c.loop-at.table in
-    let next = c.answer_to.new.table in
+    let first = g.S.OrderedStore.knows c.args.table.now in
+    let table = g.S.OrderedStore.knows c.loop-at.table in
+    let next = g.S.OrderedStore.knows c.answer_to.new.table in
     let now = continuation_of c.loop-at.cont in
     let behind = continuation_of c.answer_to.new.cont in
     let commands = commands_in (numbered lines) in
@@ -81,9 +86,9 @@ loop-at-preserved g c =
     let lines = c.args.lines.now in
     let item = c.in_ok-line.line in
     let left : drop i lines ≡ item ∷ drop (i + 1) lines = drop_one lines i item c.in_ok-line.ensures in
-    let first = c.args.table.now in
-    let table = c.loop-at.table in
-    let next = c.answer_to.new.table in
+    let first = g.S.OrderedStore.knows c.args.table.now in
+    let table = g.S.OrderedStore.knows c.loop-at.table in
+    let next = g.S.OrderedStore.knows c.answer_to.new.table in
     let now = continuation_of c.loop-at.cont in
     let behind = continuation_of c.answer_to.new.cont in
     let commands = commands_in (numbered lines) in
@@ -103,6 +108,8 @@ loop-at-preserved g c =
 
 pub returns-clause-played : goal.returns-clause-played
 returns-clause-played g c =
+    let first = g.S.OrderedStore.knows c.args.table.now in
+    let table = g.S.OrderedStore.knows c.loop-at.table in
     let i = c.loop-at.at in
     let lines = c.args.lines.now in
     let low = c.loop-at-test.false in
@@ -110,7 +117,7 @@ returns-clause-played g c =
     let none : drop i lines ≡ [] = none_left lines i (omega (arith, low, len)) in
     let so_far = c.loop-at.invariant.so_far in record {
       answers = so_far.answers;
-      played = ends c.args.table.now c.loop-at.table (continuation_of c.loop-at.cont) (commands_in (numbered lines)) (commands_in (numbered (drop i lines)))
+      played = ends first table (continuation_of c.loop-at.cont) (commands_in (numbered lines)) (commands_in (numbered (drop i lines)))
           so_far.answers so_far.playing (ap (λ (ls : List Line). commands_in (numbered ls)) none);
       are_told = all_told lines i so_far.answers c.loop-at.answers so_far.telling none;
     }

@@ -8,8 +8,10 @@ use Rattle.ca_table.proofs.table.Table.batch.Goals as goal
 
 pub returns-in-Ok-next_batch-clause-comes : goal.returns-in-Ok-next_batch-clause-comes
 returns-in-Ok-next_batch-clause-comes g c =
+    let old = g.S.OrderedStore.knows c.args.self.now in
+    let next = g.S.OrderedStore.knows c.next_batch.new.self in
     let h = rw c.in-Some-compiled.is at c.in-Ok.ensures in
-    batch_done c.args.self.now c.next_batch.new.self c.args.spec.now h.1 c.in-Some.limit (response_of c.in-Ok-next_batch.reply)
+    batch_done old next c.args.spec.now h.1 c.in-Some.limit (response_of c.in-Ok-next_batch.reply)
     (continuation_of c.in-Ok-next_batch.next) c.args.limit.now (continuation_of c.args.cont.now) (sym c.in-Some.ensures)
-    (subst (λ (s : Tree). IsBatch c.args.self.now c.next_batch.new.self Unbounded s c.in-Some.limit (response_of c.in-Ok-next_batch.reply)
+    (subst (λ (s : Tree). IsBatch old next Unbounded s c.in-Some.limit (response_of c.in-Ok-next_batch.reply)
     (continuation_of c.in-Ok-next_batch.next)) h.0 c.in-Ok-next_batch.ensures.batch)

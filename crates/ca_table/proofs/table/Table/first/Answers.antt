@@ -4,20 +4,24 @@ use Rattle.ca_table.proofs.table.Table.first.Goals as goal
 
 pub key_of-requires : goal.key_of-requires
 key_of-requires g c =
-    above_object c.args.self.now _ _ c.keypos-keypos.ensures.value c.keypos-keypos.ensures.positive _ _ Unbounded c.in-Ok-true.field-0-test
+    let old = g.S.OrderedStore.knows c.args.self.now in
+    above_object old _ _ c.keypos-keypos.ensures.value c.keypos-keypos.ensures.positive _ _ Unbounded c.in-Ok-true.field-0-test
     c.in-Ok-true.ensures.found
 
-pub returns-in_default : goal.returns-in_default
-returns-in_default g c =
-    above_lacks c.args.self.now _ _ c.keypos-keypos.ensures.value c.keypos-keypos.ensures.positive _ _ Unbounded c.in-Ok-true.field-0-test
+pub returns-in_default-clause-comes : goal.returns-in_default-clause-comes
+returns-in_default-clause-comes g c =
+    let old = g.S.OrderedStore.knows c.args.self.now in
+    above_lacks old _ _ c.keypos-keypos.ensures.value c.keypos-keypos.ensures.positive _ _ Unbounded c.in-Ok-true.field-0-test
     c.in-Ok-true.ensures.found
 
-pub returns-in-Ok-true : goal.returns-in-Ok-true
-returns-in-Ok-true g c =
-    first_done c.args.self.now _ _ c.keypos-keypos.ensures.value c.keypos-keypos.ensures.positive _ _ c.in-Ok.found c.in-Ok-true.field-0-test
+pub returns-in-Ok-true-clause-comes : goal.returns-in-Ok-true-clause-comes
+returns-in-Ok-true-clause-comes g c =
+    let old = g.S.OrderedStore.knows c.args.self.now in
+    first_done old _ _ c.keypos-keypos.ensures.value c.keypos-keypos.ensures.positive _ _ c.in-Ok.found c.in-Ok-true.field-0-test
     c.in-Ok-true.ensures.found c.in-Ok.ensures
 
-pub returns-in-Ok-false : goal.returns-in-Ok-false
-returns-in-Ok-false g c =
-    first_ends c.args.self.now _ _ c.keypos-keypos.ensures.value c.keypos-keypos.ensures.positive _ _ c.in-Ok-false.field-0-test
+pub returns-in-Ok-false-clause-comes : goal.returns-in-Ok-false-clause-comes
+returns-in-Ok-false-clause-comes g c =
+    let old = g.S.OrderedStore.knows c.args.self.now in
+    first_ends old _ _ c.keypos-keypos.ensures.value c.keypos-keypos.ensures.positive _ _ c.in-Ok-false.field-0-test
     c.in-Ok-false.ensures.found

@@ -18,11 +18,13 @@ next_batch-requires-clause-edge g c =
 
 pub returns-in-Ok-clause-comes : goal.returns-in-Ok-clause-comes
 returns-in-Ok-clause-comes g c =
+    let old = g.S.OrderedStore.knows c.args.self.now in
+    let next = g.S.OrderedStore.knows c.next_batch.new.self in
     let b = behind_place (continuation_of c.args.cont.now) c.in-Ok-Behind.spec c.in-Ok-Behind.limit c.place_of.new.code.items c.requires.continuation
     (rw c.in-Ok-Behind.field-0-is at c.in-Ok-Behind.ensures) in
     let code = subst (λ (x : List ℕ). HasKeyCode b.key x) (sym c.as_slice.ensures.value) b.code_is in
-    subst (λ (k : Continuation). StepsOnce c.args.self.now c.next_batch.new.self k More (response_of c.in-Ok.reply) (continuation_of c.in-Ok.next)) (sym b.is)
-    (more_done c.args.self.now c.next_batch.new.self c.in-Ok-Behind.spec b.accepted c.in-Ok-Behind.limit (response_of c.in-Ok.reply)
+    subst (λ (k : Continuation). StepsOnce old next k More (response_of c.in-Ok.reply) (continuation_of c.in-Ok.next)) (sym b.is)
+    (more_done old next c.in-Ok-Behind.spec b.accepted c.in-Ok-Behind.limit (response_of c.in-Ok.reply)
     (continuation_of c.in-Ok.next) b.key c.as_slice.result.now code
-    (subst (λ (before : Known). IsBatch before c.next_batch.new.self (Excluded c.as_slice.result.now) c.in-Ok-Behind.spec c.in-Ok-Behind.limit
-    (response_of c.in-Ok.reply) (continuation_of c.in-Ok.next)) c.take_recent-recent.ensures c.in-Ok.ensures.batch))
+    (subst (λ (before : Known). IsBatch before next (Excluded c.as_slice.result.now) c.in-Ok-Behind.spec c.in-Ok-Behind.limit
+    (response_of c.in-Ok.reply) (continuation_of c.in-Ok.next)) (ap g.S.OrderedStore.knows c.take_recent-recent.ensures) c.in-Ok.ensures.batch))

@@ -7,20 +7,21 @@ below-requires-clause-edge g c = proper_key c.args.key.now _ _ c.in_default.ensu
 
 pub key_of-requires : goal.key_of-requires
 key_of-requires g c =
-    below_object c.args.self.now _ _ c.keypos-keypos.ensures.value c.keypos-keypos.ensures.positive _ _ (Excluded c.as_slice.result.now)
+    let old = g.S.OrderedStore.knows c.args.self.now in
+    below_object old _ _ c.keypos-keypos.ensures.value c.keypos-keypos.ensures.positive _ _ (Excluded c.as_slice.result.now)
     c.in-Ok-true.field-0-test c.in-Ok-true.ensures.found
 
-pub returns-in_default-key_of : goal.returns-in_default-key_of
-returns-in_default-key_of g c =
-    prev_lacks c.args.self.now _ _ c.keypos-keypos.ensures.value c.keypos-keypos.ensures.positive _ _ c.args.key.now _ _
+pub returns-in_default-key_of-clause-comes : goal.returns-in_default-key_of-clause-comes
+returns-in_default-key_of-clause-comes g c =
+    prev_lacks (g.S.OrderedStore.knows c.args.self.now) _ _ c.keypos-keypos.ensures.value c.keypos-keypos.ensures.positive _ _ c.args.key.now _ _
     c.in_default.ensures.1 c.as_slice.ensures.value c.in-Ok-true.field-0-test c.in-Ok-true.ensures.found
 
-pub returns-in-Ok-true : goal.returns-in-Ok-true
-returns-in-Ok-true g c =
-    prev_done c.args.self.now _ _ c.keypos-keypos.ensures.value c.keypos-keypos.ensures.positive _ _ c.args.key.now _ _
+pub returns-in-Ok-true-clause-comes : goal.returns-in-Ok-true-clause-comes
+returns-in-Ok-true-clause-comes g c =
+    prev_done (g.S.OrderedStore.knows c.args.self.now) _ _ c.keypos-keypos.ensures.value c.keypos-keypos.ensures.positive _ _ c.args.key.now _ _
     c.in_default.ensures.1 c.as_slice.ensures.value c.in-Ok.found c.in-Ok-true.field-0-test c.in-Ok-true.ensures.found c.in-Ok.ensures
 
-pub returns-in-Ok-false : goal.returns-in-Ok-false
-returns-in-Ok-false g c =
-    prev_ends c.args.self.now _ _ c.keypos-keypos.ensures.value c.keypos-keypos.ensures.positive _ _ c.args.key.now _ _
+pub returns-in-Ok-false-clause-comes : goal.returns-in-Ok-false-clause-comes
+returns-in-Ok-false-clause-comes g c =
+    prev_ends (g.S.OrderedStore.knows c.args.self.now) _ _ c.keypos-keypos.ensures.value c.keypos-keypos.ensures.positive _ _ c.args.key.now _ _
     c.in_default.ensures.1 c.as_slice.ensures.value c.in-Ok-false.field-0-test c.in-Ok-false.ensures.found
