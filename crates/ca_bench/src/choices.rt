@@ -67,6 +67,7 @@ fn filled(alloc: Global, objects: &Terms) -> Table<Plain> {
 fn chosen(alloc: Global, table: &mut Table<Plain>, spec: &Term) -> Option<usize> {
     match table.select(alloc, spec, BUDGET) {
         Ok(Outcome::Done(Reply::List(results))) => Some(results.len()),
+        Ok(Outcome::Done(Reply::Coded(results))) => Some(results.len()),
         _ => None,
     }
 }

@@ -354,16 +354,22 @@ fn time_mix<R: Clock + Print + Threads + Sync + Alloc<A = Global>>(
     time_line(rt, tree, (load, numbers.as_slice()), mix, threads)
 }
 
-// Prints the lines of objects of the usual kind, whose keys are `<<"userN">>`. Those with even numbers are there at the start.
-fn time_users<R: Clock + Print + Threads + Sync + Alloc<A = Global>>(rt: &R) -> io::Result<()> {
+// Prints a line for a mix of calls on objects of the usual kind, whose keys are `<<"userN">>`. Those with even numbers are there at the start.
+fn time_user_mix<R: Clock + Print + Threads + Sync + Alloc<A = Global>>(
+    rt: &R,
+    tree: (&str, Tuning),
+    objects: u32,
+    mix: (&str, Mix),
+    threads: u32,
+) -> io::Result<()> {
     let alloc = rt.alloc();
-    let keys = 2 * OBJECTS;
-    let Some(objects) = terms_of(alloc, USUAL, keys) else {
+    let keys = objects.wrapping_mul(2);
+    let Some(terms) = terms_of(alloc, USUAL, keys) else {
         return println!(rt; "no memory");
     };
     let (Ok(coded), Ok(numbers)) = (
-        coded_load(alloc, objects.as_slice()),
-        even_numbers(alloc, OBJECTS),
+        coded_load(alloc, terms.as_slice()),
+        even_numbers(alloc, objects),
     ) else {
         return println!(rt; "no memory");
     };
@@ -372,10 +378,15 @@ fn time_users<R: Clock + Print + Threads + Sync + Alloc<A = Global>>(rt: &R) -> 
         present: 0,
         coded: coded.as_slice(),
     };
+    time_line(rt, tree, (load, numbers.as_slice()), mix, threads)
+}
+
+// Prints the lines of objects of the usual kind.
+fn time_users<R: Clock + Print + Threads + Sync + Alloc<A = Global>>(rt: &R) -> io::Result<()> {
     for tree in TREES {
         for mix in USER_MIXES {
             for threads in THREADS {
-                time_line(rt, tree, (load, numbers.as_slice()), mix, threads)?;
+                time_user_mix(rt, tree, OBJECTS, mix, threads)?;
             }
         }
     }
@@ -445,7 +456,23 @@ pub fn time_named<R: Clock + Print + Threads + Sync + Alloc<A = Global>>(
     time_wanted(rt, &TREES, &MIXES, wanted)?;
     time_wanted(rt, &TREES, &SHAPING, wanted)?;
     time_wanted(rt, &SHAPED, &MIXES, wanted)?;
-    time_wanted(rt, &SHAPED, &SHAPING, wanted)
+    time_wanted(rt, &SHAPED, &SHAPING, wanted)?;
+    time_wanted_users(rt, wanted)
+}
+
+// Prints the line that is wanted, where it is one of objects of the usual kind.
+fn time_wanted_users<R: Clock + Print + Threads + Sync + Alloc<A = Global>>(
+    rt: &R,
+    wanted: Wanted<'_>,
+) -> io::Result<()> {
+    for tree in TREES {
+        for mix in USER_MIXES {
+            if tree.0 == wanted.tree && mix.0 == wanted.mix {
+                time_user_mix(rt, tree, wanted.objects, mix, wanted.threads)?;
+            }
+        }
+    }
+    Ok(())
 }
 
 // Prints the line that is wanted, where the tree and the mix are among these.

@@ -71,6 +71,8 @@ fn found_by(played: Played) -> Option<usize> {
         Reply::Value(_key) => Some(1),
         Reply::List(results) => Some(results.len()),
         Reply::Batch(results, _more) => Some(results.len()),
+        Reply::Coded(results) => Some(results.len()),
+        Reply::CodedBatch(results, _more) => Some(results.len()),
         Reply::End => Some(0),
         _ => None,
     }
