@@ -30,7 +30,7 @@ use Rattle.ca_rows.proofs.Keeping.{claimed_too, dropped_too, kept_as}
 use Rattle.ca_rows.proofs.Listing.{place_claimed}
 use Rattle.ca_rows.specs.Layout.{row_words}
 
-not_kept : (claims : List Claimed) (row : ℕ) (its : List ℕ) (t : ℕ)
+pub not_kept : (claims : List Claimed) (row : ℕ) (its : List ℕ) (t : ℕ)
     → claim_of claims row ≡ some (Holds its) → claim_of claims row ≢ some (Keeps t)
 not_kept claims row its t e f = let g = some-injective (Holds its) (Keeps t) (sym e ∙ f) in
     absurd cc
@@ -48,6 +48,11 @@ lent_still claims claims' lent row lends other others r i =
 held_unlent : (claims : List Claimed) (row : ℕ) (its : List ℕ)
     → claim_of claims row ≡ some (Holds its) → claim_of claims row ≢ some Lends
 held_unlent claims row its e f = let same = some-injective (Holds its) Lends (sym e ∙ f) in absurd cc
+
+-- Nor is one kept that is lent.
+pub lent_unkept : (claims : List Claimed) (row t : ℕ)
+    → claim_of claims row ≡ some Lends → claim_of claims row ≢ some (Keeps t)
+lent_unkept claims row t e f = let same = some-injective Lends (Keeps t) (sym e ∙ f) in absurd cc
 
 kept_unlent : (claims : List Claimed) (row t : ℕ)
     → claim_of claims row ≡ some (Keeps t) → claim_of claims row ≢ some Lends

@@ -3,6 +3,7 @@ pub mod Behind
 pub mod CopiedRows
 pub mod CopyWords
 pub mod Counts
+pub mod Crowds
 pub mod Divisions
 pub mod Filling
 pub mod FourWords

@@ -52,6 +52,7 @@ pub record IsMade (keypos : ℕ) (m : MyTree) (x : Update) (these : List ℕ) : 
   pub come : (row : ℕ) → IsIn row x.comes → IsIn row these
       × ((its : List ℕ) × (claim_of m.0.claims row ≡ some (Holds its)))
   pub come_once : AreOnce row_itself x.comes
+  pub one_comes : length x.comes ≤ 1
   pub go : (row : ℕ) → IsIn row x.goes → (i : ℕ) × (get_elem? (items x.old.its) i ≡ some row)
       × IsElsewhere x these i row
   pub stay : (row : ℕ) → IsIn row (items x.old.its) → IsIn row these ⊎ IsIn row x.goes
@@ -84,6 +85,7 @@ is_update z m new x front words these statistic n rows headed few made =
       are_objects = h.are_objects;
       come = h.come;
       come_once = h.come_once;
+      one_comes = h.one_comes;
       go = h.go;
       stay = h.stay;
       map_is = h.map_is;

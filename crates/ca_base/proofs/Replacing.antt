@@ -153,6 +153,7 @@ module _ (z : Sizes) (m : MyTree) (note : Note) (row new : ℕ) (place : Result 
             × ((its : List ℕ) × (claim_of m.0.claims y ≡ some (Holds its)))) e
             (here_put place (items note.its) row range, (a, h.object_held));
         come_once = (λ t. in_nothing t.0 [] refl t.1, tt);
+        one_comes = omega arith;
         go = λ r i. goes x place row r range refl i;
         stay = λ r i. stays place (items note.its) row r i;
         map_is = map_put place pair note.objects a

@@ -78,6 +78,7 @@ module _ (z : Sizes) (m : MyTree) (note : Note) (at new statistic : ℕ) (front 
             );
         come = λ r i. absurd (in_nothing r [] refl i);
         come_once = tt;
+        one_comes = omega arith;
         go = λ r i. (
           at,
           elem_or (items note.its) at 0 in_items ∙ ap some (gone_is (items note.its) at r i),

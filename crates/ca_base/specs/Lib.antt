@@ -1,5 +1,6 @@
 pub mod Copied
 pub mod Counting
+pub mod Crowded
 pub mod Finding
 pub mod Fours
 pub mod Holding

@@ -1,6 +1,7 @@
 //! A row that was lent to the pass's own range is retired.
 ghost use Rattle.std.specs.Prelude.{◌≡◌, ◌<◌, ℕ, [], ◌∷◌};
 ghost use Rattle.ca_base.specs.Counting.{losses, HasMet, KeepsMore};
+ghost use Rattle.ca_base.specs.Crowded.{StaysCrowded};
 ghost use Rattle.ca_base.specs.Taking.{AreHeld, HasLent, IsOwnBorder};
 ghost use Rattle.ca_node.specs.Layout.{border_form};
 ghost use Rattle.ca_node.specs.TreePasses.{tree_of};
@@ -19,6 +20,7 @@ pub fn retire_border(space: &TreeSpace, pass: &mut TreePass, row: u32)
     ensures frame { IsStillPass pass.old pass.new }
     ensures none { AreHeld (sizes space.now).rows pass.new.kept.rows (view pass.new) [] }
     ensures met { (losses (known pass.new) ≡ losses (known pass.old)) × HasMet 0 0 (known pass.old) (known pass.new) }
+    ensures crowded { StaysCrowded (known pass.old) (known pass.new) }
     ensures kept { KeepsMore border_form (row ∷ []) pass.old.kept.rows.items pass.new.kept.rows.items }
 {
     space.retire(pass, row, BORDER_FORM);

@@ -10,6 +10,7 @@ ghost use Rattle.ca_node.specs.Place.{HasKey};
 ghost use Rattle.ca_node.specs.Row.{pair};
 ghost use Rattle.ca_node.specs.States.{IsAlone};
 ghost use Rattle.ca_base.specs.Counting.{IsSpent, HasCleared, HasFound};
+ghost use Rattle.ca_base.specs.Crowded.{FindsCrowded};
 ghost use Rattle.ca_base.specs.Targets.{IsTarget};
 ghost use Rattle.ca_base.specs.Putting.{gone, last_items, object_at, HasRenewed, IsNewRow, HasTried};
 ghost use Rattle.ca_rows.specs.Told.{met_of};
@@ -54,6 +55,7 @@ pub fn remove_at(
     ensures placed { IsNewRow placed.new result (tree_of pass.new) }
     ensures counted { IsSpent spent.old spent.new (known pass.old) (known pass.new) }
     ensures found { HasFound result (known pass.old) (known pass.new) }
+    ensures crowded { FindsCrowded result (known pass.old) (known pass.new) }
     ensures again { TakesForBase result placed.new (view pass.old).pin.told pass.old.kept.rows.items }
     ensures back { HasCleared (base_form ∷ []) target.now.cursor.base (gone (Ok removal.now.at) (last_items (tree_of pass.old))) result
         (known pass.old) (known pass.new) pass.old.kept pass.new.kept }

@@ -8,6 +8,7 @@ ghost use Rattle.ca_node.specs.Told.{IsDivision, link_word};
 ghost use Rattle.ca_node.specs.States.{IsAlone};
 ghost use Rattle.ca_node.specs.Links.{AreApart};
 ghost use Rattle.ca_base.specs.Counting.{IsSpent, HasCleared, HasFound, HasPutBack};
+ghost use Rattle.ca_base.specs.Crowded.{FindsCrowded};
 ghost use Rattle.ca_base.specs.Targets.{IsTarget};
 ghost use Rattle.ca_base.specs.Splitting.{HasTakenThree, HasSplit, IsHalving, split_forms};
 ghost use Rattle.ca_base.specs.Taking.{AreHeld, MayTake};
@@ -56,6 +57,7 @@ pub fn split_at(
     ensures won { IsAlone (sizes space.now) (tree_of pass.old) → IsListed (tree_of pass.old).inventory (shown_last pass.old) → result ≢ Err (IsLost IsLink) }
     ensures counted { IsSpent spent.old spent.new (known pass.old) (known pass.new) }
     ensures found { HasFound result (known pass.old) (known pass.new) }
+    ensures crowded { FindsCrowded result (known pass.old) (known pass.new) }
     ensures back { HasCleared split_forms cursor.base [] result (known pass.old) (known pass.new) pass.old.kept pass.new.kept }
 {
     let (route, left, right) = take_three(space, pass, spent)?;
@@ -96,6 +98,7 @@ fn take_three(
     ensures taken { HasTakenThree result (AreHeld (sizes space.now).rows pass.new.kept.rows (view pass.new)) }
     ensures counted { IsSpent spent.old spent.new (known pass.old) (known pass.new) }
     ensures found { HasFound result (known pass.old) (known pass.new) }
+    ensures crowded { FindsCrowded result (known pass.old) (known pass.new) }
     ensures head { result ≢ Err (IsLost IsLink) }
     ensures back { HasPutBack split_forms result (known pass.old) (known pass.new) pass.old.kept pass.new.kept }
 {
@@ -132,6 +135,7 @@ fn divide_in<K: Plan>(
     ensures won { IsAlone (sizes space.now) (tree_of pass.old) → IsListed (tree_of pass.old).inventory K.division.old → result ≢ Err (IsLost IsLink) }
     ensures counted { IsSpent spent.old spent.new (known pass.old) (known pass.new) }
     ensures found { HasFound result (known pass.old) (known pass.new) }
+    ensures crowded { FindsCrowded result (known pass.old) (known pass.new) }
     ensures back { HasCleared [] cursor.base [] result (known pass.old) (known pass.new) pass.old.kept pass.new.kept }
 {
     let (link, base) = (cursor.link, cursor.base);

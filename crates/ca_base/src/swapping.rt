@@ -6,6 +6,7 @@ ghost use Rattle.ca_node.specs.Notes.{IsBaseNote};
 ghost use Rattle.ca_node.specs.Told.{IsUpdate};
 ghost use Rattle.ca_node.specs.States.{IsAlone};
 ghost use Rattle.ca_base.specs.Counting.{losses, IsSpent, HasCleared, HasFound, HasMet, KeepsMore, PutsBack};
+ghost use Rattle.ca_base.specs.Crowded.{FindsCrowded, StaysCrowded};
 ghost use Rattle.ca_base.specs.Finding.{IsAtCursor};
 ghost use Rattle.ca_base.specs.Putting.{HasRenewed, HasTried, IsNewRow, first_note};
 ghost use Rattle.ca_base.specs.declared.stop.Exchange.TheVariants.{Link as IsLink};
@@ -70,6 +71,7 @@ pub(crate) fn swap_in<K: Intent>(
     ensures placed { IsNewRow rows.now.new result (tree_of pass.new) }
     ensures counted { IsSpent spent.old spent.new (known pass.old) (known pass.new) }
     ensures found { HasFound result (known pass.old) (known pass.new) }
+    ensures crowded { FindsCrowded result (known pass.old) (known pass.new) }
     ensures back { HasCleared [] cursor.base rows.now.goes.now result (known pass.old) (known pass.new) pass.old.kept pass.new.kept }
 {
     let base = cursor.base;
@@ -99,6 +101,7 @@ pub(crate) fn give_back_all(
     ensures none { AreHeld (sizes space.now).rows pass.new.kept.rows (view pass.new) [] }
     ensures counted { IsSpent spent.old spent.new (known pass.old) (known pass.new) }
     ensures met { HasMet 0 0 (known pass.old) (known pass.new) }
+    ensures crowded { StaysCrowded (known pass.old) (known pass.new) }
     ensures back { PutsBack [] 0 (known pass.old) (known pass.new) pass.old.kept pass.new.kept }
 {
     for at in 0..rows.len() {

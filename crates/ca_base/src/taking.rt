@@ -2,6 +2,7 @@
 ghost use Rattle.std.specs.Prelude.{◌≡◌, ◌≢◌, Err, ◌<◌, ℕ, List, [], ◌∷◌, length};
 ghost use Rattle.ca_node.specs.Links.{IsIn};
 ghost use Rattle.ca_base.specs.Counting.{IsSpent, HasFound, HasMet, HasPutBack, KeepsLost, PutsBack, losses};
+ghost use Rattle.ca_base.specs.Crowded.{FindsCrowded, StaysCrowded};
 ghost use Rattle.ca_base.specs.declared.stop.Exchange.TheVariants.{Link as IsLink};
 ghost use Rattle.ca_base.specs.declared.stop.Stop.TheVariants.{Lost as IsLost};
 ghost use Rattle.ca_base.specs.Taking.{AreHeld, HasTaken, HasTakenTwo, MayTake, TakesOldest, TakesTwo};
@@ -16,7 +17,8 @@ use ca_node::{TreePass, TreeSpace};
 use ca_rows::Taken;
 
 /// Takes a row: of those that the pass keeps, and on which nobody can have a note any more, the oldest one of this form, or else the oldest one; where it
-/// keeps no such row, a free one. A pass that is the only one which the space is for loses no exchange by it.
+/// keeps no such row, a free one. A pass that is the only one which the space is for loses no exchange by it; where none is free, it knows of all rows but
+/// eight at most that they are linked, or that it keeps them.
 pub fn take(
     space: &TreeSpace,
     pass: &mut TreePass,
@@ -31,6 +33,8 @@ pub fn take(
     ensures only { IsOnly (known pass.old) → losses (known pass.new) ≡ losses (known pass.old) }
     ensures found { HasFound result (known pass.old) (known pass.new) }
     ensures head { result ≢ Err (IsLost IsLink) }
+    ensures crowded { (held : List ℕ) → length held < 8 → AreHeld (sizes space.now).rows pass.old.kept.rows (view pass.old) held
+        → FindsCrowded result (known pass.old) (known pass.new) }
     ensures back { HasPutBack (like ∷ []) result (known pass.old) (known pass.new) pass.old.kept pass.new.kept }
     ensures oldest { TakesOldest result (view pass.old).pin.told like pass.old.kept.rows.items pass.new.kept.rows.items }
 {
@@ -52,6 +56,8 @@ fn take_free(space: &TreeSpace, pass: &mut TreePass, spent: &mut Spent) -> Resul
     ensures only { IsOnly (known pass.old) → losses (known pass.new) ≡ losses (known pass.old) }
     ensures found { HasFound result (known pass.old) (known pass.new) }
     ensures head { result ≢ Err (IsLost IsLink) }
+    ensures crowded { (held : List ℕ) → length held < 8 → AreHeld (sizes space.now).rows pass.old.kept.rows (view pass.old) held
+        → FindsCrowded result (known pass.old) (known pass.new) }
     ensures back { HasPutBack [] result (known pass.old) (known pass.new) pass.old.kept pass.new.kept }
 {
     match space.take_row(pass) {
@@ -80,6 +86,7 @@ pub fn take_two(
     ensures only { IsOnly (known pass.old) → losses (known pass.new) ≡ losses (known pass.old) }
     ensures found { HasFound result (known pass.old) (known pass.new) }
     ensures head { result ≢ Err (IsLost IsLink) }
+    ensures crowded { FindsCrowded result (known pass.old) (known pass.new) }
     ensures back { HasPutBack (likes.0 ∷ likes.1 ∷ []) result (known pass.old) (known pass.new) pass.old.kept pass.new.kept }
     ensures oldest { TakesTwo result (view pass.old).pin.told likes pass.old.kept.rows.items pass.new.kept.rows.items }
 {
@@ -103,6 +110,7 @@ pub fn give_back(space: &TreeSpace, pass: &mut TreePass, row: u32, form: u32, sp
     ensures counted { IsSpent spent.old spent.new (known pass.old) (known pass.new) }
     ensures only { IsOnly (known pass.old) → losses (known pass.new) ≡ losses (known pass.old) }
     ensures met { HasMet 0 0 (known pass.old) (known pass.new) }
+    ensures crowded { StaysCrowded (known pass.old) (known pass.new) }
     ensures back { PutsBack [] 0 (known pass.old) (known pass.new) pass.old.kept pass.new.kept }
     ensures kept { KeepsLost form row (known pass.old) (known pass.new) pass.old.kept.rows.items pass.new.kept.rows.items }
 {

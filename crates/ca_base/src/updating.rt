@@ -7,6 +7,7 @@ ghost use Rattle.ca_node.specs.Place.{HasKey};
 ghost use Rattle.ca_node.specs.Row.{pair};
 ghost use Rattle.ca_node.specs.States.{IsAlone};
 ghost use Rattle.ca_base.specs.Counting.{IsSpent, HasCleared, HasFound};
+ghost use Rattle.ca_base.specs.Crowded.{FindsCrowded};
 ghost use Rattle.ca_base.specs.Putting.{gone as gone_at, IsItemAt, IsNewRow, IsRoom, IsFor, HasRenewed, HasTried, last_items};
 ghost use Rattle.ca_base.specs.Targets.{IsKeyed, IsTarget, edit_of, event_of, key_in};
 ghost use Rattle.ca_rows.specs.Told.{met_of};
@@ -65,6 +66,7 @@ pub fn put_at(
     ensures placed { IsNewRow placed.new result (tree_of pass.new) }
     ensures counted { IsSpent spent.old spent.new (known pass.old) (known pass.new) }
     ensures found { HasFound result (known pass.old) (known pass.new) }
+    ensures crowded { FindsCrowded result (known pass.old) (known pass.new) }
     ensures again { TakesForBase result placed.new (view pass.old).pin.told pass.old.kept.rows.items }
     ensures back { HasCleared (base_form ∷ object_form ∷ []) target.now.cursor.base (gone_at insertion.now.place (last_items (tree_of pass.old))) result
         (known pass.old) (known pass.new) pass.old.kept pass.new.kept }

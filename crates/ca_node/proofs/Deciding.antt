@@ -1,5 +1,5 @@
 -- The exchange by which a range ends, as a step: whoever decides it, or its pass that gives it up.
-use Rattle.std.proofs.Common.{◌≡◌, ◌≢◌, ◌⊎◌, ℕ, ◌+◌, ◌*◌, ◌<◌, ◌≤◌, true, eqb, cond, List, [], map, set, sym, refl, ap, ◌∙◌, subst, inl, inr, ⊎_elim, arith, eq-eqb, ne_eqb}
+use Rattle.std.proofs.Common.{◌≡◌, ◌≢◌, ◌⊎◌, ℕ, ◌+◌, ◌*◌, ◌<◌, ◌≤◌, true, eqb, cond, List, [], length, map, set, sym, refl, ap, ◌∙◌, subst, inl, inr, ⊎_elim, arith, eq-eqb, ne_eqb}
 use Rattle.std.proofs.lemmas.List.{map-set}
 use mathlib.Core.Logic.{dite}
 use mathlib.Core.Option.{some}
@@ -19,17 +19,18 @@ use Rattle.ca_rows.proofs.Relinking.{Change, Stays, Ends, IsChange, relinks}
 use Rattle.ca_node.specs.LoneStays.{KeepsOwn}
 use Rattle.ca_node.specs.Endings.{without}
 use Rattle.ca_node.specs.Laws.{tree_lends}
-use Rattle.ca_node.specs.Links.{IsLinked, IsLent, IsOfOwnRun, IsNoted, by_note, by_item, by_way, by_link, by_link_item, by_border, by_run, by_run_item, by_shown, by_shown_item}
+use Rattle.ca_node.specs.Links.{IsIn, IsLinked, by_range, IsLent, IsOfOwnRun, IsNoted, by_note, by_item, by_way, by_link, by_link_item, by_border, by_run, by_run_item, by_shown, by_shown_item}
 use Rattle.ca_node.specs.Ranging.{IsRanging}
 use Rattle.ca_node.specs.Row.{row_at, mark_bound}
 use Rattle.ca_node.specs.Scenes.{IsBase}
 use Rattle.ca_node.specs.Shape.{Role}
 use Rattle.ca_node.specs.Told.{MyTree}
 use Rattle.ca_node.specs.Tree.{Knows, IsTree}
-use Rattle.ca_node.specs.Inventory.{own_tree}
-use Rattle.ca_node.specs.TreeView.{TreeView}
+use Rattle.ca_node.specs.Inventory.{AreAtMost, row_itself, own_tree}
+use Rattle.ca_node.specs.TreeView.{Inventory, TreeView}
 use Rattle.ca_node.proofs.Ended.{IsEnd, active_before, shape', border_lent, lent_then, lent_before, border_gone, linked_before, linked_then, runs', true_then, listed'}
 use Rattle.ca_node.proofs.Looking.{R}
+use Rattle.ca_node.proofs.Listing.{but_shorter}
 use Rattle.ca_node.proofs.OwnWord.{else_word, told_same, wide', row_stays, base_linked, noted_before, knows_then, tree_with}
 
 module _ (z : Sizes) (s : State (Unit {0}) (View TreeView)) (r : R z s) (id : ℕ) (me : MyTree) (at : get_elem? s.views id ≡ some me.0)
@@ -53,7 +54,7 @@ module _ (z : Sizes) (s : State (Unit {0}) (View TreeView)) (r : R z s) (id : �
   module _ (u' : TreeView) (is_pinned : me.0.pin.pinned ≡ true) (is_pass : 0 < me.0.upper.number)
       (keeps_own : KeepsOwn me.0.upper.ranges.own u'.ranges.own) (same_ways : u'.ways ≡ me.0.upper.ways)
       (same_begun : u'.ranges.joins.begun ≡ me.0.upper.ranges.joins.begun)
-      (same_tree : own_tree u' ≡ (without (mark_bound (row_at s.words end.base)) me.0.upper.inventory, me.0.upper.splits))
+      (same_tree : own_tree u' ≡ (without (mark_bound (row_at s.words end.base)) me.0.upper.inventory, me.0.upper.splits, me.0.upper.renewal.count))
       (own_notes : (row : ℕ) → IsNoted (set s.words (own_word s.words pass + 1) word') u' row
       → IsNoted s.words me.0.upper row ⊎ IsLinked (set s.words (own_word s.words pass + 1) word') row)
       (own_knows : Knows z r.made (set s.words (own_word s.words pass + 1) word') r.above.role (set (map upper_of s.views) id u') r.above.history id u')
@@ -105,12 +106,21 @@ module _ (z : Sizes) (s : State (Unit {0}) (View TreeView)) (r : R z s) (id : �
       others_ranging j y ne here,
     )
 
+    -- The row that said up to where the range went was listed, and isn't any more.
+    shorter : r.made ≤ 1 → (most : ℕ) → length me.0.upper.inventory.rows ≤ most + 1
+        → AreAtMost words' (length (without top me.0.upper.inventory).rows) most
+    shorter few most are = let own = (f.only_one id me.0.upper first few is_pass).whole in
+        let lent = border_lent z s r pass number word' end in
+        let was : IsIn top me.0.upper.inventory.rows = subst (λ (i : Inventory). IsIn top i.rows) (sym own)
+        (f.listed.linked top (by_range lent.0 top lent.1 lent.2 lent.3)) in
+        let less = but_shorter row_itself top me.0.upper.inventory.rows top was refl in (omega arith, λ _. omega arith)
+
     tree_now : IsTree z r.made words' (set (map upper_of s.views) id u')
     tree_now = tree_with z s r pass word' end.lo end.hi id me.0 at is_pass u'
         (shape' z s r pass number word' end) f.ranged.ends
         (runs' z s r pass number word' end)
         (λ p n now. f.ranged.made_before p n (active_before z s r pass number word' end p n now).0)
-        own_knows own_ranging others (without top) (listed' z s r pass number word' end) same_tree keeps_own same_ways same_begun
+        own_knows own_ranging others (without top) (listed' z s r pass number word' end) same_tree (omega arith) (λ few most are. shorter few most are.0) keeps_own same_ways same_begun
 
     pub ends_step : R z record { words = set s.words (own_word s.words pass + 1) word'; homes = s.homes; views = set s.views id (relinked me me.0.claims u').0 }
     ends_step = relinks IsLinked IsLent IsNoted IsTree tree_lends z s r id me.0 d' words' kind record {

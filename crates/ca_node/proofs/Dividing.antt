@@ -25,7 +25,7 @@ use Rattle.ca_rows.proofs.Relinking.{Change, Stays, Comes, Goes, IsChange, relin
 use Rattle.ca_rows.proofs.Rules.{all_seats}
 use Rattle.ca_node.specs.LoneStays.{same_kept, lone_still}
 use Rattle.ca_node.proofs.Lone.{lone_by_one}
-use Rattle.ca_node.specs.Inventory.{IsInventory, OwnsTree, own_tree}
+use Rattle.ca_node.specs.Inventory.{row_itself, row_of_base, IsInventory, OwnsTree, own_tree}
 use Rattle.ca_node.specs.Attempts.{join_of, IsJoinWord, IsSecured, IsUnderWay}
 use Rattle.ca_node.specs.JoinsStay.{joining_unnoted}
 use Rattle.ca_node.specs.Laws.{noted_alike, tree_lends, in_nothing, numbered, relisted}
@@ -42,12 +42,12 @@ use Rattle.ca_rows.specs.Told.{relinked}
 use Rattle.ca_node.specs.May.{MaySwap}
 use Rattle.ca_node.specs.Told.{MyTree, IsHalf, IsDivision, given, taken_out, divided_inventory, divided, one_more_lost, IsDivided, IsMissed, Divides, HasDivided}
 use Rattle.ca_node.specs.Tree.{IsTrue, IsTrueWay, Knows, IsTree}
-use Rattle.ca_node.specs.TreeView.{Note, Way, TreeView, Division}
+use Rattle.ca_node.specs.TreeView.{Note, Way, Inventory, TreeView, Division}
 use Rattle.ca_node.proofs.Divided.{IsNewRoute, AreDivided, with_route, with_route_route, with_route_left, with_route_right, with_route_old, with_route_else, route_was, shape_divided}
 use Rattle.ca_node.proofs.Exchanging.{settled_over}
 use Rattle.ca_node.proofs.Holding.{held_row, unclaimed_row}
 use Rattle.ca_node.proofs.Joined.{unjoined_over, joined_keeps, states_keep, joining_keeps}
-use Rattle.ca_node.proofs.Listing.{in_either, in_front, in_back, not_one, Relists, listed_again, known_by_one}
+use Rattle.ca_node.proofs.Listing.{but_shorter, in_either, in_front, in_back, not_one, Relists, listed_again, known_by_one}
 use Rattle.ca_node.proofs.Looking.{R, loses, hangs_still, of_map, knows_upper, in_more}
 use Rattle.ca_node.proofs.Members.{in_notes, has, given_here, given_else, taken_here, taken_else}
 use Rattle.ca_node.proofs.Relinked.{IsNewBase, relinked_wide, relinked_else, relinked_ranges, relinked_told, relinked_joins, relinked_keeps, relinked_row, base_no_route, out_no_route}
@@ -580,6 +580,7 @@ module _ (z : Sizes) (s : State (Unit {0}) (View TreeView)) (r : R z s) (id : �
     (λ l. old_unlent (subst (IsLent s.words) (is_out row o) l)),
     (λ l. old_unlinked (subst (IsLinked words') (is_out row o) l)),
     taken_here outs (given ins d.claims) row o,
+    u.is_pinned,
   )
   changed row (inr n) (inr m) = (
     stays_back row n,
@@ -894,7 +895,7 @@ module _ (z : Sizes) (s : State (Unit {0}) (View TreeView)) (r : R z s) (id : �
     at_first = λ (e : r.made ≡ 0). let lo = u.is_pass in let hi = knows.made_before in
         absurd (omega arith);
     only_one =
-        known_by_one z r.made s.words role role' (map upper_of s.views) f.history f.each_seat id
+        known_by_one z r.made s.words words' role role' (map upper_of s.views) f.history f.each_seat id
         d.upper u'
         (divided_inventory x f.inventory) mine u.is_pass
         (λ few. let was = f.only_one id d.upper mine few u.is_pass in record {
@@ -906,6 +907,13 @@ module _ (z : Sizes) (s : State (Unit {0}) (View TreeView)) (r : R z s) (id : �
               (which row p i))
               (λ (o : (role row ≡ Base p) × (row ≢ x.old.row)). let l = was.shallow row p o.0 in omega arith)
               (part_back row p e);
+          few = let less = but_shorter row_of_base x.old.row d.upper.inventory.bases (x.old.row, place)
+              (subst (λ (j : Inventory). IsIn (x.old.row, place) j.bases) (sym was.whole) (f.listed.based x.old.row place is_old)) refl in
+              let most = was.few in omega arith;
+          rows = let most = was.rows in let less = but_shorter row_itself x.old.row d.upper.inventory.rows x.old.row
+              (subst (λ (j : Inventory). IsIn x.old.row j.rows) (sym was.whole)
+              (f.listed.linked x.old.row (placed_linked z s.words role last shape x.old.row place (ap place_of is_old)))) refl in
+              (omega arith, λ none. let m = most.1 (λ row l. none row (lent_on row l)) in omega arith);
         });
   }
 

@@ -25,7 +25,7 @@ use Rattle.ca_rows.proofs.Relinking.{Change, Stays, Comes, Serves, Goes, IsChang
 use Rattle.ca_rows.proofs.Rules.{all_seats}
 use Rattle.ca_node.specs.LoneStays.{KeepsOwn, lone_still}
 use Rattle.ca_node.proofs.Lone.{lone_by_one}
-use Rattle.ca_node.specs.Inventory.{AreOnce, row_itself, IsInventory, OwnsTree, own_tree}
+use Rattle.ca_node.specs.Inventory.{AreOnce, row_itself, row_of_base, IsInventory, OwnsTree, own_tree, IsLentFirst, AreCounted}
 use Rattle.ca_node.specs.Attempts.{HasAttempt, IsUnderWay}
 use Rattle.ca_node.specs.Joining.{IsJoining}
 use Rattle.ca_node.specs.JoinsStay.{joining_noted}
@@ -43,10 +43,10 @@ use Rattle.ca_node.specs.Stays.{map_same}
 use Rattle.ca_rows.specs.Told.{relinked}
 use Rattle.ca_node.specs.Told.{MyTree, IsUnranged, Update, IsObjectOf, IsNotFrom, IsLastThere, given, lent_out, taken_out, exchanged_inventory}
 use Rattle.ca_node.specs.Tree.{IsTrue, IsTrueWay, Knows, IsTree}
-use Rattle.ca_node.specs.TreeView.{Note, Way, Over, Border, TreeView}
+use Rattle.ca_node.specs.TreeView.{Note, Way, Over, Border, Inventory, TreeView}
 use Rattle.ca_node.proofs.Holding.{held_row}
 use Rattle.ca_node.proofs.Joined.{joined_keeps, states_keep, joining_keeps, new_hangs}
-use Rattle.ca_node.proofs.Listing.{in_either, in_front, in_back, not_one, Relists, listed_again, known_by_one}
+use Rattle.ca_node.proofs.Listing.{but_shorter, exchanged_length, in_either, in_front, in_back, not_one, Relists, listed_again, known_by_one}
 use Rattle.ca_node.proofs.Looking.{R, knows_upper, in_turn, in_more}
 use Rattle.ca_node.proofs.Members.{in_notes, in_rest, has, given_here, given_else, lent_here, lent_else, taken_here, taken_else, other_has, map_is_list}
 use Rattle.ca_node.proofs.Named.{named_once}
@@ -813,7 +813,8 @@ module _ (z : Sizes) (s : State (Unit {0}) (View TreeView)) (r : R z s) (id : �
           (own : (row : ℕ) → IsNoted (set s.words x.old.place.link new) u' row
           → IsNoted (set s.words x.old.place.link new) d.upper row
           ⊎ IsLinked (set s.words x.old.place.link new) row)
-          (same_tree : own_tree u' ≡ (exchanged_inventory served new x d.upper.inventory, d.upper.splits))
+          (count : ℕ) (same_tree : own_tree u' ≡ (exchanged_inventory served new x d.upper.inventory, d.upper.splits, count))
+          (counted : AreCounted s.words r.made served (length x.comes + d.upper.renewal.count) count)
           (keeps_own : KeepsOwn d.upper.ranges.own u'.ranges.own) (same_ways : u'.ways ≡ d.upper.ways)
           (same_begun : u'.ranges.joins.begun ≡ d.upper.ranges.joins.begun)
           (edits : AreEdits z.keypos next) (by_passes : AreByPasses r.made next)
@@ -882,6 +883,7 @@ module _ (z : Sizes) (s : State (Unit {0}) (View TreeView)) (r : R z s) (id : �
           out_unlinked row o (none_in row n m),
           lent_else served (taken_out outs (given comings d.claims)) row n
               ∙ taken_here outs (given comings d.claims) row o,
+          u.is_pinned,
         )
         changed row (inr n) (inr m) (inr o) = (
           stays_back row (none_in row n m),
@@ -940,17 +942,31 @@ module _ (z : Sizes) (s : State (Unit {0}) (View TreeView)) (r : R z s) (id : �
           at_first = λ (e : r.made ≡ 0). let lo = u.is_pass in let hi = knows.made_before in
               absurd (omega arith);
           only_one =
-              known_by_one z r.made s.words role role' (map upper_of s.views) f.history f.each_seat
+              known_by_one z r.made s.words words' role role' (map upper_of s.views) f.history f.each_seat
               id d.upper u'
               (exchanged_inventory served new x f.inventory) first u.is_pass
               (λ few. let was = f.only_one id d.upper first few u.is_pass in
-              subst (OwnsTree role' (exchanged_inventory served new x f.inventory)) (sym same_tree) record {
+              subst (OwnsTree words' role' (exchanged_inventory served new x f.inventory)) (sym same_tree) record {
                 whole = ap (exchanged_inventory served new x) was.whole;
                 shallow = λ row p e. ⊎_elim
                     (λ (i : IsIn (row, p) (coming ∷ [])). let one : coming ≡ (row, p) = in_one {A = ℕ × Place} coming (row, p) i in
                     subst (λ (b : ℕ × Place). b.1.level ≤ d.upper.splits) one (was.shallow x.old.row place is_old))
                     (λ (o : (role row ≡ Base p) × ¬ IsIn row (x.old.row ∷ [])). was.shallow row p o.0)
                     (relists.base_back row p e);
+                few = let less = but_shorter row_of_base x.old.row d.upper.inventory.bases (x.old.row, x.old.place)
+                    (subst (λ (j : Inventory). IsIn (x.old.row, x.old.place) j.bases) (sym was.whole)
+                    (f.listed.based x.old.row x.old.place is_old)) refl in let most = was.few in omega arith;
+                rows = let most = was.rows in let long = exchanged_length served new x d.upper.inventory
+                    (subst (λ (j : Inventory). IsIn x.old.row j.rows) (sym was.whole)
+                    (f.listed.linked x.old.row (out_linked x.old.row (0, refl)))) in ⊎_elim
+                    (λ (c : length served + (length x.comes + d.upper.renewal.count) ≤ count). (
+                      omega arith,
+                      (λ none. let m = most.1 (λ row l. none row (lent_on row l)) in omega arith),
+                    ))
+                    (λ (c : IsLentFirst s.words r.made served (length x.comes + d.upper.renewal.count) count).
+                    let m = most.1 (c.unlent few) in
+                    (let l = c.one in omega arith, λ none. absurd (none c.row (served_lent c.row c.is))))
+                    counted;
               });
         }
 

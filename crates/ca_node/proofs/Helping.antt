@@ -259,7 +259,7 @@ module _ (z : Sizes) (s : State (Unit {0}) (View TreeView)) (r : R z s) (id : 鈩
 
     pub help_step : R z record { words = words'; homes = s.homes; views = set s.views id (relinked me me.0.claims u').0 }
     help_step = ends_step z s r id me at pass number word' end u' k.ending.is_pinned
-        k.ending.is_pass (same_kept me.0.upper.ranges.own) refl refl (ap (位 b. (without b me.0.upper.inventory, me.0.upper.splits)) (sym border_same))
+        k.ending.is_pass (same_kept me.0.upper.ranges.own) refl refl (ap (位 b. (without b me.0.upper.inventory, me.0.upper.splits, me.0.upper.renewal.count)) (sym border_same))
         (位 row n. inl (noted_same z s r pass word' begun.0 begun.1 id me.0 at own_run_before row
         (noted_alike words' me.0.upper u' (位 x i. i) (位 x i. i) (位 x i. i) (位 x i. i) (位 x i. i) row n)))
         own_knows own_ranging_now (位 _. refl)

@@ -28,7 +28,7 @@ use Rattle.ca_node.specs.Joining.{AreJoining, IsJoining}
 use Rattle.ca_node.specs.JoinsStay.{remembered_route, join_same, joining_goes_on}
 use Rattle.ca_node.specs.DeadStays.{dead_stays}
 use Rattle.ca_node.specs.Hindsight.{IsDead}
-use Rattle.ca_node.specs.Laws.{noted_alike, numbered, placed_range, relisted, tree_lends, under_way}
+use Rattle.ca_node.specs.Laws.{noted_alike, numbered, owns_still, placed_range, relisted, tree_lends, under_way}
 use Rattle.ca_node.specs.Layout.{root_word}
 use Rattle.ca_node.specs.Links.{IsIn, IsUnder, IsActive, IsBoundOf, IsLinked, by_range, IsLent, IsOfOwnRun, IsNoted, by_note, by_item, by_way, by_link, by_link_item, by_border, by_run, by_run_item, by_shown, by_shown_item}
 use Rattle.ca_node.specs.Marks.{IsMarkIn}
@@ -532,8 +532,11 @@ module _ (z : Sizes) (s : State (Unit {0}) (View TreeView)) (r : R z s) (route :
         listed = listed';
         at_first = f.at_first;
         only_one = all_seats (λ j v. r.made ≤ 1 → 0 < v.number
-            → OwnsTree role f.inventory (own_tree v)) (map upper_of s.views) id u'
-            (f.only_one id d.upper first) (λ j v n here. f.only_one j v here);
+            → OwnsTree words' role f.inventory (own_tree v)) (map upper_of s.views) id u'
+            (λ few lo. owns_still s.words words' role f.inventory (own_tree d.upper) lent_then
+            (f.only_one id d.upper first few lo))
+            (λ j v n here few lo. owns_still s.words words' role f.inventory (own_tree v) lent_then
+            (f.only_one j v here few lo));
       }
 
       pub join_step : R z record {

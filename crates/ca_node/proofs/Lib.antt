@@ -1,5 +1,6 @@
 mod ChainLength
 pub mod Copying
+pub mod Covering
 pub mod Deciding
 pub mod Divided
 pub mod Dividing

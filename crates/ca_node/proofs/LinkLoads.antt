@@ -12,7 +12,7 @@ use Rattle.ca_rows.specs.Calls.{Raises}
 use Rattle.ca_rows.specs.Rule.{upper_of}
 use Rattle.ca_node.specs.LoneStays.{same_kept, lone_same}
 use Rattle.ca_node.specs.Attempts.{HasAttempt, IsSecured}
-use Rattle.ca_node.specs.Inventory.{IsListed}
+use Rattle.ca_node.specs.Inventory.{HasFewRows, IsListed}
 use Rattle.ca_node.specs.Joining.{AreJoining, IsHung}
 use Rattle.ca_node.specs.JoinsStay.{mark_hangs, joining_noted, joining_further}
 use Rattle.ca_node.specs.Laws.{numbered, relisted, seat_changed, starts_whole}
@@ -157,6 +157,7 @@ module _ (z : Sizes) (s : State (Unit {0}) (View TreeView)) (r : R z s) (id : �
     last : IsAlone z u → moment ≡ length f.history
     listed : IsAlone z u → IsListed u.inventory (note level)
     shallow : IsAlone z u → level ≤ u.splits
+    few_rows : IsAlone z u → HasFewRows u
 
   module _ (level : ℕ) (b : IsShownBase level) where
     abbrev with_base : TreeView
@@ -220,6 +221,7 @@ module _ (z : Sizes) (s : State (Unit {0}) (View TreeView)) (r : R z s) (id : �
           (b.is_base, known_now z s r id me at with_base refl refl refl);
       listed = λ _. sized (λ y. IsAlone y u → IsListed u.inventory (note level)) b.listed;
       shallow = λ _. sized (λ y. IsAlone y u → level ≤ u.splits) b.shallow;
+      few_rows = λ _. sized (λ y. IsAlone y u → HasFewRows u) b.few_rows;
       alike = λ old i same. sym (k.notes old i).spells ∙ ap (row_at s.words) same;
     }
 
@@ -264,6 +266,8 @@ module _ (z : Sizes) (s : State (Unit {0}) (View TreeView)) (r : R z s) (id : �
             };
         shallow = λ alone. let one = alone.0 in let within = r.within in
             (f.only_one id u first (omega arith) alone.1).shallow c (spot level) is;
+        few_rows = λ alone. let one = alone.0 in let within = r.within in
+            let most = (f.only_one id u first (omega arith) alone.1).rows in omega arith;
       }
 
   -- It names a base that was left over: the seat remembers the route, and so has a note on the base
@@ -300,6 +304,7 @@ module _ (z : Sizes) (s : State (Unit {0}) (View TreeView)) (r : R z s) (id : �
         last = λ alone. absurd (not_alone alone);
         listed = λ alone. absurd (not_alone alone);
         shallow = λ alone. absurd (not_alone alone);
+        few_rows = λ alone. absurd (not_alone alone);
       }
 
   -- It names a route.

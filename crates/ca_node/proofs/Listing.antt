@@ -1,6 +1,6 @@
 -- Lists of what a tree has: their members, each once, and how long they are; and what is listed
 -- once a step put some rows in the place of others.
-use Rattle.std.proofs.Common.{◌≡◌, ◌≢◌, ◌⊎◌, ℕ, suc, ◌+◌, ◌<◌, ◌≤◌, max, cond, List, [], ◌∷◌, ◌++◌, length, set, sym, refl, ap, ◌∙◌, subst, inl, inr, ⊎_elim, arith, eq-eqb, ne_eqb}
+use Rattle.std.proofs.Common.{◌≡◌, ◌≢◌, ◌⊎◌, ℕ, suc, ◌+◌, ◌<◌, ◌≤◌, max, cond, List, [], ◌∷◌, ◌++◌, length, set, sym, refl, ap, ◌∙◌, subst, inl, inr, ⊎_elim, arith, length-append, eq-eqb, ne_eqb}
 use mathlib.Core.Logic.{dite}
 use mathlib.Core.Option.{some}
 use native.Mathlib.Decide.{ℕ_discrete}
@@ -13,6 +13,7 @@ use Rattle.ca_node.specs.Laws.{in_nothing, in_one}
 use Rattle.ca_node.specs.Links.{IsIn, IsLinked}
 use Rattle.ca_node.specs.Place.{Place}
 use Rattle.ca_node.specs.Shape.{Role, Out, Base}
+use Rattle.ca_node.specs.Told.{Update, exchanged_inventory}
 use Rattle.ca_node.specs.Tree.{Knows}
 use Rattle.ca_node.specs.TreeView.{Inventory, TreeView}
 use Rattle.ca_node.proofs.Looking.{in_more}
@@ -240,19 +241,27 @@ module _ (words words' : List ℕ) (role role' : ℕ → Role) (ins outs : List 
         ∙ (ap role (sym e) ∙ r.base_out a.0 a.1 c) in cc);
   }
 
+-- So many rows are listed behind an exchange of a base for a base, if the old one was.
+pub exchanged_length : (served : List ℕ) (new : ℕ) (x : Update) (i : Inventory) → IsIn x.old.row i.rows
+    → length (exchanged_inventory served new x i).rows ≤ length served + length x.comes + length i.rows
+exchanged_length served new x i is = let rest = but_all row_itself (x.old.row ∷ x.goes) i.rows in
+    let less = but_all_shorter row_itself (x.old.row ∷ x.goes) i.rows x.old.row is (0, refl) in
+    let all = length-append (served ++ new ∷ x.comes) rest in
+    let ins = length-append served (new ∷ x.comes) in omega arith
+
 -- Where no more than one pass was made, the one that took a step is the only one: if it knows the
 -- list then, so does each pass.
-pub known_by_one : (z : Sizes) (made : ℕ) (words : List ℕ) (role role' : ℕ → Role) (uppers : List TreeView)
+pub known_by_one : (z : Sizes) (made : ℕ) (words words' : List ℕ) (role role' : ℕ → Role) (uppers : List TreeView)
     (history : History)
     → ((j : ℕ) (v : TreeView) → get_elem? uppers j ≡ some v
     → Knows z made words role uppers history j v)
     → (id : ℕ) (u u' : TreeView) (i : Inventory) → get_elem? uppers id ≡ some u → 0 < u.number
-    → (made ≤ 1 → OwnsTree role' i (own_tree u'))
+    → (made ≤ 1 → OwnsTree words' role' i (own_tree u'))
     → (j : ℕ) (v : TreeView) → get_elem? (set uppers id u') j ≡ some v → made ≤ 1 → 0 < v.number
-    → OwnsTree role' i (own_tree v)
-known_by_one z made words role role' uppers history each id u u' i at is_pass known j v here few pass =
+    → OwnsTree words' role' i (own_tree v)
+known_by_one z made words words' role role' uppers history each id u u' i at is_pass known j v here few pass =
     ⊎_elim
-    (λ (t : (j ≡ id) × (u' ≡ v)). subst (λ (w : TreeView). OwnsTree role' i (own_tree w)) t.1 (known few))
+    (λ (t : (j ≡ id) × (u' ≡ v)). subst (λ (w : TreeView). OwnsTree words' role' i (own_tree w)) t.1 (known few))
     (λ (t : (j ≢ id) × (get_elem? uppers j ≡ some v)). let mine = each id u at in
     let a = mine.made_before in let b = (each j v t.1).made_before in
     absurd (t.0 (mine.alone is_pass j v t.1 (omega arith))))

@@ -1,5 +1,5 @@
 -- The first base that is marked for a pass's own range, and each next one for any range.
-use Rattle.std.proofs.Common.{◌≡◌, ◌≢◌, ◌⊎◌, ℕ, ◌/◌, ◌<◌, ◌≤◌, Bool, true, false, eqb, List, [], ◌∷◌, get_or, set, sym, refl, ap, ◌∙◌, subst, inl, inr, ⊎_elim, arith, eq-eqb, ne_eqb}
+use Rattle.std.proofs.Common.{◌≡◌, ◌≢◌, ◌⊎◌, ℕ, ◌+◌, ◌/◌, ◌<◌, ◌≤◌, Bool, true, false, eqb, List, [], ◌∷◌, get_or, set, sym, refl, ap, ◌∙◌, subst, inl, inr, ⊎_elim, arith, eq-eqb, ne_eqb}
 use mathlib.Core.Logic.{dite}
 use mathlib.Core.Option.{some, none, some-ne-none}
 use native.Mathlib.Decide.{ℕ_discrete}
@@ -21,21 +21,21 @@ use Rattle.ca_runs.specs.Runs.{AreNeighbours, BeginsBefore, Span}
 use Rattle.ca_runs.specs.Scenes.{IsFirst, IsNext}
 use Rattle.ca_node.specs.LoneStays.{KeepsOwn, same_kept, none_kept, none_by_unmarked, none_by_marking}
 use Rattle.ca_node.specs.Copies.{Copy, update_of, IsCopy, IsFirstCopy, IsNextCopy, copied, IsCopied, Copies, HasCopied, marking_now}
-use Rattle.ca_node.specs.Inventory.{AreOnce, row_itself}
+use Rattle.ca_node.specs.Inventory.{AreOnce, row_itself, IsLentFirst}
 use Rattle.ca_node.specs.Layout.{sequence_unit}
 use Rattle.ca_node.specs.Links.{IsIn, IsActive, HasBegun, IsBoundOf, IsLinked, IsLent, IsOfOwnRun}
 use Rattle.ca_node.specs.Marks.{IsBorder}
 use Rattle.ca_node.specs.May.{MaySwap}
 use Rattle.ca_node.specs.Ranging.{IsTrueBorder, GoesOn, IsSoFar, IsRanging}
 use Rattle.ca_node.specs.RangesStay.{active_on, over_on, border_on, active_undecided}
-use Rattle.ca_node.specs.Reached.{base_at, end_lent}
+use Rattle.ca_node.specs.Reached.{base_at, lent_end, end_lent}
 use Rattle.ca_node.specs.Row.{row_at, form, mark as mark_kind, mark_owner, mark_number, mark_bound, mark_back, IsBorderRow, IsMarkedBy}
 use Rattle.ca_node.specs.Scenes.{IsBase, span_of, scene_of}
 use Rattle.ca_node.specs.Shape.{Role, Base, place_of}
 use Rattle.ca_node.specs.Told.{MyTree, IsLastThere, one_more_lost, IsMissed, taken_out, given, lent_out}
 use Rattle.ca_node.specs.Tree.{IsTrue}
 use Rattle.ca_node.specs.TreeView.{Note, Border, Begun, KnownRanges, TreeView}
-use Rattle.ca_node.proofs.Copying.{ex, over, free, knows, new_words, serve_linked, ranging_still, run_keeps, copy_step, copied_now}
+use Rattle.ca_node.proofs.Copying.{one_active, ex, over, free, knows, new_words, serve_linked, ranging_still, run_keeps, copy_step, copied_now}
 use Rattle.ca_node.proofs.Exchanging.{own_ranging, is_old, new_row, ins_once}
 use Rattle.ca_node.proofs.Holding.{held_row}
 use Rattle.ca_node.proofs.Looking.{R, loses, hangs_still, in_more}
@@ -232,6 +232,22 @@ module _ (z : Sizes) (s : State (Unit {0}) (View TreeView)) (r : R z s) (id : �
     keeps_own = none_kept me.0.upper.ranges.own (marking_now me.0.upper.ranges begun its).own (none_by_unmarked me.0.upper.ranges.own begun k.own)
         (none_by_marking (marking_now me.0.upper.ranges begun its).own begun (record { row = begun.top; its = its }) refl)
 
+    -- No row is lent to a range where the pass is the only one: its own is the one that is active, and marked nothing yet.
+    counted : IsLentFirst s.words r.made served (0 + me.0.upper.renewal.count) me.0.upper.renewal.count
+    counted = record {
+      row = begun.top;
+      is = (0, refl);
+      one = omega arith;
+      unlent = λ few row l. let t = lent_end z s.words role (after r.above.history []) r.above.shape row l in let active = t.3.1 in
+          let here = r.above.ranged.made_before (mark_owner (row_at s.words t.0)) (mark_number (row_at s.words t.0)) active in
+          let mine = (knows z s r id me at new x c hit).made_before in let lo = c.is_pass in let own = active.0 in
+          let pass_is : mark_owner (row_at s.words t.0) ≡ me.0.upper.number = omega arith in
+          let number_is : mark_number (row_at s.words t.0) ≡ begun.number = one_active s.words me.0.upper.number
+          (mark_number (row_at s.words t.0)) begun.number
+          (subst (λ p. IsActive s.words p (mark_number (row_at s.words t.0))) pass_is active) so.0.0 in
+          so.1 t.0 (t.1, t.2) (t.3.0, pass_is, number_is);
+    }
+
     abbrev first_view : View TreeView
     first_view = (relinked me (lent_out served (taken_out (x.old.row ∷ []) (given (new ∷ []) me.0.claims)))
         (copied served (marking_now me.0.upper.ranges begun its) new x me.0.upper)).0
@@ -241,9 +257,9 @@ module _ (z : Sizes) (s : State (Unit {0}) (View TreeView)) (r : R z s) (id : �
         × IsCopied served (marking_now me.0.upper.ranges begun its) new x me (first_view, me.1)
     first_copied = (
       copy_step z s r id me at new x c hit has_begun bounded served serve served_once new_end
-          (marking_now me.0.upper.ranges begun its) fits own_now unmarked borders run refl refl keeps_own,
+          (marking_now me.0.upper.ranges begun its) fits own_now unmarked borders run refl refl keeps_own (inr counted),
       copied_now z s r id me at new x c hit has_begun bounded served serve served_once new_end
-          (marking_now me.0.upper.ranges begun its) fits own_now unmarked borders run refl refl keeps_own,
+          (marking_now me.0.upper.ranges begun its) fits own_now unmarked borders run refl refl keeps_own (inr counted),
     )
 
   -- The next base behind one that the range marked.
@@ -331,9 +347,11 @@ module _ (z : Sizes) (s : State (Unit {0}) (View TreeView)) (r : R z s) (id : �
         × IsCopied [] me.0.upper.ranges new x me (next_view, me.1)
     next_copied = (
       copy_step z s r id me at new x c hit was_begun bounded_too [] serves_none once new_end_too
-          me.0.upper.ranges fits_next own_still (λ j y _ here. none_before j y here) (λ b i. inl i) (λ row o. o) refl refl (same_kept me.0.upper.ranges.own),
+          me.0.upper.ranges fits_next own_still (λ j y _ here. none_before j y here) (λ b i. inl i) (λ row o. o) refl refl (same_kept me.0.upper.ranges.own)
+          (inl (omega arith)),
       copied_now z s r id me at new x c hit was_begun bounded_too [] serves_none once new_end_too
-          me.0.upper.ranges fits_next own_still (λ j y _ here. none_before j y here) (λ b i. inl i) (λ row o. o) refl refl (same_kept me.0.upper.ranges.own),
+          me.0.upper.ranges fits_next own_still (λ j y _ here. none_before j y here) (λ b i. inl i) (λ row o. o) refl refl (same_kept me.0.upper.ranges.own)
+          (inl (omega arith)),
     )
 
 module _ (z : Sizes) where

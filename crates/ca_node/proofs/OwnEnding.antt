@@ -162,7 +162,7 @@ module _ (z : Sizes) (s : State (Unit {0}) (View TreeView)) (r : R z s) (id : 鈩
     }
     end_step = ends_step z s r id me at pass begun.number word' end u' is_pinned is_pass
         (none_kept me.0.upper.ranges.own Quiet (none_by_marking me.0.upper.ranges.own begun border own) (none_by_quiet Quiet refl)) refl refl
-        (ap (位 b. (without b me.0.upper.inventory, me.0.upper.splits)) top_is) own_notes own_knows own_ranging (位 _. refl)
+        (ap (位 b. (without b me.0.upper.inventory, me.0.upper.splits, me.0.upper.renewal.count)) top_is) own_notes own_knows own_ranging (位 _. refl)
         (位 j y ne here row o. inl (run_before z s r pass word' is_pass few j y here (other_number j y ne here) row o))
         (位 j y ne here. ranging_then z s r pass begun.number word' end j y.upper
         (at_map upper_of s.views j y here) (other_number j y ne here))

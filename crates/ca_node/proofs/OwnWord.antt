@@ -1,6 +1,6 @@
 -- The word is written that says how far the last range of a pass is: what else of the words stays,
 -- and what seats know by them.
-use Rattle.std.proofs.Common.{◌≡◌, ◌≢◌, ◌⊎◌, ℕ, ◌+◌, ◌*◌, ◌/◌, ◌<◌, ◌≤◌, List, [], map, get_or, set, sym, refl, ap, ◌∙◌, subst, inl, inr, ⊎_elim, arith, length-set, get_or-set_other, get_or-set_same}
+use Rattle.std.proofs.Common.{◌≡◌, ◌≢◌, ◌⊎◌, ℕ, ◌+◌, ◌*◌, ◌/◌, ◌<◌, ◌≤◌, List, [], length, map, get_or, set, sym, refl, ap, ◌∙◌, subst, inl, inr, ⊎_elim, arith, length-set, get_or-set_other, get_or-set_same}
 use mathlib.Core.Logic.{dite}
 use mathlib.Core.Option.{some}
 use native.Mathlib.Decide.{ℕ_discrete}
@@ -19,7 +19,7 @@ use Rattle.ca_rows.proofs.Rules.{all_seats}
 use Rattle.ca_runs.specs.Runs.{Ends, AreRuns}
 use Rattle.ca_node.specs.LoneStays.{KeepsOwn, lone_still}
 use Rattle.ca_node.proofs.Lone.{lone_by_one}
-use Rattle.ca_node.specs.Inventory.{IsInventory, OwnsTree, own_tree}
+use Rattle.ca_node.specs.Inventory.{AreAtMost, IsInventory, OwnsTree, own_tree}
 use Rattle.ca_node.specs.Attempts.{join_of}
 use Rattle.ca_node.specs.JoinsStay.{joining_same, joined_same}
 use Rattle.ca_node.specs.DeadStays.{dead_stays}
@@ -355,12 +355,15 @@ module _ (z : Sizes) (s : State (Unit {0}) (View TreeView)) (r : R z s) (pass wo
       y.upper.number y.upper.ranges)
       → (change : Inventory → Inventory) → IsInventory words' r.above.role
       (change r.above.inventory)
-      → own_tree u' ≡ (change d.upper.inventory, d.upper.splits)
+      → own_tree u' ≡ (change d.upper.inventory, d.upper.splits, d.upper.renewal.count)
+      → length (change d.upper.inventory).bases ≤ length d.upper.inventory.bases
+      → (r.made ≤ 1 → (most : ℕ) → AreAtMost s.words (length d.upper.inventory.rows) most
+      → AreAtMost words' (length (change d.upper.inventory).rows) most)
       → KeepsOwn d.upper.ranges.own u'.ranges.own → u'.ways ≡ d.upper.ways
       → u'.ranges.joins.begun ≡ d.upper.ranges.joins.begun
       → IsTree z r.made words' (set (map upper_of s.views) id u')
   tree_with id d at is_pass u' shape' ends' runs' made_before own_knows own_ranging others change
-      listed same_tree keeps_own same_ways same_begun = record {
+      listed same_tree no_more no_rows keeps_own same_ways same_begun = record {
         usable = f.usable;
         history = f.history;
         edits = f.edits;
@@ -400,10 +403,14 @@ module _ (z : Sizes) (s : State (Unit {0}) (View TreeView)) (r : R z s) (pass wo
         listed = listed;
         at_first = λ (e : r.made ≡ 0). let hi' = (knows_upper z s r id d at).made_before in
             absurd (omega arith);
-        only_one = known_by_one z r.made s.words role role (map upper_of s.views) f.history f.each_seat
+        only_one = known_by_one z r.made s.words words' role role (map upper_of s.views) f.history f.each_seat
             id d.upper u'
             (change f.inventory) (at_map upper_of s.views id d at) is_pass
             (λ few. let was = f.only_one id d.upper (at_map upper_of s.views id d at) few is_pass in
-            subst (OwnsTree role (change f.inventory)) (sym same_tree)
-            record { whole = ap change was.whole; shallow = was.shallow });
+            subst (OwnsTree words' role (change f.inventory)) (sym same_tree) record {
+              whole = ap change was.whole;
+              shallow = was.shallow;
+              few = let most = was.few in omega arith;
+              rows = no_rows few (1 + 2 * d.upper.splits + d.upper.renewal.count) was.rows;
+            });
       }

@@ -184,7 +184,8 @@ module _ (z : Sizes) (s : State (Unit {0}) (View TreeView)) (r : R z s) (pass wo
               (ranging_else z s r pass word' lo hi true_then over_then (f.ranged.ends y.upper.number) y.upper (other j y ne here)
               (f.ranged.each j y.upper (at_map upper_of s.views j y here))),
         ))
-        (λ i. i) listed' same_tree keeps_own same_ways same_begun
+        (λ i. i) listed' same_tree (omega arith)
+        (λ _ most are. (are.0, λ none. are.1 (λ row l. none row (lent_then row l)))) keeps_own same_ways same_begun
 
     abbrev d' : View TreeView
     d' = record d { upper = u'; most = most' }

@@ -25,6 +25,7 @@ use Rattle.ca_runs.proofs.Keeping.{runs_still}
 use Rattle.ca_node.specs.Attempts.{IsUnderWay}
 use Rattle.ca_node.specs.JoinsStay.{nothing_joining}
 use Rattle.ca_node.specs.Laws.{noted_alike, tree_lends, in_nothing, in_one, numbered, relisted, seat_changed}
+use Rattle.ca_node.specs.Inventory.{row_itself, row_of_base}
 use Rattle.ca_node.specs.Links.{IsIn, IsUnder, IsLinked, by_range, IsLent, IsOfOwnRun, IsNoted, by_note}
 use Rattle.ca_node.specs.Lone.{attempt_of, IsLone}
 use Rattle.ca_node.specs.May.{MaySwap}
@@ -38,11 +39,11 @@ use Rattle.ca_node.specs.Shape.{Role, Out, Route, place_of, IsShape}
 use Rattle.ca_node.specs.Told.{MyTree, given, taken_out}
 use Rattle.ca_node.specs.Tree.{IsTrue, IsTrueWay, Knows, IsTree}
 use Rattle.ca_node.specs.States.{IsAlone}
-use Rattle.ca_node.specs.TreeView.{Note, Way, Attempt, Ranging, Quiet, Joining, TreeView, own_behind}
+use Rattle.ca_node.specs.TreeView.{Note, Way, Attempt, Inventory, Ranging, Quiet, Joining, TreeView, own_behind}
 use Rattle.ca_node.specs.Unlinks.{Unlinking, IsUnlinking, attempt_by, gone_by, unlinked_inventory, unlinked, one_unlinking_lost, IsUnlinked, UnlinksRoute, HasUnlinked}
 use Rattle.ca_node.proofs.Holding.{unclaimed_row}
 use Rattle.ca_node.proofs.Joined.{joined_keeps, states_keep, joining_keeps}
-use Rattle.ca_node.proofs.Listing.{known_by_one}
+use Rattle.ca_node.proofs.Listing.{but_all_shorter, known_by_one}
 use Rattle.ca_node.proofs.Lone.{lone_by_one}
 use Rattle.ca_node.proofs.Looking.{R, looked, of_map, knows_upper, further, starts_shorter}
 use Rattle.ca_node.proofs.Members.{has, given_here, given_else, taken_here, taken_else}
@@ -50,7 +51,7 @@ use Rattle.ca_node.proofs.OwnTurns.{behind_turns, behind_own, so_turned, marking
 use Rattle.ca_node.proofs.Relinked.{relinked_wide, relinked_else, relinked_told, relinked_joins, relinked_keeps, out_no_route}
 use Rattle.ca_node.proofs.Remembering.{unlinked_out, note_stays, way_stays, ranges_stay, notes_stay}
 use Rattle.ca_node.proofs.Unlinked.{without_route}
-use Rattle.ca_node.proofs.UnlinkedRows.{route_form, is_there, secured_now, here as hangs, held, new_unlinked, apart, shape_now, route_was, base_stays, out_linked, out_unlent, out_unlinked, new_linked, lent_on, lent_back, stays_back, stays_on, marked_stay, was_marked, same_ranges, route_stays, base_goes, out_stays, under_same, within_still, dies_now, listed_now}
+use Rattle.ca_node.proofs.UnlinkedRows.{route_form, is_there, secured_now, here as hangs, held, new_unlinked, apart, shape_now, route_was, base_stays, out_linked, out_unlent, out_unlinked, new_linked, lent_on, lent_back, stays_back, stays_on, marked_stay, was_marked, same_ranges, route_stays, base_goes, out_stays, under_same, within_still, dies_now, left_listed, listed_now}
 use Rattle.ca_rows.specs.Layout.{row_words}
 use Rattle.ca_node.specs.Layout.{root_word}
 
@@ -140,6 +141,7 @@ module _ (z : Sizes) (s : State (Unit {0}) (View TreeView)) (r : R z s) (id : �
     out_unlent z s r id me at new x u hit row o,
     out_unlinked z s r id me at new x u hit row o,
     taken_here outs (given ins d.claims) row o,
+    u.is_pinned,
   )
   changed row (inr n) (inr m) = (
     stays_back z s r id me at new x u hit row n,
@@ -430,11 +432,23 @@ module _ (z : Sizes) (s : State (Unit {0}) (View TreeView)) (r : R z s) (id : �
     listed = listed_now z s r id me at new x u hit;
     at_first = λ (e : r.made ≡ 0). let lo = u.is_pass in let hi =
         (knows_upper z s r id d at).made_before in absurd (omega arith);
-    only_one = known_by_one z r.made s.words role role' (map upper_of s.views) f.history f.each_seat
+    only_one = known_by_one z r.made s.words words' role role' (map upper_of s.views) f.history f.each_seat
         id d.upper u' (unlinked_inventory new x f.inventory) mine
         u.is_pass (λ few. let was = f.only_one id d.upper mine few u.is_pass in record {
           whole = ap (unlinked_inventory new x) was.whole;
           shallow = within_still z s r id me at new x u hit d.upper.splits was.shallow;
+          few = let left = left_listed z s r id me at new x u hit in
+              let less = but_all_shorter row_of_base (x.left.row ∷ x.right.row ∷ []) d.upper.inventory.bases (x.left.row, left.0)
+              (subst (λ (j : Inventory). IsIn (x.left.row, left.0) j.bases) (sym was.whole) left.1) (0, refl) in
+              let most = was.few in omega arith;
+          rows = let most = was.rows in
+              let less = but_all_shorter row_itself (gone_by x) d.upper.inventory.rows x.way.row
+              (subst (λ (j : Inventory). IsIn x.way.row j.rows) (sym was.whole)
+              (f.listed.linked x.way.row (out_linked z s r id me at new x u hit x.way.row (0, refl)))) (0, refl) in (
+                omega arith,
+                λ none.
+                    let m = most.1 (λ row l. none row (lent_on z s r id me at new x u hit row l)) in omega arith,
+              );
         });
   }
 

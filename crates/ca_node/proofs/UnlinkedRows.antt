@@ -256,6 +256,10 @@ module _ (z : Sizes) (s : State (Unit {0}) (View TreeView)) (r : R z s) (id : �
   role_right = right_role z s.words role last shape z.keypos is_last x.way.row place
       (route_key x.way.its) is_there is_left is_right new new_base united
 
+  -- The left base is listed.
+  pub left_listed : (p : Place) × IsIn (x.left.row, p) r.above.inventory.bases
+  left_listed = (left_at, f.listed.based x.left.row left_at (subst (λ (c : ℕ). role c ≡ Base left_at) left_here role_left))
+
   pub role_new : role' new ≡ Base x.way.place
   role_new = new_role z s.words role last shape z.keypos is_last x.way.row place
       (route_key x.way.its) is_there is_left is_right new new_base united

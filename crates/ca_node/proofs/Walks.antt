@@ -15,7 +15,7 @@ use Rattle.ca_node.specs.declared.cursor.Spot.{Spot}
 use Rattle.ca_node.specs.declared.cursor.Spot.TheVariants as spot
 use Rattle.ca_node.specs.declared.link.Link.{Link}
 use Rattle.ca_node.specs.declared.link.Link.TheVariants as link
-use Rattle.ca_node.specs.Inventory.{IsListed}
+use Rattle.ca_node.specs.Inventory.{HasFewRows, IsListed}
 use Rattle.ca_node.specs.Links.{IsIn}
 use Rattle.ca_node.specs.Place.{Span, all_keys, left_of, right_of, HasKey, Place, IsLinkOf}
 use Rattle.ca_node.specs.Row.{level, route_key}
@@ -312,6 +312,10 @@ module _ (z : Sizes) (s : Spot) (m m' m'' : MyTree) (some_rows : 0 < z.rows)
             (λ (x : MyTree). led.note.place.level ≤ x.0.upper.splits) now (led.shallow rows_too
             (subst (λ (y : Sizes). IsAlone y m'.0.upper) (sym sizes) (subst
             (λ (x : MyTree). IsAlone z x.0.upper) (sym now) alone)));
+        few_rows = λ alone. subst
+            (λ (x : MyTree). HasFewRows x.0.upper) now (led.few_rows rows_too
+            (subst (λ (y : Sizes). IsAlone y m'.0.upper) (sym sizes) (subst
+            (λ (x : MyTree). IsAlone z x.0.upper) (sym now) alone)));
         alike = λ old i. led.alike old
             (subst (λ (x : MyTree). IsIn old x.0.upper.notes) (sym now) i);
       }
@@ -560,6 +564,7 @@ module _ (z : Sizes) (s : Spot) (m : MyTree) (cursor : Cursor) (m' : MyTree) whe
     known = at.known;
     listed = at.listed;
     shallow = at.shallow;
+    few_rows = at.few_rows;
     alike = at.alike;
   }
 

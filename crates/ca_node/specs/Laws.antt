@@ -1,12 +1,14 @@
 -- The rule of the tree meets the laws of the rows.
 use Rattle.std.proofs.Common.{◌≡◌, ◌≢◌, ◌⊎◌, ℕ, zero, suc, ◌+◌, ◌*◌, ◌<◌, ◌≤◌, List, [], ◌∷◌, ◌++◌, length, map, get_or, set, sym, refl, ap, ◌∙◌, subst, inl, inr, ⊎_elim, arith, append-nil, ne_eqb, if◌then◌else◌}
+use mathlib.Core.Logic.{dite}
 use mathlib.Core.Option.{some, some-injective, some-ne-none}
+use native.Mathlib.Decide.{ℕ_discrete}
 use lib.ListN.{get_elem?}
 use Rattle.atomic_table.proofs.Lists.{at_set, set_else}
 use Rattle.ca_model.specs.History.{History, after, edits_of_pass, AreByPasses}
 use Rattle.ca_model.specs.StoreMap.{StoreMap}
 use Rattle.ca_rows.specs.declared.sizes.Sizes.{Sizes}
-use Rattle.ca_rows.specs.Laws.{Agrees, Framed, Frames, Lends, Pinning, Making, Closing}
+use Rattle.ca_rows.specs.Laws.{Agrees, Framed, Frames, Lends, Listing, Pinning, Making, Closing}
 use Rattle.ca_rows.specs.Words.{IsWide}
 use Rattle.ca_runs.specs.Runs.{Ends}
 use Rattle.ca_runs.proofs.Keeping.{runs_still}
@@ -14,7 +16,7 @@ use Rattle.ca_rows.proofs.Making.{at_place}
 use Rattle.ca_rows.proofs.Rules.{all_seats}
 use Rattle.ca_node.specs.Attempts.{IsSecured}
 use Rattle.ca_node.specs.DeadStays.{dead_stays, under_dead}
-use Rattle.ca_node.specs.Inventory.{IsInventory, OwnsTree, own_tree}
+use Rattle.ca_node.specs.Inventory.{HasListed, IsInventory, OwnsTree, own_tree}
 use Rattle.ca_node.specs.Joining.{IsJoining}
 use Rattle.ca_node.specs.JoinsStay.{joining_same, nothing_joining, joined_same}
 use Rattle.ca_node.specs.Links.{root, IsIn, IsUnder, IsActive, IsLinked, by_route, by_range, IsLent, IsOfOwnRun, IsNoted, by_note, by_item, by_way, by_link, by_link_item, by_border, by_run, by_run_item, by_shown, by_shown_item}
@@ -120,6 +122,16 @@ left_run words u v row is o = by u.ranges.own o.2.0 o.2.1 (sym is ∙ o.2.2)
     by Left begun border e = absurd cc
     by (Joining x) begun border e = absurd cc
     by (Secured x) begun border e = absurd cc
+
+-- What a seat knows of what the tree has it knows still, where what was lent to an operation is.
+pub owns_still : (words others : List ℕ) (role : ℕ → Role) (i : Inventory) (own : Inventory × ℕ × ℕ)
+    → ((row : ℕ) → IsLent words row → IsLent others row) → OwnsTree words role i own → OwnsTree others role i own
+owns_still words others role i own lent o = record {
+  whole = o.whole;
+  shallow = o.shallow;
+  few = o.few;
+  rows = (o.rows.0, λ none. o.rows.1 (λ row l. none row (lent row l)));
+}
 
 -- The rows are the same where a table agrees with another on what is linked or noted.
 module _ (z : Sizes) (made : ℕ) (uppers : List TreeView) (words others : List ℕ) (f : IsTree z made words uppers)
@@ -341,7 +353,8 @@ module _ (z : Sizes) (made : ℕ) (uppers : List TreeView) (words others : List 
     inventory = f.inventory;
     listed = listed_now;
     at_first = f.at_first;
-    only_one = f.only_one;
+    only_one = λ j u at few lo. owns_still words others f.role f.inventory (own_tree u)
+        (lent_on z.rows words others f.shape.wide wide' same_root active in_range same) (f.only_one j u at few lo);
   }
 
   framed : Framed IsLinked IsLent IsNoted IsTree z made uppers words others
@@ -360,6 +373,11 @@ tree_frames z made uppers words others f a = framed z made uppers words others f
 
 pub tree_lends : Lends IsLinked IsLent IsNoted IsTree
 tree_lends z made uppers words f r x = by_range x.0 r x.1 x.2 x.3
+
+pub tree_listing : Listing IsLinked IsLent IsNoted IsTree HasListed
+tree_listing z made uppers words f few j u at r l = dite (ℕ_discrete u.number 0) (λ e. inr e)
+    (λ n. let own = (f.only_one j u at few (omega arith)).whole in
+    inl (subst (λ (i : Inventory). IsIn r i.rows) (sym own) (f.listed.linked r l)))
 
 -- Who is there now was there with this number.
 abbrev pub IsNumbered : List TreeView → List TreeView → Type 0
@@ -426,8 +444,8 @@ seat_changed z made words uppers id u u' f at same has lone k ranging = record {
   inventory = f.inventory;
   listed = f.listed;
   at_first = f.at_first;
-  only_one = all_seats (λ j v. made ≤ 1 → 0 < v.number → OwnsTree f.role f.inventory (own_tree v)) uppers id u'
-      (λ few lo. let n = same lo in subst (OwnsTree f.role f.inventory) (sym (has lo)) (f.only_one id u at few (omega arith)))
+  only_one = all_seats (λ j v. made ≤ 1 → 0 < v.number → OwnsTree words f.role f.inventory (own_tree v)) uppers id u'
+      (λ few lo. let n = same lo in subst (OwnsTree words f.role f.inventory) (sym (has lo)) (f.only_one id u at few (omega arith)))
       (λ j v n here. f.only_one j v here);
 }
 
@@ -649,11 +667,13 @@ tree_making = record {
     at_first = λ none_yet. absurd (omega arith);
     only_one = λ j u here few lo. let first : made ≡ 0 = omega arith in ⊎_elim
         (λ (was : get_elem? uppers j ≡ some u). let low = (f.each_seat j u was).made_before in absurd (omega arith))
-        (λ (t : (j ≡ length uppers) × (blank (made + 1) ≡ u)). subst (λ (y : TreeView). OwnsTree f.role f.inventory (own_tree y)) t.1 record {
+        (λ (t : (j ≡ length uppers) × (blank (made + 1) ≡ u)). subst (λ (y : TreeView). OwnsTree words f.role f.inventory (own_tree y)) t.1 record {
           whole = sym (f.at_first first);
           shallow = λ row place is. let here : IsIn (row, place) first_inventory.bases = subst (λ (y : Inventory). IsIn (row, place) y.bases)
               (f.at_first first) (f.listed.based row place is) in let top : ℕ × Place = (1, root_place) in let base : ℕ × Place = (row, place) in
               let one : top ≡ base = in_one top base here in let level = ap (λ (b : ℕ × Place). b.1.level) one in omega arith;
+          few = omega arith;
+          rows = (omega arith, λ _. omega arith);
         })
         (at_place uppers (blank (made + 1)) u j here);
   };

@@ -16,7 +16,7 @@ use Rattle.ca_rows.specs.Rule.{fresh, no_sizes}
 use Rattle.ca_rows.specs.declared.view.Met.{Met}
 use Rattle.ca_rows.specs.Told.{Mine, met_of, relinked}
 use Rattle.ca_node.specs.Joining.{IsRemembered}
-use Rattle.ca_node.specs.Inventory.{AreOnce, but, but_all, row_itself, row_of_base, IsListed}
+use Rattle.ca_node.specs.Inventory.{AreOnce, but, but_all, row_itself, row_of_base, HasFewRows, IsListed}
 use Rattle.ca_node.specs.Links.{IsIn}
 use Rattle.ca_node.specs.declared.link.Link.{Link}
 use Rattle.ca_node.specs.declared.link.Link.TheVariants as link
@@ -108,6 +108,7 @@ pub record IsLedToBase (walks : Bool) (link : ℕ) (m : MyTree) (n : ℕ) (m' : 
       × IsKnown m.0.sizes (led_to_base m.0.upper more note (come_to walks m.0.upper note) (come_at walks m.0.upper))
   pub listed : 0 < m.0.sizes.rows → IsAlone m.0.sizes m.0.upper → IsListed m.0.upper.inventory note
   pub shallow : 0 < m.0.sizes.rows → IsAlone m.0.sizes m.0.upper → note.place.level ≤ m.0.upper.splits
+  pub few_rows : 0 < m.0.sizes.rows → IsAlone m.0.sizes m.0.upper → HasFewRows m.0.upper
   pub alike : (old : Note) → IsIn old m.0.upper.notes → old.row ≡ note.row → old.its ≡ note.its
 
 -- The link was loaded: it names this route.
@@ -324,6 +325,7 @@ pub record IsUpdate (z : Sizes) (m : MyTree) (new : ℕ) (x : Update) : Type 0 w
   pub are_objects : (k row : ℕ) (its : List ℕ) → get_elem? (items x.its) k ≡ some row → get_elem? x.objects k ≡ some its → IsObjectOf m x row its
   pub come : (row : ℕ) → IsIn row x.comes → IsIn row (items x.its) × ((its : List ℕ) × (claim_of m.0.claims row ≡ some (Holds its)))
   pub come_once : AreOnce row_itself x.comes
+  pub one_comes : length x.comes ≤ 1
   -- What goes stood in one place of the old base, and no item of the new one is from there.
   pub go : (row : ℕ) → IsIn row x.goes → (i : ℕ) × (get_elem? (items x.old.its) i ≡ some row) × IsNotFrom x i row
   pub stay : (row : ℕ) → IsIn row (items x.old.its) → IsIn row (items x.its) ⊎ IsIn row x.goes

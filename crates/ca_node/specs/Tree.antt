@@ -85,8 +85,8 @@ pub record IsTree (z : Sizes) (made : ℕ) (words : List ℕ) (uppers : List Tre
   pub lone : AreLone made words role uppers
   pub each_seat : (j : ℕ) (u : TreeView) → get_elem? uppers j ≡ some u → Knows z made words role uppers history j u
   -- What the tree has is listed. Until a pass was made that is what it has at first, and a pass that is the only one knows the list; by its splits alone
-  -- bases came to stand at greater levels.
+  -- bases came to stand at greater levels, and by those and its updates alone more rows came to be linked.
   pub inventory : Inventory
   pub listed : IsInventory words role inventory
   pub at_first : made ≡ 0 → inventory ≡ first_inventory
-  pub only_one : (j : ℕ) (u : TreeView) → get_elem? uppers j ≡ some u → made ≤ 1 → 0 < u.number → OwnsTree role inventory (own_tree u)
+  pub only_one : (j : ℕ) (u : TreeView) → get_elem? uppers j ≡ some u → made ≤ 1 → 0 < u.number → OwnsTree words role inventory (own_tree u)

@@ -12,7 +12,7 @@ use Rattle.ca_node.specs.declared.cursor.Spot.{Spot}
 use Rattle.ca_node.specs.declared.cursor.Spot.TheVariants as spot
 use Rattle.ca_node.specs.declared.link.Link.{Link}
 use Rattle.ca_node.specs.declared.link.Link.TheVariants as link
-use Rattle.ca_node.specs.Inventory.{IsListed}
+use Rattle.ca_node.specs.Inventory.{HasFewRows, IsListed}
 use Rattle.ca_node.specs.Links.{IsIn}
 use Rattle.ca_node.specs.Layout.{root_word}
 use Rattle.ca_node.specs.Place.{Span, HasKey, Place, IsLinkOf}
@@ -156,6 +156,7 @@ pub record IsAtBase (z : Sizes) (spot : Spot) (m : MyTree) (cursor : Cursor) (m'
   pub known : IsKnown z m'.0.upper
   pub listed : IsAlone z m.0.upper → IsListed m.0.upper.inventory note
   pub shallow : IsAlone z m.0.upper → note.place.level ≤ m.0.upper.splits
+  pub few_rows : IsAlone z m.0.upper → HasFewRows m.0.upper
   pub alike : (old : Note) → IsIn old m.0.upper.notes → old.row ≡ note.row → old.its ≡ note.its
 
 -- The walk came to a base or to a route.
@@ -182,4 +183,5 @@ pub record IsWalked (z : Sizes) (spot : Spot) (m : MyTree) (cursor : Cursor) (m'
   pub known : IsKnown z m'.0.upper
   pub listed : IsAlone z m.0.upper → IsListed m.0.upper.inventory note
   pub shallow : IsAlone z m.0.upper → note.place.level ≤ m.0.upper.splits
+  pub few_rows : IsAlone z m.0.upper → HasFewRows m.0.upper
   pub alike : (old : Note) → IsIn old m.0.upper.notes → old.row ≡ note.row → old.its ≡ note.its

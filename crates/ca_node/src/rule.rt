@@ -1,6 +1,7 @@
 //! The rule of the tree.
 ghost use Rattle.ca_node.specs.FirstTree.{tree_opening};
-ghost use Rattle.ca_node.specs.Laws.{tree_frames, tree_lends, tree_pinning, tree_making, tree_closing};
+ghost use Rattle.ca_node.specs.Inventory.{HasListed};
+ghost use Rattle.ca_node.specs.Laws.{tree_frames, tree_lends, tree_listing, tree_pinning, tree_making, tree_closing};
 ghost use Rattle.ca_node.specs.Links.{IsLinked, IsLent, IsNoted};
 ghost use Rattle.ca_node.specs.Opened.{opens_at, result_at};
 ghost use Rattle.ca_node.specs.May.{MayLoad, MaySwap, MayStore};
@@ -33,6 +34,8 @@ impl RowRule for TreeRule {
     ghost lent = { IsLent };
 
     ghost noted = { IsNoted };
+
+    ghost listed = { HasListed };
 
     ghost fact = { IsTree };
 
@@ -73,6 +76,8 @@ impl RowRule for TreeRule {
     ghost frames = { tree_frames };
 
     ghost lends = { tree_lends };
+
+    ghost listing = { tree_listing };
 
     ghost pinning = { tree_pinning };
 

@@ -38,6 +38,11 @@ module _ (rows : ℕ) (owner : ℕ → Owner) where
   top_free zero row some t = absurd (omega arith)
   top_free (suc m) row some t = (m, refl, t.1, t.2)
 
+  -- Where none is at the top there is none.
+  pub top_none : (n row : ℕ) → row ≡ 0 → IsTop rows owner n row → n ≡ 0
+  top_none zero row none t = refl
+  top_none (suc m) row none t = let some = t.0 in absurd (omega arith)
+
   pub top_in_range : (n row : ℕ) → IsTop rows owner n row → row ≤ rows
   top_in_range zero row t = omega arith
   top_in_range (suc m) row t = t.1

@@ -21,7 +21,7 @@ use Rattle.ca_rows.specs.Claims.{claim_of, claim_at}
 use Rattle.ca_rows.specs.Closed.{joined as join_views, joined_from}
 use Rattle.ca_rows.specs.Laws.{Closing}
 use Rattle.ca_rows.specs.Pins.{IsPin, ArePins, unpinned}
-use Rattle.ca_rows.specs.Rule.{fresh, no_sizes, upper_of, pin_of, NotedAt, Knows, Ruled}
+use Rattle.ca_rows.specs.Rule.{fresh, no_sizes, upper_of, pin_of, AreOfOne, NotedAt, Knows, Ruled}
 use Rattle.ca_rows.specs.Words.{head_tag}
 use Rattle.ca_rows.proofs.Accounts.{claim_fewer}
 use Rattle.ca_rows.proofs.Chains.{chain_stays, stage_stays}
@@ -255,6 +255,48 @@ module _ {U : Type 0} (linked lent : List ℕ → ℕ → Type 0) (noted : List 
             claim_fewer s.words (linked s.words) (lent s.words) (NotedAt noted s.words s.views)
             (NotedAt noted s.words closed) c (λ m n. notes_before m c n) y
 
+    -- Where one pass was made at most, a seat that has a row is still that of the pass, or took it in.
+    claims_now : AreOfOne r.made closed
+    claims_now few i c x has = dite (ℕ_discrete i seat)
+        (λ e. absurd (some-ne-none x
+        (sym (ap (λ y. claim_at closed y c) (sym e) ∙ has) ∙ claim_spent c)))
+        (λ m. dite (ℕ_discrete i own)
+        (λ e. by_own e (claim_of v.claims c) refl
+        (sym (claim_own c) ∙ (ap (λ y. claim_at closed y c) (sym e) ∙ has)))
+        (λ n. only_it (r.claims few i c x (sym (claim_rest i c n m) ∙ has))))
+      where
+        Only : List (View U) → ℕ → Type 0
+        Only vs k = (r.made ≡ 1)
+            × ((j : ℕ) (d : View U) → get_elem? vs j ≡ some d → 0 < d.pin.number → j ≡ k)
+
+        no_pass : (d : View U) → left_over ≡ d → 0 < d.pin.number → ⊥
+        no_pass d e lo = let none : 0 ≡ d.pin.number = ap (λ (y : View U). y.pin.number) e in
+            absurd (omega arith)
+
+        owner_number : (d : View U) → joined v w ≡ d → 0 < d.pin.number → 0 < v.pin.number
+        owner_number d e lo = subst (λ (y : View U). 0 < y.pin.number) (sym e) lo
+
+        only_it : Only s.views i → Only closed i
+        only_it o = (
+          o.0,
+          λ j d here lo. each (j ≡ i) j d here
+              (λ is e. is ∙ o.1 own v at (owner_number d e lo))
+              (λ _ e. absurd (no_pass d e lo)) (λ _ _ e. o.1 j d e lo),
+        )
+
+        by_own : i ≡ own → (o : Option Claim) → claim_of v.claims c ≡ o
+            → claim_of (v.claims ++ w.claims) c ≡ some x → Only closed i
+        by_own e (some y) was now = only_it
+            (r.claims few i c y (ap (λ k. claim_at s.views k c) e
+            ∙ (claim_there s.views own v v at c ∙ was)))
+        by_own e none was now =
+            let o = r.claims few seat c x (claim_there s.views seat w w was_there c
+            ∙ (sym (claim_second v.claims w.claims c was) ∙ now)) in (
+              o.0,
+              λ j d here lo. each (j ≡ i) j d here (λ is _. is ∙ sym e)
+                  (λ _ f. absurd (no_pass d f lo)) (λ _ n f. absurd (n (o.1 j d f lo))),
+            )
+
     pub closes : Ruled linked lent noted fact z record {
       words =
           s.words;
@@ -304,6 +346,7 @@ module _ {U : Type 0} (linked lent : List ℕ → ℕ → Type 0) (noted : List 
             in_range = k.in_range;
             noted_pinned = k.noted_pinned;
           });
+      claims = claims_now;
       pins = subst (ArePins r.made s.words)
           (sym (map-set pin_of (set s.views own (joined v w)) seat left_over
           ∙ ap (λ xs. set xs seat (unpinned 0)) (map-set pin_of s.views own (joined v w)

@@ -152,6 +152,14 @@ module _ {U : Type 0} (linked lent : List ℕ → ℕ → Type 0) (noted : List 
                 claims = λ j. claims_behind s.views (half u) j c refl;
               } (r.owner c) (r.row c lo hi);
           seat = knows;
+          claims = λ few i c x has.
+              let was = r.claims few i c x (sym (claims_behind s.views (half u) i c refl) ∙ has) in (
+                was.0,
+                λ j y here lo. ⊎_elim (λ f. was.1 j y f lo)
+                    (λ (t : (j ≡ length s.views) × (half u ≡ y)).
+                    let none : 0 ≡ y.pin.number = ap (λ (w : View U). w.pin.number) t.1 in
+                    absurd (omega arith)) (at_place s.views (half u) y j here),
+              );
           pins = subst (ArePins r.made s.words) (sym (map-append pin_of s.views (half u ∷ [])))
               (pins_more r.made s.words (map pin_of s.views) r.pins);
           above = subst (fact z r.made s.words) (sym (map-append upper_of s.views (half u ∷ [])))

@@ -23,3 +23,4 @@ pub mod Rules
 mod Scanning
 mod Starting
 pub mod Steps
+mod Takers

@@ -235,6 +235,8 @@ module _ {U : Type 0} (linked lent : List ℕ → ℕ → Type 0) (noted : List 
             claims = λ j. same_claims j c;
           } (r.owner c) (r.row c lo hi);
       seat = knows;
+      claims = λ few' i c x has. let none_yet : r.made ≤ 1 = omega arith in
+          let one = (r.claims none_yet i c x (sym (same_claims i c) ∙ has)).0 in absurd (omega arith);
       pins = subst (ArePins (r.made + 1) s.words) (sym pins_are)
           (pins_grow r.made s.words (map pin_of s.views) (subst (λ n. n < 64) count_is few) r.pins);
       above = subst (fact z (r.made + 1) s.words) (sym uppers_are)

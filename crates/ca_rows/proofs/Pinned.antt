@@ -1,5 +1,5 @@
 -- Pins and the epoch through one seat's step.
-use Rattle.std.proofs.Common.{◌≡◌, ◌≢◌, ◌⊎◌, ℕ, ◌+◌, ◌*◌, ◌/◌, ◌%◌, ◌<◌, ◌≤◌, true, false, List, map, get_or, set, sym, refl, ap, ◌∙◌, subst, ⊎_elim, arith, le_refl}
+use Rattle.std.proofs.Common.{◌≡◌, ◌≢◌, ◌⊎◌, ℕ, ◌+◌, ◌*◌, ◌/◌, ◌%◌, ◌<◌, ◌≤◌, true, false, List, map, get_or, set, sym, refl, ap, ◌∙◌, subst, inr, ⊎_elim, arith, le_refl}
 use Rattle.std.proofs.lemmas.List.{map-set}
 use mathlib.Core.Logic.{dite}
 use mathlib.Core.Option.{some}
@@ -22,6 +22,7 @@ use Rattle.ca_rows.proofs.Chains.{chain_stays, stage_stays}
 use Rattle.ca_rows.proofs.Heads.{head_stays}
 use Rattle.ca_rows.proofs.Claiming.{claim_mine, claim_others, claim_there}
 use Rattle.ca_rows.proofs.Rules.{all_seats}
+use Rattle.ca_rows.proofs.Takers.{claims_step}
 use Rattle.ca_rows.specs.Layout.{row_words, row_limit}
 
 module _ (made : ℕ) (words words' : List ℕ) (pins : List Pin) (p : ArePins made words pins) (id : ℕ)
@@ -195,6 +196,8 @@ module _ {U : Type 0} (linked lent : List ℕ → ℕ → Type 0) (noted : List 
           noted_pinned =
               λ c m. k.noted_pinned c (framed.notes j x.upper (at_map upper_of s.views j x e) c m);
         });
+    claims = claims_step r.made s.words s.views id d d' at r.pins n.same_number
+        (λ c x e. inr (x, ap (λ xs. claim_of xs c) (sym n.same_claims) ∙ e)) r.claims;
     pins = subst (ArePins r.made words') (sym (map-set pin_of s.views id d')) n.pins;
     above = subst (fact z r.made words') (sym (map-set upper_of s.views id d')) n.above;
   }

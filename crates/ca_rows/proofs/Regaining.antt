@@ -1,5 +1,5 @@
 -- A row that is kept since two epochs is held again: nobody has a note on it.
-use Rattle.std.proofs.Common.{◌≡◌, ℕ, ◌+◌, ◌≤◌, max, List, get_or, set, sym, refl, ◌∙◌, subst, arith}
+use Rattle.std.proofs.Common.{◌≡◌, ℕ, ◌+◌, ◌≤◌, max, List, get_or, set, sym, refl, ◌∙◌, subst, inr, arith}
 use Rattle.std.proofs.lemmas.List.{set-get_or}
 use mathlib.Core.Option.{some, none}
 use lib.ListN.{get_elem?}
@@ -88,7 +88,7 @@ module _ {U : Type 0} (linked lent : List ℕ → ℕ → Type 0) (noted : List 
           ),
           λ j n. claim_others s.views id d w at j q n ∙ o.4 j n,
         ))
-        (λ _ _. (o.0, o.1)) (λ c' n. claimed_else d.claims q c' _ n)
+        (λ _ _. (o.0, o.1, inr (Keeps t, kept))) (λ c' n. claimed_else d.claims q c' _ n)
         (λ _ k. k) (r.seat id d at).stage_is (λ _ _ _ _ k. k) (r.seat id d at).head_is
         (r.seat id d at).unlost)
 

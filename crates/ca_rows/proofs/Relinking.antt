@@ -27,6 +27,7 @@ use Rattle.ca_rows.proofs.Chains.{chain_stays, stage_stays}
 use Rattle.ca_rows.proofs.Heads.{head_stays}
 use Rattle.ca_rows.proofs.Claiming.{claim_mine, claim_others, claim_there}
 use Rattle.ca_rows.proofs.Rules.{all_seats, pins_stay}
+use Rattle.ca_rows.proofs.Takers.{claims_step}
 use Rattle.ca_rows.specs.Layout.{row_words, row_limit}
 
 -- what becomes of a row
@@ -38,7 +39,7 @@ pub data Change : Type 0 where
   Serves : Change
   -- Its operation ends, and it isn't linked any more.
   Ends : Change
-  -- It is unlinked.
+  -- It is unlinked, by a pass that is pinned.
   Goes : Change
 
 module _ {U : Type 0} (linked lent : List ℕ → ℕ → Type 0) (noted : List ℕ → U → ℕ → Type 0)
@@ -71,7 +72,7 @@ module _ {U : Type 0} (linked lent : List ℕ → ℕ → Type 0) (noted : List 
   IsChange c Ends = lent s.words c × ¬ linked words' c
       × (claim_of d'.claims c ≡ claim_of d.claims c)
   IsChange c Goes = linked s.words c × ¬ lent s.words c × ¬ linked words' c
-      × (claim_of d'.claims c ≡ some Unlinked)
+      × (claim_of d'.claims c ≡ some Unlinked) × (d.pin.pinned ≡ true)
 
   -- The seat had a note on the row before the step.
   abbrev pub WasNoted : ℕ → ℕ → Type 0
@@ -303,6 +304,16 @@ module _ {U : Type 0} (linked lent : List ℕ → ℕ → Type 0) (noted : List 
         ∙ (r.seat j w.0 w.1).noted_pinned c w.2))
         (λ l. l.1) (m.notes j x here c n)
 
+    -- A row that is the seat's was so before, or the seat is a pass's.
+    had : (c : ℕ) (x : Claim) → claim_of d'.claims c ≡ some x → (k : Change) → IsChange c k
+        → (0 < d.pin.number) ⊎ ((y : Claim) × (claim_of d.claims c ≡ some y))
+    had c x e Stays k = inr (x, sym k.4 ∙ e)
+    had c x e Comes k = absurd (some-ne-none x (sym e ∙ k.3))
+    had c x e Serves k = inr (Holds k.1.0, k.1.1)
+    had c x e Ends k = inr (x, sym k.2 ∙ e)
+    had c x e Goes k =
+        inl ((r.pins.each id d.pin (at_map pin_of s.views id d m.at)).is_pass k.4)
+
     pub relinks : Ruled linked lent noted fact z after
     relinks = let own = r.seat id d m.at in record {
       owner = owner';
@@ -343,6 +354,10 @@ module _ {U : Type 0} (linked lent : List ℕ → ℕ → Type 0) (noted : List 
             noted_pinned = pinned_now i y here';
           })
           j x here here;
+      claims = claims_step r.made s.words s.views id d d' m.at r.pins
+          (ap (λ (e : Pin). e.number) m.same_pin)
+          (λ c x e. let range = m.in_range c x e in
+          had c x e (kind c) (m.changes c range.0 range.1)) r.claims;
       pins = subst (ArePins r.made words') (sym same_pins)
           (pins_stay r.made s.words words' (map pin_of s.views) now m.announcements r.pins);
       above = m.above;

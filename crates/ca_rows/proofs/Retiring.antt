@@ -1,5 +1,5 @@
 -- A row is retired: a load of the epoch, since which the seat keeps the row.
-use Rattle.std.proofs.Common.{◌≡◌, ℕ, ◌≤◌, List, get_or, set, sym, refl, ◌∙◌, subst, ⊎_elim, arith, le_refl}
+use Rattle.std.proofs.Common.{◌≡◌, ℕ, ◌≤◌, List, get_or, set, sym, refl, ◌∙◌, subst, inr, ⊎_elim, arith, le_refl}
 use Rattle.std.proofs.lemmas.List.{set-get_or}
 use mathlib.Core.Option.{some, none}
 use lib.ListN.{get_elem?}
@@ -99,7 +99,7 @@ module _ {U : Type 0} (linked lent : List ℕ → ℕ → Type 0) (noted : List 
             ),
             λ j n. claim_others s.views id d w at j q n ∙ o.4 j n,
           ))
-          (λ _ _. (o.0, o.1)) (λ c' n. claimed_else d.claims q c' _ n)
+          (λ _ _. (o.0, o.1, inr (c, mine))) (λ c' n. claimed_else d.claims q c' _ n)
           (λ _ k. k) (r.seat id d at).stage_is (λ _ _ _ _ k. k) (r.seat id d at).head_is
           (r.seat id d at).unlost)
 

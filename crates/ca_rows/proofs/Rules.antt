@@ -1,5 +1,5 @@
 -- A step of one seat, which the rule above the rows doesn't see, keeps the whole rule.
-use Rattle.std.proofs.Common.{◌≡◌, ◌≢◌, ◌⊎◌, ℕ, ◌+◌, ◌*◌, ◌<◌, ◌≤◌, List, map, get_or, set, sym, ap, ◌∙◌, subst, ⊎_elim, arith, le_refl}
+use Rattle.std.proofs.Common.{◌≡◌, ◌≢◌, ◌⊎◌, ℕ, ◌+◌, ◌*◌, ◌<◌, ◌≤◌, List, map, get_or, set, sym, ap, ◌∙◌, subst, inl, inr, ⊎_elim, arith, le_refl}
 use Rattle.std.proofs.lemmas.List.{map-set}
 use mathlib.Core.Logic.{dite}
 use mathlib.Core.Option.{some}
@@ -21,6 +21,7 @@ use Rattle.ca_rows.specs.Rule.{upper_of, pin_of, NotedAt, Knows, Ruled}
 use Rattle.ca_rows.specs.Words.{epoch, announced}
 use Rattle.ca_rows.proofs.Accounts.{row_stays}
 use Rattle.ca_rows.proofs.Claiming.{claim_mine, claim_others, claim_there}
+use Rattle.ca_rows.proofs.Takers.{claims_step}
 use Rattle.ca_rows.specs.Layout.{row_words}
 
 -- What holds of each seat holds after a step of one.
@@ -142,7 +143,8 @@ module _ {U : Type 0} (linked lent : List ℕ → ℕ → Type 0) (noted : List 
       pub keeps_rule : (owner' : ℕ → Owner) (count' : ℕ) → IsChain z.rows owner' words' count'
           → ((c : ℕ) → 0 < c → c ≤ z.rows → c ≢ q → Elsewhere owner' c)
           → (0 < q → q ≤ z.rows → Is q (owner' q))
-          → ((c : Claim) → claim_of d'.claims q ≡ some c → (0 < q) × (q ≤ z.rows))
+          → ((c : Claim) → claim_of d'.claims q ≡ some c
+          → (0 < q) × (q ≤ z.rows) × ((0 < d.pin.number) ⊎ ((x : Claim) × (claim_of d.claims q ≡ some x))))
           → ((c : ℕ) → c ≢ q → claim_of d'.claims c ≡ claim_of d.claims c)
           → ((st : Stage) → IsStage z.rows r.owner s.words st → IsStage z.rows owner' words' st)
           → IsStage z.rows owner' words' d'.stage
@@ -170,8 +172,8 @@ module _ {U : Type 0} (linked lent : List ℕ → ℕ → Type 0) (noted : List 
               head_is = subst (λ (e : Pin). IsHead r.made words' e.number d'.stage) (sym same_pin) head;
               unlost = unlost;
               in_range = λ c x e. dite (ℕ_discrete c q)
-                  (λ (f : c ≡ q). subst (λ y. (0 < y) × (y ≤ z.rows)) (sym f)
-                  (in_range x (subst (λ y. claim_of d'.claims y ≡ some x) f e)))
+                  (λ (f : c ≡ q). let k = in_range x (subst (λ y. claim_of d'.claims y ≡ some x) f e) in
+                  subst (λ y. (0 < y) × (y ≤ z.rows)) (sym f) (k.0, k.1))
                   (λ n. mine.in_range c x (sym (claims c n) ∙ e));
               noted_pinned = λ c n. ap (λ (e : Pin). e.pinned) same_pin
                   ∙ mine.noted_pinned c (note_back id d at c (subst
@@ -185,6 +187,13 @@ module _ {U : Type 0} (linked lent : List ℕ → ℕ → Type 0) (noted : List 
               in_range = k.in_range;
               noted_pinned = λ c m. k.noted_pinned c (note_back j x e c m);
             });
+            claims = claims_step r.made s.words s.views id d d' at r.pins (ap (λ (e : Pin). e.number) same_pin)
+                (λ c x e. dite (ℕ_discrete c q)
+                (λ (f : c ≡ q). let k = in_range x (subst (λ y. claim_of d'.claims y ≡ some x) f e) in
+                ⊎_elim (λ lo. inl lo) (λ (y : (y : Claim) × (claim_of d.claims q ≡ some y)).
+                inr (y.0, ap (claim_of d.claims) f ∙ y.1)) k.2)
+                (λ n. inr (x, sym (claims c n) ∙ e)))
+                r.claims;
             pins = subst (ArePins r.made words') (sym same_pins)
                 (pins_stay r.made s.words words' (map pin_of s.views) now announcements r.pins);
             above = subst (fact z r.made words') (sym same_uppers) framed.stays;

@@ -146,6 +146,7 @@ module _ {U : Type 0} (linked lent : List ℕ → ℕ → Type 0) (noted : List 
           in_range = λ r c e. absurd (some-ne-none c (sym e));
           noted_pinned = λ r n. absurd (opened.notes r n);
         };
+    claims = λ _ j r c e. absurd (some-ne-none c (sym e ∙ nobodys j r));
     pins = first_pins words (subst
         (λ x. x ≤ 4611686018427387904) (sym is.epoch_is) bounds.epoch_start) is.absent;
     above = opened.stands;

@@ -1,5 +1,5 @@
 -- Each step of the pool keeps the rule, and tells what it should.
-use Rattle.std.proofs.Common.{◌≡◌, ◌≢◌, ℕ, zero, suc, ◌+◌, ◌*◌, ◌/◌, ◌%◌, ◌<◌, ◌≤◌, max, eqb, List, [], ◌∷◌, map, length, take, drop, get_or, set, sym, refl, ap, ◌∙◌, subst, ⊎_elim, arith, le_refl, length-set, length-drop, eq-eqb, ne_eqb, get_or-set_other, get_or-set_same}
+use Rattle.std.proofs.Common.{◌≡◌, ◌≢◌, ◌⊎◌, ℕ, zero, suc, ◌+◌, ◌*◌, ◌/◌, ◌%◌, ◌<◌, ◌≤◌, max, eqb, List, [], ◌∷◌, map, length, take, drop, get_or, set, sym, refl, ap, ◌∙◌, subst, inl, inr, ⊎_elim, arith, le_refl, length-set, length-drop, eq-eqb, ne_eqb, get_or-set_other, get_or-set_same}
 use Rattle.std.proofs.lemmas.List.{set-get_or, get_or-take, get_or-drop, length-take-le}
 use mathlib.Core.Logic.{dite}
 use mathlib.Core.Option.{some, none, some-injective, some-ne-none}
@@ -17,11 +17,11 @@ use Rattle.ca_rows.specs.declared.view.View.{View}
 use Rattle.ca_rows.specs.Account.{IsClaim, IsRow}
 use Rattle.ca_rows.specs.Chain.{Owner, Free, Linked, Of, IsTop, IsHead, IsStage}
 use Rattle.ca_rows.specs.Claims.{claim_of, claimed, dropped, held_count, claim_at, none_old}
-use Rattle.ca_rows.specs.Laws.{IsNoted, Agrees, Frames}
+use Rattle.ca_rows.specs.Laws.{IsNoted, Agrees, Frames, Listing as ListingLaw}
 use Rattle.ca_rows.specs.Rule.{upper_of, pin_of, NotedAt}
-use Rattle.ca_rows.specs.Told.{Expects, IsOnly, Mine, with_stage, with_claims, with_most, Looked, Glanced, Peeked, Took, Recalled, Wrote, Gave}
+use Rattle.ca_rows.specs.Told.{AreTaken, Expects, IsOnly, Mine, with_stage, with_claims, with_most, Looked, Glanced, Peeked, Took, Recalled, Wrote, Gave}
 use Rattle.ca_rows.specs.Words.{IsWide, Spells, announced, head_tag, head_row, first_of, next_below}
-use Rattle.ca_rows.proofs.Chains.{put, put_here, put_else, in_head, next_number, top_free, top_in_range, chain_stays, chain_takes, chain_gives, stage_stays}
+use Rattle.ca_rows.proofs.Chains.{put, put_here, put_else, in_head, next_number, top_free, top_none, top_in_range, chain_stays, chain_takes, chain_gives, stage_stays}
 use Rattle.ca_rows.proofs.Claiming.{claim_mine, claim_others, claim_there, claimed_here, claimed_else, dropped_here, dropped_else}
 use Rattle.ca_rows.proofs.Heads.{head_stays, head_word, head_else as others_head}
 use Rattle.ca_rows.proofs.OwnWords.{announced_else, result_else}
@@ -117,9 +117,40 @@ module _ {U : Type 0} (linked lent : List ℕ → ℕ → Type 0) (noted : List 
     (row_inside s r id me.0 at, refl),
   )
 
-  pub looks : (slots id : ℕ) (me : Mine U) → 0 < me.0.pin.number
-      → Allows R slots id me 0 (λ x. x) (Looked (step slots 0 0 0 none) me)
-  looks slots id me is_pass s r _ at small = let t : ℕ = head_tag s.words in let q : ℕ = head_row s.words in
+  -- Where an only pass finds the head empty, each row is linked, as it knows, or its own.
+  module _ (listed : U → ℕ → Type 0) (law : ListingLaw linked lent noted fact listed) where
+    all_taken : (s : S) (r : R s) (id : ℕ) (me : Mine U) → get_elem? s.views id ≡ some me.0
+        → 0 < me.0.pin.number → IsOnly me → head_row s.words ≡ 0 → AreTaken listed me
+    all_taken s r id me at is_pass only none_free q lo hi = let some_rows = only.0 in
+        ⊎_elim (λ (e : me.0.sizes.rows ≡ 0). absurd (omega arith))
+        (λ (e : me.0.sizes ≡ z).
+        let inside : q ≤ z.rows = subst (λ (y : Sizes). q ≤ y.rows) e hi in
+        let one : z.passes ≡ 1 = subst (λ (y : Sizes). y.passes ≡ 1) e only.1 in
+        let within = r.within in let few : r.made ≤ 1 = omega arith in
+        by few inside (r.owner q) refl (r.row q lo inside))
+        (r.seat id me.0 at).sizes_are
+      where
+        by : r.made ≤ 1 → q ≤ z.rows → (o : Owner) → r.owner q ≡ o
+            → IsRow s.words (linked s.words) (lent s.words) (NotedAt noted s.words s.views)
+            (claim_at s.views) q o
+            → listed me.0.upper q ⊎ ((c : Claim) × (claim_of me.0.claims q ≡ some c))
+        by few inside (Free k) is x = let low = (r.chain.below q k lo inside is).0 in
+            let empty = top_none z.rows r.owner r.count (head_row s.words) none_free r.chain.top in
+            absurd (omega arith)
+        by few inside Linked is x = inl (law z r.made (uppers linked lent noted fact frames z s)
+            s.words r.above few id me.0.upper (at_map upper_of s.views id me.0 at) q x.0)
+        by few inside (Of i) is x = let mine : id ≡ i = (r.claims few i q x.0.0 x.0.1).1 id me.0 at
+            is_pass in
+            inr (
+              x.0.0,
+              sym (claim_there s.views id me.0 me.0 at q)
+                  ∙ (ap (λ y. claim_at s.views y q) mine ∙ x.0.1),
+            )
+
+  pub looks : (listed : U → ℕ → Type 0) → ListingLaw linked lent noted fact listed
+      → (slots id : ℕ) (me : Mine U) → 0 < me.0.pin.number
+      → Allows R slots id me 0 (λ x. x) (Looked listed (step slots 0 0 0 none) me)
+  looks listed law slots id me is_pass s r _ at small = let t : ℕ = head_tag s.words in let q : ℕ = head_row s.words in
       let d = me.0 in dite (ℕ_discrete q 0)
       (λ (none_free : q ≡ 0). (
         record d { stage = Saw t 0; empty = d.empty + none_old d.claims d.claims d.pin.told },
@@ -132,7 +163,8 @@ module _ {U : Type 0} (linked lent : List ℕ → ℕ → Type 0) (noted : List 
           row_inside s r id d at,
           (λ _. refl),
           (λ lo. absurd (omega arith)),
-          λ lo. absurd (omega arith),
+          (λ lo. absurd (omega arith)),
+          λ only e. all_taken listed law s r id me at is_pass only e,
         ),
       ))
       (λ free. dite (ℕ_discrete t last_tag)
@@ -143,7 +175,13 @@ module _ {U : Type 0} (linked lent : List ℕ → ℕ → Type 0) (noted : List 
         loaded s r 0 id d (Saw last_tag q) d.lost d.empty (d.worn + 1) at
             (subst (λ (y : ℕ). IsStage z.rows r.owner s.words (Saw y q)) last (saw_head s r))
             (is_pass, λ _. (last, refl)) (r.seat id d at).unlost,
-        (row_inside s r id d at, (λ e. absurd (free e)), (λ _ _. refl), λ _ n. absurd (n last)),
+        (
+          row_inside s r id d at,
+          (λ e. absurd (free e)),
+          (λ _ _. refl),
+          (λ _ n. absurd (n last)),
+          λ _ e. absurd (free e),
+        ),
       ))
       (λ young. (
         record d { stage = Saw t q },
@@ -151,7 +189,13 @@ module _ {U : Type 0} (linked lent : List ℕ → ℕ → Type 0) (noted : List 
         tt,
         loaded s r 0 id d (Saw t q) d.lost d.empty d.worn at (saw_head s r) (is_pass, λ _. (refl, refl))
             (r.seat id d at).unlost,
-        (row_inside s r id d at, (λ e. absurd (free e)), (λ _ e. absurd (young e)), λ _ _. refl),
+        (
+          row_inside s r id d at,
+          (λ e. absurd (free e)),
+          (λ _ e. absurd (young e)),
+          (λ _ _. refl),
+          λ _ e. absurd (free e),
+        ),
       )))
 
   abbrev seen_in : Stage → ℕ × ℕ × ℕ
@@ -334,7 +378,7 @@ module _ {U : Type 0} (linked lent : List ℕ → ℕ → Type 0) (noted : List 
             ),
             λ j n. claim_others s.views id d taken at j q n ∙ free.1 j,
           ))
-          (λ _ _. (lo, hi)) (λ c n. claimed_else d.claims q c _ n)
+          (λ _ _. (lo, hi, inl is_pass)) (λ c n. claimed_else d.claims q c _ n)
           (stage_stays z.rows r.owner s.words new_head r.count r.chain (put r.owner q (Of id))
           (omega arith) (λ e. absurd (omega arith))) tt (heads_else s r id d at is_pass new_head) tt
           (r.seat id d at).unlost
@@ -421,7 +465,7 @@ module _ {U : Type 0} (linked lent : List ℕ → ℕ → Type 0) (noted : List 
             ),
             λ j n. claim_others s.views id d written at j q n ∙ o.4 j n,
           ))
-          (λ _ _. (o.0, o.1)) (λ c n. claimed_else d.claims q c _ n)
+          (λ _ _. (o.0, o.1, inr (Holds its, held))) (λ c n. claimed_else d.claims q c _ n)
           (stage_stays z.rows r.owner s.words new_words r.count r.chain r.owner (subst
           (λ x. head_tag s.words ≤ x) (sym same_tag)
           (le_refl (head_tag s.words))) (λ _ c j lo hi e. ((j, lo, hi, e), free_next c j e)))
@@ -484,7 +528,7 @@ module _ {U : Type 0} (linked lent : List ℕ → ℕ → Type 0) (noted : List 
                 ∙ (claim_mine s.views id d given at q ∙ dropped_here d.claims q))
                 (λ n. claim_others s.views id d given at j q n ∙ o.4 j n),
           ))
-          (λ _ _. (o.0, hi)) (λ c n. dropped_else d.claims q c n)
+          (λ _ _. (o.0, hi, inl is_pass)) (λ c n. dropped_else d.claims q c n)
           (stage_stays z.rows r.owner s.words head_with r.count r.chain
           (put r.owner q (Free r.count))
           (subst (λ x. head_tag s.words ≤ x) (sym tag) (le_refl (head_tag s.words)))

@@ -36,6 +36,11 @@ module _ {U : Type 0} (linked lent : List ℕ → ℕ → Type 0) (noted : List 
   abbrev pub Lends : Type 0
   Lends = (z : Sizes) (made : ℕ) (uppers : List U) (words : List ℕ) → fact z made words uppers → (r : ℕ) → lent words r → linked words r
 
+  -- Which rows a seat knows to be linked, where one pass was made at most: all that are.
+  abbrev pub Listing : (U → ℕ → Type 0) → Type 0
+  Listing listed = (z : Sizes) (made : ℕ) (uppers : List U) (words : List ℕ) → fact z made words uppers → made ≤ 1
+      → (j : ℕ) (u : U) → get_elem? uppers j ≡ some u → (r : ℕ) → linked words r → listed u r
+
   -- A pass that pins or unpins: its upper part becomes that of `enters` or `leaves`. It has no note more, and none after it unpinned.
   pub record Pinning (enters leaves : U → U) : Type 0 where
     pub keeps_entering : (z : Sizes) (made : ℕ) (uppers : List U) (words : List ℕ) (i : ℕ) (u : U) → fact z made words uppers → get_elem? uppers i ≡ some u

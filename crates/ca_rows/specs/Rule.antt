@@ -63,6 +63,12 @@ module _ {U : Type 0} (noted : List ℕ → U → ℕ → Type 0) (z : Sizes) (m
     -- Only a pinned pass has notes.
     pub noted_pinned : (r : ℕ) → noted words d.upper r → d.pin.pinned ≡ true
 
+-- Only passes take rows from the pool, and unlink them. So where one pass was made at most, no seat has a row before it is made; and a seat that has one then is
+-- that of the pass, or took that in: no other seat is a pass's.
+abbrev pub AreOfOne : {U : Type 0} → ℕ → List (View U) → Type 0
+AreOfOne {U} made views = made ≤ 1 → (i r : ℕ) (c : Claim) → claim_at views i r ≡ some c
+    → (made ≡ 1) × ((j : ℕ) (d : View U) → get_elem? views j ≡ some d → 0 < d.pin.number → j ≡ i)
+
 module _ {U : Type 0} (linked lent : List ℕ → ℕ → Type 0) (noted : List ℕ → U → ℕ → Type 0) (fact : Sizes → ℕ → List ℕ → List U → Type 0) where
   pub record Ruled (z : Sizes) (s : State (Unit {0}) (View U)) : Type 0 where
     pub owner : ℕ → Owner
@@ -75,6 +81,7 @@ module _ {U : Type 0} (linked lent : List ℕ → ℕ → Type 0) (noted : List 
     pub chain : IsChain z.rows owner s.words count
     pub row : (r : ℕ) → 0 < r → r ≤ z.rows → IsRow s.words (linked s.words) (lent s.words) (NotedAt noted s.words s.views) (claim_at s.views) r (owner r)
     pub seat : (j : ℕ) (d : View U) → get_elem? s.views j ≡ some d → Knows noted z made owner s.words j d
+    pub claims : AreOfOne made s.views
     pub pins : ArePins made s.words (map pin_of s.views)
     -- the upper fact
     pub above : fact z made s.words (map upper_of s.views)

@@ -2,6 +2,7 @@
 use Rattle.std.specs.Prelude.{◌≡◌, ◌≢◌, ◌⊎◌, ◌==◌, ℕ, cond, ◌+◌, ◌*◌, ◌/◌, ◌%◌, ◌<◌, ◌≤◌, max, true, false, List, length, slice_index, slice_set}
 use mathlib.Core.Option.{some, none}
 use Rattle.atomic_table.specs.Table.{Me, Step}
+use Rattle.ca_rows.specs.declared.view.Claim.{Claim}
 use Rattle.ca_rows.specs.declared.view.Claim.TheVariants.{Holds, Keeps}
 use Rattle.ca_rows.specs.declared.view.Met.{Met}
 use Rattle.ca_rows.specs.declared.view.Pin.{Pin}
@@ -52,12 +53,18 @@ module _ {U : Type 0} where
   abbrev pub with_most : Mine U → Mine U
   with_most m = (record m.0 { most = max m.0.most (held_count m.0.claims) }, m.1)
 
-  -- The head was loaded to take a row. It is counted where it can't be taken: there is none, or the tag can rise no more.
-  abbrev pub Looked : Step (Unit {0}) → Mine U → ℕ → Mine U → Type 0
-  Looked st m n m' = (0 < m.0.sizes.rows → n % row_limit ≤ m.0.sizes.rows)
+  -- No row is free: the seat knows each to be linked, or it is the seat's.
+  abbrev pub AreTaken : (U → ℕ → Type 0) → Mine U → Type 0
+  AreTaken listed m = (r : ℕ) → 0 < r → r ≤ m.0.sizes.rows → listed m.0.upper r ⊎ ((c : Claim) × (claim_of m.0.claims r ≡ some c))
+
+  -- The head was loaded to take a row. It is counted where it can't be taken: there is none, or the tag can rise no more. Of an only pass that finds none it is
+  -- told where each row is.
+  abbrev pub Looked : (U → ℕ → Type 0) → Step (Unit {0}) → Mine U → ℕ → Mine U → Type 0
+  Looked listed st m n m' = (0 < m.0.sizes.rows → n % row_limit ≤ m.0.sizes.rows)
       × (n % row_limit ≡ 0 → m' ≡ found_empty m (n / row_limit))
       × (0 < n % row_limit → n / row_limit ≡ last_tag → m' ≡ found_worn m (n % row_limit))
       × (0 < n % row_limit → n / row_limit ≢ last_tag → m' ≡ with_stage m (Saw (n / row_limit) (n % row_limit)))
+      × (IsOnly m → n % row_limit ≡ 0 → AreTaken listed m)
 
   -- The head was loaded to put a row back: nothing is counted.
   abbrev pub Glanced : Step (Unit {0}) → Mine U → ℕ → Mine U → Type 0

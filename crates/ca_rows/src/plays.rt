@@ -11,10 +11,12 @@ use atomic_table::{Join, Play, Split};
 use std::marker::{Brand, PhantomData};
 
 /// The load of the pool's head with which a row is taken.
-pub struct Look;
+pub struct Look<R> {
+    rule: PhantomData<R>,
+}
 
-impl<U> Play<(), View<U>> for Look {
-    ghost then = { Looked };
+impl<R: RowRule> Play<(), View<R::Upper>> for Look<R> {
+    ghost then = { Looked R.listed };
 }
 
 /// The load of the pool's head with which a row is put back.

@@ -5,8 +5,8 @@ ghost use mathlib.Core.Option.{some};
 ghost use Rattle.ca_rows.specs.declared.view.Claim.TheVariants.{Holds as IsHeld};
 ghost use Rattle.ca_rows.specs.Claims.{claim_of};
 ghost use Rattle.ca_rows.specs.Calls.{TakesRow, PutsRow, WritesWord};
-ghost use Rattle.ca_rows.specs.Told.{IsOnly};
-ghost use Rattle.ca_rows.specs.declared.taken.Taken.TheVariants.{Lost as IsLost};
+ghost use Rattle.ca_rows.specs.Told.{AreTaken, IsOnly};
+ghost use Rattle.ca_rows.specs.declared.taken.Taken.TheVariants.{Empty as IsEmpty, Lost as IsLost};
 ghost use Rattle.ca_rows.specs.Words.{next_below};
 ghost use Rattle.ca_rows.specs.Passes.{OnlyReads, IsOn, StillKeepsList, sizes, known, view};
 
@@ -17,14 +17,16 @@ use crate::space::{Pass, Space};
 use crate::taken::Taken;
 
 impl<R: RowRule> Space<R> {
-    /// Takes a free row. The exchange of a pass that is the only one which the space is for is never lost.
+    /// Takes a free row. The exchange of a pass that is the only one which the space is for is never lost. Where that finds none, it knows of each row that it is
+    /// linked, or its own.
     pub fn take_row(&self, pass: &mut Pass<R>) -> Taken
         requires own { IsOn self.now pass.old }
         ensures frame { StillKeepsList pass.old pass.new }
         ensures row { TakesRow result (known pass.old) (known pass.new) }
         ensures only { IsOnly (known pass.old) → result ≢ IsLost }
+        ensures taken { result ≡ IsEmpty → IsOnly (known pass.old) → AreTaken R.listed (known pass.new) }
     {
-        let head = self.table.shared.load::<Look>(&mut pass.seat, 0);
+        let head = self.table.shared.load::<Look<R>>(&mut pass.seat, 0);
         let tag = head / ROW_LIMIT;
         let row = head % ROW_LIMIT;
         if row == 0 {

@@ -2,7 +2,7 @@
 ghost use Rattle.std.specs.Prelude.{◌≡◌, ℕ, ◌<◌, ◌≤◌, List};
 ghost use Rattle.atomic_table.specs.Table.{Step};
 ghost use Rattle.ca_rows.specs.declared.sizes.Sizes.{Sizes as TheSizes};
-ghost use Rattle.ca_rows.specs.Laws.{Frames, Lends, Pinning, Making, Closing, Opening};
+ghost use Rattle.ca_rows.specs.Laws.{Frames, Lends, Listing, Pinning, Making, Closing, Opening};
 ghost use Rattle.ca_rows.specs.Opening.{AreInBounds};
 ghost use Rattle.ca_rows.specs.Rule.{Ruled, fresh};
 ghost use Rattle.ca_rows.specs.Told.{Mine};
@@ -34,6 +34,9 @@ pub trait RowRule {
 
     /// Which rows a pass has a note on. The words tell it too: what others do may give a pass a note.
     ghost noted: { List ℕ → Self.Upper → ℕ → Type 0 };
+
+    /// Which rows a seat knows to be linked, where one pass was made at most.
+    ghost listed: { Self.Upper → ℕ → Type 0 };
 
     /// What holds of the sizes, the number of passes that were made, the words, and all that is known: the upper fact.
     ghost fact: { TheSizes → ℕ → List ℕ → List Self.Upper → Type 0 };
@@ -74,6 +77,8 @@ pub trait RowRule {
     ghost frames: { Frames linked lent noted fact };
 
     ghost lends: { Lends linked lent noted fact };
+
+    ghost listing: { Listing linked lent noted fact listed };
 
     ghost pinning: { Pinning linked lent noted fact enters leaves };
 

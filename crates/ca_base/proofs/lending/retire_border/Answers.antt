@@ -1,11 +1,15 @@
-use Rattle.std.proofs.Common.{ℕ, [], ap, subst, arith, rules}
+use Rattle.std.proofs.Common.{ℕ, [], ap, ◌∙◌, subst, arith, rules}
 use Rattle.ca_node.specs.Links.{IsLent}
 use Rattle.ca_node.specs.Told.{MyTree}
 use Rattle.ca_node.proofs.LentOver.{lent_over}
 use Rattle.ca_node.proofs.Members.{in_first}
 use Rattle.ca_base.specs.Counting.{losses}
+use Rattle.ca_base.proofs.Crowds.{crowd_stays}
+use Rattle.ca_base.proofs.Held.{lent_unkept}
 use Rattle.ca_base.proofs.LentRows.{retired_border}
-use Rattle.ca_rows.specs.declared.view.Claim.TheVariants.{Lends}
+use Rattle.ca_rows.specs.declared.view.Claim.TheVariants.{Lends, Keeps}
+use Rattle.ca_rows.specs.Claims.{claim_of}
+use Rattle.ca_rows.proofs.Claiming.{claimed_else}
 use Rattle.ca_base.proofs.lending.retire_border.Goals as goal
 
 pub retire-requires-clause-list : goal.retire-requires-clause-list
@@ -42,3 +46,10 @@ pub returns-clause-met : goal.returns-clause-met
 returns-clause-met c = let told = c.retire.ensures.retired.2 in
     let empty = ap (λ (m : MyTree). m.0.empty) told in
     let worn = ap (λ (m : MyTree). m.0.worn) told in (ap losses told, (omega arith, omega arith))
+
+pub returns-clause-crowded : goal.returns-clause-crowded
+returns-clause-crowded c = let told = c.retire.ensures.retired in let m = c.args.pass.now.seat.me in
+    crowd_stays m c.retire.new.pass.seat.me c.args.row (ap (λ (x : MyTree). x.0.sizes) told.2)
+    (ap (λ (x : MyTree). x.0.upper) told.2)
+    (λ at. lent_unkept m.0.claims c.args.row at (c.requires.lent.0.lends c.args.row (in_first c.args.row [])))
+    (λ r n. ap (λ (x : MyTree). claim_of x.0.claims r) told.2 ∙ claimed_else m.0.claims c.args.row r (Keeps told.0) n)

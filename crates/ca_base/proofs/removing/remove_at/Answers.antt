@@ -11,6 +11,7 @@ use Rattle.ca_base.specs.Counting.{HasCleared, losses}
 use Rattle.ca_base.proofs.Alone.{won_then}
 use Rattle.std.proofs.lemmas.Result.{err_from_is_err_and}
 use Rattle.ca_base.proofs.Counts.{cleared_after, cleared_none, counted_after, ended_after, for_base, met_both, written_met}
+use Rattle.ca_base.proofs.Crowds.{crowded_from}
 use Rattle.ca_base.proofs.Readying.{place_in, many_are, few_are, spells_there}
 use Rattle.ca_base.proofs.TakingOut.{ready_without, removed, renewed_without}
 use Rattle.ca_base.proofs.Unlinking.{written_row}
@@ -216,3 +217,14 @@ returns-clause-found c = let v = c.write_base_without-old.ensures.written in
     (met_both 0 0 0 0 k m l c.in_ok-new.ensures.found.0 (written_met c.in_ok-new.new v.0 m l v.2))
     (ap losses v.2.only ∙ c.in_ok-new.ensures.found.1)
     c.swap_in.ensures.found
+
+pub returns-in_err-new-clause-crowded : goal.returns-in_err-new-clause-crowded
+returns-in_err-new-clause-crowded c =
+    let p = err_from_is_err_and c.from_residual.result c.from_residual.ensures.1 in
+    rw (p.1, p.2) (c.in_err-new.ensures.crowded [] (omega arith) c.requires.ready.none)
+
+pub returns-clause-crowded : goal.returns-clause-crowded
+returns-clause-crowded c = let one = c.take.ensures.frame.same in
+    let two = c.write_base_without-old.ensures.frame.same in
+    crowded_from c.swap_in.result c.args.pass.now.seat.me c.write_base_without-old.new.pass.seat.me
+    c.swap_in.new.pass.seat.me (two.2 ∙ one.2) (two.4 ∙ one.4) c.swap_in.ensures.crowded

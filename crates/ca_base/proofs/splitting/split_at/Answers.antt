@@ -11,6 +11,7 @@ use Rattle.ca_base.specs.Counting.{losses, HasMet}
 use Rattle.ca_base.proofs.Alone.{won_then}
 use Rattle.std.proofs.lemmas.Result.{err_from_is_err_and}
 use Rattle.ca_base.proofs.Counts.{cleared_after, cleared_none, counted_after, ended_after, met_both, written_met}
+use Rattle.ca_base.proofs.Crowds.{crowded_from}
 use Rattle.ca_base.proofs.Divisions.{three_apart, last_readable, divides_of}
 use Rattle.ca_base.proofs.SplitKeys.{short_key}
 use Rattle.ca_base.proofs.Unlinking.{written_row}
@@ -361,3 +362,16 @@ item-first-requires-clause-readable c = let r = c.requires in
           r.target.leaf r.ordered),
       omega arith,
     )
+
+pub returns-in_err-route-clause-crowded : goal.returns-in_err-route-clause-crowded
+returns-in_err-route-clause-crowded c =
+    let p = err_from_is_err_and c.from_residual.result c.from_residual.ensures.1 in
+    rw (p.1, p.2) c.in_err-route.ensures.crowded
+
+pub returns-clause-crowded : goal.returns-clause-crowded
+returns-clause-crowded c = let still = c.copy_key.ensures.frame.still ∙ c.item-first.ensures.frame.still in
+    let one = c.take_three.ensures.frame.same in let two = c.write_half.ensures.frame.same in
+    let three = c.write_half-2.ensures.frame.same in let four = c.write_route.ensures.frame.same in
+    crowded_from c.divide_in.result c.args.pass.now.seat.me c.write_route.new.pass.seat.me c.divide_in.new.pass.seat.me
+    (four.2 ∙ (ap (λ (m : MyTree). m.0.sizes) still ∙ (three.2 ∙ (two.2 ∙ one.2))))
+    (four.4 ∙ (ap (λ (m : MyTree). m.0.upper) still ∙ (three.4 ∙ (two.4 ∙ one.4)))) c.divide_in.ensures.crowded

@@ -4,6 +4,7 @@ use Rattle.ca_rows.specs.declared.view.Pin.{Pin}
 use Rattle.ca_base.specs.Counting.{TakesKept}
 use Rattle.ca_base.proofs.Rest.{two_apart}
 use Rattle.ca_base.proofs.Counts.{asked_more, back_after, takes_both}
+use Rattle.ca_base.proofs.Crowds.{crowded_then}
 use Rattle.std.proofs.lemmas.Result.{err_from_is_err_and}
 use Rattle.ca_base.proofs.splitting.take_three.Goals as goal
 
@@ -42,3 +43,16 @@ returns-in-Ok-clause-back c = let one = c.in_ok-first.ensures.back in
     takes_both c.args.pass.now.seat.me.0.pin.told (base_form ∷ base_form ∷ []) (object_form ∷ [])
     c.args.pass.now.kept.rows.items c.take_two.new.pass.kept.rows.items c.take.new.pass.kept.rows.items one
     (subst (λ (t : ℕ). TakesKept t (object_form ∷ []) c.take_two.new.pass.kept.rows.items c.take.new.pass.kept.rows.items) told two)
+
+pub returns-in_err-first-clause-crowded : goal.returns-in_err-first-clause-crowded
+returns-in_err-first-clause-crowded c =
+    let p = err_from_is_err_and c.from_residual.result c.from_residual.ensures.1 in
+    rw (p.1, p.2) c.in_err-first.ensures.crowded
+
+pub returns-in-Err-clause-crowded : goal.returns-in-Err-clause-crowded
+returns-in-Err-clause-crowded c = let two = c.in_ok-first.ensures.taken in
+    let same = c.take_two.ensures.frame.same in
+    crowded_then c.in-Err.why c.args.pass.now.seat.me c.take_two.new.pass.seat.me c.take.new.pass.seat.me
+    c.give_back_all.new.pass.seat.me same.2 same.4
+    (c.in-Err.ensures.crowded (c.in_ok-first.first ∷ c.in_ok-first.second ∷ []) (omega arith) two.1)
+    c.give_back_all.ensures.crowded

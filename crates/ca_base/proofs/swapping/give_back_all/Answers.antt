@@ -1,6 +1,7 @@
 use Rattle.std.proofs.Common.{[], ◌+◌, drop, ◌∙◌, arith}
 use Rattle.ca_base.specs.Taking.{AreHeld}
 use Rattle.ca_base.proofs.Counts.{spent_both, met_both, back_both}
+use Rattle.ca_base.proofs.Crowds.{crowd_both}
 use Rattle.ca_base.proofs.Rest.{from_place}
 use Rattle.ca_base.proofs.swapping.give_back_all.Goals as goal
 
@@ -26,6 +27,8 @@ loop-at-preserved c = let i = c.loop-at.invariant in let s = c.give_back.ensures
           i.counted c.give_back.ensures.counted;
       met = met_both 0 0 0 0 c.args.pass.now.seat.me c.loop-at.pass.seat.me
           c.give_back.new.pass.seat.me i.met c.give_back.ensures.met;
+      crowded = crowd_both c.args.pass.now.seat.me c.loop-at.pass.seat.me c.give_back.new.pass.seat.me
+          i.crowded c.give_back.ensures.crowded;
       back = back_both [] 0 c.args.pass.now.seat.me c.loop-at.pass.seat.me
           c.give_back.new.pass.seat.me c.args.pass.now.kept c.loop-at.pass.kept
           c.give_back.new.pass.kept (let more = i.counted.more in

@@ -2,6 +2,7 @@ use Rattle.ca_node.proofs.Members.{in_first}
 use Rattle.std.proofs.Common.{◌≡◌, true, false, ◌++◌, ◌∷◌, [], ap, inl, inr, subst, arith}
 use Rattle.ca_base.specs.Counting.{losses}
 use Rattle.ca_base.proofs.Counts.{none_spent}
+use Rattle.ca_base.proofs.Crowds.{put_crowd, retired_crowd}
 use Rattle.ca_base.proofs.Held.{kept_row, gone_row, retired_row}
 use Rattle.ca_rows.specs.declared.kept.KeptRows.{KeptRows}
 use Rattle.ca_rows.specs.declared.view.Claim.TheVariants.{Holds}
@@ -73,3 +74,16 @@ returns-then-not-put_row-clause-only c = λ only. let lost : false ≡ true = c.
 
 pub returns-else-not-put_row-clause-only : goal.returns-else-not-put_row-clause-only
 returns-else-not-put_row-clause-only c = λ _. ap losses c.if-not-put_row.ensures.given
+
+pub returns-then-not-put_row-clause-crowded : goal.returns-then-not-put_row-clause-crowded
+returns-then-not-put_row-clause-crowded c = let h = c.requires.held in
+    let own = (h.2.0.each c.args.row (in_first c.args.row h.0)).2 in
+    let lost = c.if-not-put_row.ensures.given in let told = c.retire.ensures.retired in
+    retired_crowd c.args.pass.now.seat.me c.put_row.new.pass.seat.me c.retire.new.pass.seat.me c.args.row
+    told.0 own.0 lost.0 own.2 lost.2 told.2
+
+pub returns-else-not-put_row-clause-crowded : goal.returns-else-not-put_row-clause-crowded
+returns-else-not-put_row-clause-crowded c = let h = c.requires.held in
+    let own = (h.2.0.each c.args.row (in_first c.args.row h.0)).2 in
+    put_crowd c.args.pass.now.seat.me c.put_row.new.pass.seat.me c.args.row own.0 own.2
+    c.if-not-put_row.ensures.given

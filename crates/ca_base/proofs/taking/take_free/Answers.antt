@@ -1,4 +1,4 @@
-use Rattle.std.proofs.Common.{ℕ, refl, ap, arith}
+use Rattle.std.proofs.Common.{◌<◌, ℕ, refl, ap, sym, subst, arith}
 use Rattle.ca_base.specs.declared.stop.Exchange.TheVariants as exchange
 use Rattle.ca_base.specs.declared.stop.Stop.TheVariants as stop
 use Rattle.ca_rows.specs.Kept.{nobody}
@@ -6,6 +6,8 @@ use Rattle.ca_rows.proofs.Listing.{young_claims}
 use Rattle.ca_node.specs.Told.{MyTree}
 use Rattle.ca_base.specs.Counting.{losses}
 use Rattle.ca_base.proofs.Counts.{none_put, none_spent}
+use Rattle.ca_base.proofs.Crowds.{none_free}
+use Rattle.ca_base.specs.Taking.{AreHeld}
 use Rattle.ca_base.proofs.Held.{took_row}
 use Rattle.ca_rows.specs.declared.sizes.Sizes.{Sizes}
 use Rattle.ca_rows.proofs.NoneOld.{none_is_old}
@@ -72,3 +74,11 @@ returns-in-Lost-clause-only c = λ only. absurd (c.in-Lost.ensures.only only ref
 
 pub returns-in-Worn-clause-only : goal.returns-in-Worn-clause-only
 returns-in-Worn-clause-only c = λ _. ap losses c.in-Worn.ensures.row.2
+
+pub returns-in-Empty-clause-crowded : goal.returns-in-Empty-clause-crowded
+returns-in-Empty-clause-crowded c held few h only is_pass = let told = c.in-Empty.ensures.row.1 in
+    let rows = c.args.space.now.table.shared.key.rows in
+    none_free rows c.args.pass.now.kept.rows c.take_row.new.pass.seat.me held few
+    (subst (λ (x : MyTree). AreHeld rows c.args.pass.now.kept.rows x.0 held) (sym told)
+    (h.0, record { now = h.1.now; ever = h.1.ever }))
+    (c.in-Empty.ensures.taken refl only) (subst (λ (x : MyTree). 0 < x.0.upper.number) (sym told) is_pass)

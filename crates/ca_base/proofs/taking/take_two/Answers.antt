@@ -8,6 +8,7 @@ use mathlib.Core.Option.{some}
 use Rattle.std.proofs.lemmas.Result.{err_from_is_err_and}
 use Rattle.ca_node.specs.Laws.{in_nothing}
 use Rattle.ca_base.proofs.Counts.{asked_more, back_after, takes_both}
+use Rattle.ca_base.proofs.Crowds.{crowded_then}
 use Rattle.ca_base.proofs.Held.{either_first}
 use Rattle.ca_base.proofs.taking.take_two.Goals as goal
 
@@ -90,3 +91,16 @@ returns-in-Err-clause-only c = λ only. let m = c.args.pass.now.seat.me in
     let first = is_only m c.take.new.pass.seat.me c.take.ensures.frame.same.2 only in
     let second = is_only c.take.new.pass.seat.me c.take-2.new.pass.seat.me c.take-2.ensures.frame.same.2 first in
     c.give_back.ensures.only second ∙ (c.in-Err.ensures.only first ∙ c.in_ok-first.ensures.only only)
+
+pub returns-in_err-first-clause-crowded : goal.returns-in_err-first-clause-crowded
+returns-in_err-first-clause-crowded c =
+    let p = err_from_is_err_and c.from_residual.result c.from_residual.ensures.1 in
+    rw (p.1, p.2) (c.in_err-first.ensures.crowded [] (omega arith) c.requires.none)
+
+pub returns-in-Err-clause-crowded : goal.returns-in-Err-clause-crowded
+returns-in-Err-clause-crowded c =
+    let one = c.in_ok-first.ensures.taken [] (omega arith) c.requires.none in
+    let same = c.take.ensures.frame.same in
+    crowded_then c.in-Err.why c.args.pass.now.seat.me c.take.new.pass.seat.me c.take-2.new.pass.seat.me
+    c.give_back.new.pass.seat.me same.2 same.4
+    (c.in-Err.ensures.crowded (c.in_ok-first.first ∷ []) (omega arith) one.1) c.give_back.ensures.crowded

@@ -13,6 +13,7 @@ use Rattle.ca_base.specs.Counting.{HasCleared, losses}
 use Rattle.ca_base.proofs.Alone.{won_then}
 use Rattle.std.proofs.lemmas.Result.{err_from_is_err_and}
 use Rattle.ca_base.proofs.Counts.{cleared_after, cleared_none, counted_after, ended_after, for_base, met_both, written_met}
+use Rattle.ca_base.proofs.Crowds.{crowded_from}
 use Rattle.ca_base.proofs.Readying.{finds_place, place_in, many_are, few_are, spells_there, ready, tried, renewed_so}
 use Rattle.ca_base.proofs.Rest.{two_apart, gone_apart, gone_few}
 use Rattle.ca_base.proofs.Unlinking.{written_row}
@@ -301,3 +302,14 @@ returns-in_err-new-clause-back c =
     let p = err_from_is_err_and c.from_residual.result c.from_residual.ensures.1 in
     rw (p.1, p.2) (cleared_none c.in_err-new.field-0.0 (base_form ∷ object_form ∷ []) c.args.pass.now.seat.me
     c.take_two.new.pass.seat.me c.args.pass.now.kept c.take_two.new.pass.kept c.in_err-new.ensures.back)
+
+pub returns-in_err-new-clause-crowded : goal.returns-in_err-new-clause-crowded
+returns-in_err-new-clause-crowded c =
+    let p = err_from_is_err_and c.from_residual.result c.from_residual.ensures.1 in
+    rw (p.1, p.2) c.in_err-new.ensures.crowded
+
+pub returns-clause-crowded : goal.returns-clause-crowded
+returns-clause-crowded c = let one = c.take_two.ensures.frame.same in
+    let two = c.write_object.ensures.frame.same in let three = c.write_base_with-old.ensures.frame.same in
+    crowded_from c.swap_in.result c.args.pass.now.seat.me c.write_base_with-old.new.pass.seat.me
+    c.swap_in.new.pass.seat.me (three.2 ∙ (two.2 ∙ one.2)) (three.4 ∙ (two.4 ∙ one.4)) c.swap_in.ensures.crowded

@@ -17,7 +17,7 @@ load-head-requires g c = let sized = c.args.self.now.sized in (
   omega arith,
   looks g.R.RowRule.linked g.R.RowRule.lent g.R.RowRule.noted g.R.RowRule.fact
       g.met.R.RowRule.frames
-      c.args.self.now.table.shared.key _ _ _ (is_pass c.args.pass.now.number c.args.pass.now.seat.me.0.pin c.args.pass.now.numbered),
+      c.args.self.now.table.shared.key g.R.RowRule.listed g.met.R.RowRule.listing _ _ _ (is_pass c.args.pass.now.number c.args.pass.now.seat.me.0.pin c.args.pass.now.numbered),
 )
 
 pub load-first-requires : goal.load-first-requires
