@@ -1,5 +1,5 @@
 -- Why a call of a pass that is alone is refused.
-use Rattle.std.proofs.Common.{◌≡◌, ◌⊎◌, ℕ, ◌+◌, ◌≤◌, List, Vec, sym, subst, refl, ⊎_elim, arith}
+use Rattle.std.proofs.Common.{◌≡◌, ◌⊎◌, ℕ, ◌+◌, ◌≤◌, List, length, Vec, Result, Ok, Err, IfErr, sym, subst, refl, ap, ⊎_elim, arith}
 use Rattle.std.specs.Global.{Global}
 use Rattle.std.specs.declared.option.Option.{Option}
 use Rattle.std.specs.declared.option.Option.TheVariants.{None as Nothing, Some as Just}
@@ -8,13 +8,19 @@ use Rattle.ca_model.specs.declared.outcome.Cause.{Cause}
 use Rattle.ca_model.specs.declared.outcome.Cause.TheVariants as cause
 use Rattle.ca_model.specs.declared.outcome.Outcome.{Outcome}
 use Rattle.ca_model.specs.declared.outcome.Outcome.TheVariants as outcome
+use Rattle.ca_model.specs.declared.outcome.Spent.{Spent}
 use Rattle.ca_model.specs.History.{History}
+use Rattle.ca_base.specs.declared.stop.Stop.TheVariants as stop
 use Rattle.ca_base.specs.Counting.{losses}
 use Rattle.ca_node.specs.States.{IsAlone}
 use Rattle.ca_node.specs.Told.{MyTree}
 use Rattle.ca_node.specs.TreeView.{Inventory, Note, TreeView}
-use Rattle.ca_replace.specs.Alone.{HadNoRoom, HasLoneCause, HasNoRoom, IsNeverBusy}
-use Rattle.ca_replace.specs.Causes.{IfCaused, IsCaused, IsFullSince}
+use Rattle.ca_replace.specs.declared.attempting.Halt.{Halt}
+use Rattle.ca_replace.specs.declared.attempting.Halt.TheVariants as halt
+use Rattle.ca_replace.specs.Attempting.{refused_as}
+use Rattle.ca_replace.specs.Alone.{HadNoRoom, HasLoneCause, HasNoRoom, IsCrowdedCall, IsCrowdedCause, IsNeverBusy}
+use Rattle.ca_replace.specs.Causes.{IfCaused, IsCaused, IsFullSince, IsRefill}
+use Rattle.ca_replace.specs.Crowding.{HasCrowded}
 use Rattle.ca_replace.specs.Growing.{HasWaited, HasRoomFor, IsSameTree, Grows}
 use Rattle.ca_replace.specs.Ranging.{IsRangeCaused}
 use Rattle.ca_replace.specs.Refusals.{outcome_by}
@@ -36,6 +42,11 @@ never_lags passes number (Just j) pin one first h = absurd (h.2 (omega (arith, h
 pub first_number : (table : TableId) (z : Sizes) (number : ℕ) (tally : Tally) (kept : Vec Kept Global) (seat : MySeat)
     → IsResting table z number tally kept seat → z.passes ≡ 1 → number ≡ 1
 first_number table z number tally kept seat r one = let some = r.numbered.1 in let most = r.known.enrolled in omega (arith, one, r.same_number)
+
+-- And is alone, by its number.
+pub alone_at : (table : TableId) (z : Sizes) (number : ℕ) (tally : Tally) (kept : Vec Kept Global) (seat : MySeat)
+    → IsResting table z number tally kept seat → z.passes ≡ 1 → IsAlone z seat.me.0.upper
+alone_at table z number tally kept seat r one = let some = r.numbered.1 in (one, omega (arith, r.same_number))
 
 -- A base that has no room at the last level was there before attempts that did not do the call, by which the pass learnt of nothing: where one of them split a
 -- base there would be room.
@@ -106,5 +117,47 @@ never_busy {T} z number budget adds why o m m' kept kept' is lost turns waited h
     by (cause.Busy spent) h = let one = one_split z adds m.0.upper m'.0.upper waited in let all = h.0 in let lost' = h.1 in let helped = h.2 in
         let passed = h.3 in let by_splits = turns.0 in let none_helped = turns.1 in absurd (omega arith)
     by (cause.Full full) h = tt
+    by (cause.Deep level) h = tt
+    by (cause.Worn counter) h = tt
+
+-- By attempts that did not do the call the tree has two linked rows more, at most.
+two_more : (z : Sizes) (adds : Option (List ℕ)) (u v : TreeView) → HasWaited z adds u v → length v.inventory.rows ≤ length u.inventory.rows + 2
+two_more z adds u v h = ⊎_elim (λ (same : IsSameTree u v). let e = ap (λ (i : Inventory). length i.rows) same.1 in omega arith)
+    (λ (t : Grows 1 2 1 u v × HasRoomFor z adds v × ¬ HasRoomFor z adds u). t.0.rows_are) h
+
+-- There are few rows where such a call is refused for want of one: its last attempts began with none kept, and kept one for a base that was split, at most.
+pub refill_crowded : (z : Sizes) (number budget begun kept now : ℕ) (adds : Option (List ℕ)) (spent : Spent) (why : Cause) (u : TreeView) (m n l : MyTree)
+    (kept' : Vec Kept Global) → z.passes ≡ 1 → number ≡ 1 → begun ≡ kept → IsRefill z.passes number budget begun spent why n l kept'
+    → HasCrowded {T = Unit {0}} (Err (halt.Stopped stop.Empty)) z.rows kept now m n → losses n ≡ losses m
+    → HasWaited z adds m.0.upper n.0.upper → HasWaited z adds u n.0.upper → IsCrowdedCause z u why
+refill_crowded z number budget begun kept now adds spent (cause.Busy s) u m n l kept' one first same h crowd lost last all = tt
+refill_crowded z number budget begun kept now adds spent (cause.Full full) u m n l kept' one first same h crowd lost last all =
+    let none = never_lags z.passes number full.lag l.0.pin one first h.3 in
+    let zero : begun ≡ 0 = ⊎_elim (λ e. e) (λ some. absurd (some none)) h.1 in let cut = one_split z adds m.0.upper n.0.upper last in
+    let grown = two_more z adds u n.0.upper all in let few = crowd.0 in let rows = crowd.1 in omega arith
+refill_crowded z number budget begun kept now adds spent (cause.Deep level) u m n l kept' one first same h crowd lost last all = tt
+refill_crowded z number budget begun kept now adds spent (cause.Worn counter) u m n l kept' one first same h crowd lost last all = tt
+
+-- A call that is refused by what its last attempt came to, which found the rows that it wanted, isn't refused for want of one.
+pub refused_uncrowded : {T : Type 0} (z : Sizes) (u : TreeView) (tried : Result T Halt) (r : Result T Cause) (spent : Spent) (levels : ℕ)
+    → r ≡ refused_as tried spent levels → IfErr r (λ why. IsCrowdedCause z u why)
+refused_uncrowded {T} z u tried r spent levels is = subst (λ (x : Result T Cause). IfErr x (λ why. IsCrowdedCause z u why)) (sym is) (by tried)
+  where
+    by : (tried : Result T Halt) → IfErr (refused_as tried spent levels) (λ why. IsCrowdedCause z u why)
+    by (Ok x) = tt
+    by (Err (halt.Stopped (stop.Lost e))) = tt
+    by (Err (halt.Stopped stop.Empty)) = tt
+    by (Err (halt.Stopped stop.Worn)) = tt
+    by (Err halt.Deep) = tt
+    by (Err halt.Split) = tt
+    by (Err halt.Helped) = tt
+
+-- So it is of the call, by what it comes to.
+pub crowded_call : {T : Type 0} (z : Sizes) (u : TreeView) (why : Cause) (o : Outcome T) → o ≡ outcome_by why → IsCrowdedCause z u why → IsCrowdedCall z u o
+crowded_call {T} z u why o is h = subst (λ (x : Outcome T). IsCrowdedCall z u x) (sym is) (by why h)
+  where
+    by : (why : Cause) → IsCrowdedCause z u why → IsCrowdedCall {T = T} z u (outcome_by why)
+    by (cause.Busy spent) h = tt
+    by (cause.Full full) h = h
     by (cause.Deep level) h = tt
     by (cause.Worn counter) h = tt

@@ -1,5 +1,5 @@
 -- What an attempt comes to behind the look that it begins with.
-use Rattle.std.proofs.Common.{◌+◌, ◌≡◌, ◌<◌, ℕ, Bool, true, false, List, [], Result, Ok, Err, sym, refl, ap, ◌∙◌, subst, ◌≤◌}
+use Rattle.std.proofs.Common.{◌+◌, ◌≡◌, ◌<◌, ℕ, Bool, true, false, List, [], Result, Ok, Err, sym, refl, ap, ◌∙◌, subst, ◌≤◌, arith, vec_len}
 use Rattle.std.specs.declared.option.Option.{Option}
 use Rattle.ca_adapt.specs.declared.tuning.Tuning.{Tuning}
 use Rattle.ca_base.specs.Counting.{losses}
@@ -13,6 +13,7 @@ use Rattle.ca_replace.specs.declared.attempting.Halt.{Halt}
 use Rattle.ca_replace.specs.declared.attempting.Halt.TheVariants as halt
 use Rattle.ca_replace.specs.Adapting.{Goes, IfTrue, IsCauseMet}
 use Rattle.ca_replace.specs.Attempting.{IsIdle}
+use Rattle.ca_replace.specs.Crowding.{Crowds}
 use Rattle.ca_replace.specs.Cutting.{HasCut, HasCutBehind}
 use Rattle.ca_replace.specs.Growing.{HasGrown}
 use Rattle.ca_replace.specs.Looking.{HasLooked}
@@ -26,6 +27,7 @@ use Rattle.ca_replace.proofs.Growing.{alone_on, entered_grown, looked_grown}
 use Rattle.ca_replace.proofs.Numbering.{numbered_as}
 use Rattle.ca_replace.proofs.Tallies.{tallied_read}
 use Rattle.ca_replace.proofs.Winning.{entered_won, quiet_won, won_behind, won_on}
+use Rattle.ca_rows.specs.declared.kept.KeptRows.{KeptRows}
 use Rattle.ca_rows.specs.declared.sizes.Sizes.{Sizes}
 use Rattle.ca_rows.specs.declared.space.Pass.{Pass}
 use Rattle.ca_rows.specs.declared.space.Space.{Space}
@@ -111,6 +113,17 @@ module _ {R : Type 0} {space : Space R TreeView} {key : List ℕ} {cursor : Curs
     quiet = l.own_range ∙ i.quiet;
     none_met = λ e. met ∙ i.none_met e;
   }
+
+  -- It keeps as few rows by the look and what it does then as by that alone.
+  pub crowds_behind : (why : Halt) (new : Pass R TreeView) → Crowds {T = Unit {0}} space (Err why) mid new
+      → Crowds {T = Unit {0}} space (Err why) pass new
+  crowds_behind why new crowds alone = let did = crowds (alone_on z pass.seat.me.0.upper mid.seat.me.0.upper l.further.number alone) in
+      let lost = l.quiet.lost in let cut = l.quiet.splits_are in
+      let same = ap (λ (k : KeptRows). vec_len k.rows) l.kept in let few = did.0 in (omega arith, did.1)
+
+  pub crowds_tried : (r : Result (Unit {0}) Halt) (new : Pass R TreeView) → Crowds space r mid new → Crowds space r pass new
+  crowds_tried (Ok x) new crowds alone = tt
+  crowds_tried (Err why) new crowds alone = crowds_behind why new crowds alone
 
   -- A call that edits nothing is entered in the log then.
   module _ (new : Pass R TreeView) (event : Event) (keeps : KeepsList mid new)

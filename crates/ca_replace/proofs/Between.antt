@@ -142,13 +142,14 @@ module _ {R : Type 0} (space : Space R TreeView) (pass new : Pass R TreeView) wh
 
   -- What it knows is what it knew, but for the pin.
   pub goes_anew : {before marked : _} (key : List ℕ) (told moment : ℕ) → MayBegin space key before marked pass
-      → IsSame pass.seat new.seat → new.number ≡ pass.number
+      → IsSame pass.seat new.seat → new.number ≡ pass.number → new.kept ≡ pass.kept
       → new.seat.me ≡ announced told moment (left pass.seat.me) → GoesOn pass new
-  goes_anew key told moment may same number is = let pin = (announced told moment (left pass.seat.me)).0.pin in
+  goes_anew key told moment may same number kept is = let pin = (announced told moment (left pass.seat.me)).0.pin in
       let seen = pass.seat.me.0.upper.seen in
       let ranges = (announced told moment (left pass.seat.me)).0.upper.ranges in record {
         same = same;
         number = number;
+        kept = kept;
         sizes = ap (λ (x : MyTree). x.0.sizes) is;
         pin_number = ap (λ (x : MyTree). x.0.pin.number) is;
         quiet = moved_quiet pass.seat.me new.seat.me pin seen [] [] ranges is;
@@ -171,6 +172,7 @@ pub goes_still : {R : Type 0} (pass : Pass R TreeView) → IsSame pass.seat pass
 goes_still pass same = let u = pass.seat.me.0.upper in record {
   same = same;
   number = refl;
+  kept = refl;
   sizes = refl;
   pin_number = refl;
   quiet = record {

@@ -14,6 +14,7 @@ use Rattle.ca_model.specs.declared.outcome.Cause.TheVariants as cause
 use Rattle.std.specs.declared.option.Option.{Option}
 use Rattle.std.specs.declared.option.Option.TheVariants.{None as Nothing, Some as Just}
 use Rattle.ca_base.specs.Counting.{losses}
+use Rattle.ca_model.specs.Answer.{IfBusy}
 use Rattle.ca_model.specs.Known.{Counts}
 use Rattle.ca_replace.specs.Attempting.{HasNext, helps, passes, total, IsPaid, IfDeep, refused_as}
 use Rattle.ca_replace.specs.Causes.{HasBegun, IsCaused, IsFullSince, IsRefill, IsUnspent, IfCaused, KeepsFew}
@@ -221,6 +222,18 @@ deep_adds {T} z number budget adds why o m m' kept kept' is h = subst
     by (cause.Busy spent) h = tt
     by (cause.Full full) h = tt
     by (cause.Deep level) h = adds_one adds h.1
+    by (cause.Worn counter) h = tt
+
+-- One that is busy spent its budget.
+pub busy_spent : {T : Type 0} (z : Sizes) (number budget : ℕ) (adds : Option (List ℕ)) (why : Cause) (o : Outcome T) (m m' : MyTree)
+    (kept kept' : Vec Kept Global) → o ≡ outcome_by why → IsCaused z number budget adds why m kept m' kept'
+    → IfBusy o (λ spent. budget ≤ spent)
+busy_spent {T} z number budget adds why o m m' kept kept' is h = subst (λ (x : Outcome T). IfBusy x (λ spent. budget ≤ spent)) (sym is) (by why h)
+  where
+    by : (why : Cause) → IsCaused z number budget adds why m kept m' kept' → IfBusy {T = T} (outcome_by why) (λ spent. budget ≤ spent)
+    by (cause.Busy spent) h = h.0
+    by (cause.Full full) h = tt
+    by (cause.Deep level) h = tt
     by (cause.Worn counter) h = tt
 
 -- Few rows are kept, as seen from a moment before.

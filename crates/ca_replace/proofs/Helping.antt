@@ -122,6 +122,7 @@ module _ {R : Type 0} (space : Space R TreeView) (t : Tuning) (tells : Event →
     frame = h.frame;
     tried = (further, h.steps.known known);
     stays = (ap (λ (x : TreeView). x.since) h.steps.only, tt, λ e. let no : true ≡ false = e in cc);
+    crowds = λ alone. absurd (not_alone alone);
     turn = record {
       met_as = tt;
       gone_on = (

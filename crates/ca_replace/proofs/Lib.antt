@@ -4,7 +4,9 @@ pub mod Asking
 pub mod Behind
 pub mod Between
 pub mod Causing
+pub mod Commands
 pub mod Counted
+pub mod Crowding
 pub mod Cutting
 pub mod DueCauses
 pub mod DueJoins

@@ -45,6 +45,7 @@ looking_still z key cursor u ranges l = record {
   };
   listed = l.listed;
   shallow = l.shallow;
+  few_rows = l.few_rows;
   begins = record { least = l.begins.least; is_link = l.begins.is_link; placed = l.begins.placed };
 }
 

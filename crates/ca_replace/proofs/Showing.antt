@@ -74,6 +74,7 @@ looking z key m m' cursor w most =
       known = known;
       listed = w.listed;
       shallow = w.shallow;
+      few_rows = w.few_rows;
       begins = subst (λ (v : TreeView). IsBegin z v w.note.place.span cursor) here w.begins;
     }
 

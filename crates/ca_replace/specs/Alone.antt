@@ -1,7 +1,9 @@
 -- Why calls of a pass that is alone are refused.
-use Rattle.std.specs.Prelude.{◌≡◌, ℕ, ◌≤◌, List, [], length}
+use Rattle.std.specs.Prelude.{◌≡◌, ℕ, ◌+◌, ◌≤◌, List, [], length}
 use Rattle.std.specs.declared.option.Option.{Option}
 use Rattle.std.specs.declared.option.Option.TheVariants.{None, Some}
+use Rattle.ca_model.specs.declared.outcome.Cause.{Cause}
+use Rattle.ca_model.specs.declared.outcome.Cause.TheVariants as cause
 use Rattle.ca_model.specs.declared.outcome.Outcome.{Outcome}
 use Rattle.ca_model.specs.declared.outcome.Outcome.TheVariants as outcome
 use Rattle.ca_model.specs.History.{History, after}
@@ -43,3 +45,21 @@ HasLoneCause z adds u (outcome.Busy spent) = Unit {0}
 HasLoneCause z adds u (outcome.Full full) = (full.kept ≡ 0) × (full.lag ≡ None)
 HasLoneCause z adds u (outcome.Deep level) = HadNoRoom z adds u
 HasLoneCause z adds u (outcome.Worn counter) = Unit {0}
+
+-- It is short of rows: there are as many as such a tree has of them, and eleven, at most.
+abbrev pub IsShortOfRows : Sizes → TreeView → Type 0
+IsShortOfRows z u = z.rows ≤ length u.inventory.rows + 11
+
+-- So it was as the call began that may edit, of such a pass, and is refused by this cause, where that is that no row was free.
+abbrev pub IsCrowdedCause : Sizes → TreeView → Cause → Type 0
+IsCrowdedCause z u (cause.Busy spent) = Unit {0}
+IsCrowdedCause z u (cause.Full full) = IsShortOfRows z u
+IsCrowdedCause z u (cause.Deep level) = Unit {0}
+IsCrowdedCause z u (cause.Worn counter) = Unit {0}
+
+abbrev pub IsCrowdedCall : {T : Type 0} → Sizes → TreeView → Outcome T → Type 0
+IsCrowdedCall z u (outcome.Done x) = Unit {0}
+IsCrowdedCall z u (outcome.Busy spent) = Unit {0}
+IsCrowdedCall z u (outcome.Full full) = IsShortOfRows z u
+IsCrowdedCall z u (outcome.Deep level) = Unit {0}
+IsCrowdedCall z u (outcome.Worn counter) = Unit {0}

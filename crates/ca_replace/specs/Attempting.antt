@@ -11,7 +11,7 @@ use Rattle.ca_model.specs.declared.outcome.Spent.{Spent}
 use Rattle.ca_model.specs.Event.{Event}
 use Rattle.ca_model.specs.StoreMap.{IsFound, IsPair}
 use Rattle.ca_node.specs.declared.cursor.Cursor.{Cursor}
-use Rattle.ca_node.specs.Inventory.{IsListed}
+use Rattle.ca_node.specs.Inventory.{HasFewRows, IsListed}
 use Rattle.ca_node.specs.Place.{Span, HasKey}
 use Rattle.ca_node.specs.Tree.{StartsWith}
 use Rattle.ca_node.specs.Walking.{IsBegin}
@@ -42,6 +42,7 @@ pub record IsLooking (z : Sizes) (u : TreeView) (key : List ℕ) (cursor : Curso
   pub known : IsKnown z u
   pub listed : IsAlone z u → IsListed u.inventory (first_note u.notes)
   pub shallow : IsAlone z u → (first_note u.notes).place.level ≤ u.splits
+  pub few_rows : IsAlone z u → HasFewRows u
   -- Another walk to such a key may begin with the cursor's link.
   pub begins : IsBegin z u (first_note u.notes).place.span cursor
 

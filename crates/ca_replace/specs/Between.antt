@@ -24,10 +24,11 @@ module _ {R : Type 0} where
     pub begins : BeginsAt space.table.shared.key key pass.seat.me.0.upper again
     pub tallied : IsTallied pass.tally pass.seat.me.0.upper
 
-  -- It is the same pass, which met nothing, loaded no link and has seen as much; where it isn't pinned as it was, it pinned.
+  -- It is the same pass, which met nothing, loaded no link, keeps the same rows and has seen as much; where it isn't pinned as it was, it pinned.
   pub record GoesOn (pass new : Pass R TreeView) : Type 0 where
     pub same : IsSame pass.seat new.seat
     pub number : new.number ≡ pass.number
+    pub kept : new.kept ≡ pass.kept
     pub sizes : new.seat.me.0.sizes ≡ pass.seat.me.0.sizes
     pub pin_number : new.seat.me.0.pin.number ≡ pass.seat.me.0.pin.number
     pub quiet : IsQuiet pass.seat.me new.seat.me

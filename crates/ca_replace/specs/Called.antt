@@ -3,8 +3,9 @@ use Rattle.std.specs.Prelude.{◌≡◌, ℕ, ◌≤◌, Bool, List, vec_len}
 use Rattle.std.specs.declared.option.Option.{Option}
 use Rattle.ca_base.specs.Counting.{losses}
 use Rattle.ca_model.specs.declared.outcome.Outcome.{Outcome}
+use Rattle.ca_model.specs.Answer.{IfRefused}
 use Rattle.ca_replace.specs.Adapting.{IsCauseMetInCall, LeavesInCall}
-use Rattle.ca_replace.specs.Alone.{HasLoneCause, IsNeverBusy}
+use Rattle.ca_replace.specs.Alone.{HasLoneCause, IsCrowdedCall, IsNeverBusy}
 use Rattle.ca_replace.specs.Bounded.{IsBounded}
 use Rattle.ca_replace.specs.Causes.{HasCause, IsSparing}
 use Rattle.ca_replace.specs.Cutting.{HasCutInCall}
@@ -26,6 +27,7 @@ pub record HasTold {T : Type 0} (edits : T → Bool) (adds : Option (List ℕ)) 
   -- why it was refused, and how few rows its pass keeps and held
   pub caused : HasCause budget adds s t o
   pub alone : s.z.passes ≡ 1 → HasLoneCause s.z adds s.seat.me.0.upper o
+  pub crowded : s.z.passes ≡ 1 → IsCrowdedCall s.z s.seat.me.0.upper o
   pub sparing : IsSparing s t
   -- how often it pinned, and how often it looked at the others
   pub bounded : IsBounded (vec_len s.kept) s.seat.me t.seat.me
@@ -40,5 +42,7 @@ pub record HasTold {T : Type 0} (edits : T → Bool) (adds : Option (List ℕ)) 
   -- that such a pass lost none at all, and is refused for turns by a budget of one alone
   pub unlost : s.z.passes ≡ 1 → losses t.seat.me ≡ losses s.seat.me
   pub never_busy : s.z.passes ≡ 1 → 2 ≤ budget → IsNeverBusy o
+  -- that it learnt of nothing by a call that was refused
+  pub still : s.z.passes ≡ 1 → IfRefused o (λ _. t.seat.me.0.upper.seen ≡ s.seat.me.0.upper.seen)
   -- which bases it split, and how
   pub cut : HasCutInCall edits s.z adds o s.seat.me.0.upper t.seat.me.0.upper

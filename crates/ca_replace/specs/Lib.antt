@@ -8,6 +8,7 @@ pub mod Bounded
 pub mod Called
 pub mod Causes
 pub mod Closing
+pub mod Crowding
 pub mod Cutting
 pub mod Growing
 pub mod Leaving

@@ -23,11 +23,13 @@ pub record MakesNoUpdate (s t : StoreView) : Type 0 where
   pub last : t.last ≡ s.last
   pub untried : t.seat.me.0.upper.tries ≡ s.seat.me.0.upper.tries
   pub unsplit : t.seat.me.0.upper.splits ≡ s.seat.me.0.upper.splits
+  pub unrenewed : t.seat.me.0.upper.renewal ≡ s.seat.me.0.upper.renewal
 
--- Nothing was changed in the tree, no turn was lost, and no attempt to join was begun.
+-- Nothing was changed in the tree, no turn was lost, and no attempt to join was begun. A pass that is alone learnt of nothing.
 pub record OnlyLooks (s t : StoreView) : Type 0 where
   pub unchanged : MakesNoUpdate s t
   pub untouched : IsUntouched s.seat.me.0.upper t.seat.me.0.upper
+  pub still : s.z.passes ≡ 1 → t.seat.me.0.upper.seen ≡ s.seat.me.0.upper.seen
 
 -- A call with this budget that reads what is within edges, and needs more than such a base.
 pub record HasRead {T : Type 0} (Needs : Note → Type 0) (budget : ℕ) (s t : StoreView) (o : Outcome T) : Type 0 where

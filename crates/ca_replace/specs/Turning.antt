@@ -18,6 +18,7 @@ use Rattle.ca_node.specs.TreeView.{TreeView}
 use Rattle.ca_replace.specs.declared.adapting.Course.{Course}
 use Rattle.ca_replace.specs.Adapting.{HasGoneOn, IsCauseMetInAttempts, noted}
 use Rattle.ca_replace.specs.Attempting.{HasStopped, HasTriedTo, IsPaidTo, StaysAt}
+use Rattle.ca_replace.specs.Crowding.{Crowds}
 use Rattle.ca_replace.specs.Cutting.{HasCut, HasCutInAttempts}
 use Rattle.ca_replace.specs.Growing.{HasGrown, HasGrownInAttempts}
 use Rattle.ca_replace.specs.Winning.{HasWonInAttempts}
@@ -64,12 +65,13 @@ module _ {R T : Type 0} (edits : T → Bool) (adds : Option (List ℕ)) (tree : 
 
 module _ {R : Type 0} where
   -- What became of an edit of the base that was shown last, which is such an event, is about this key, and may add one: the pass is in its call still; the
-  -- event is in its log, or another attempt may follow, which begins so; and what it came to beside.
+  -- event is in its log, or another attempt may follow, which begins so; how few rows it keeps then; and what it came to beside.
   pub record HasEdited (space : Space R TreeView) (t : Tuning) (tells : Event → Type 0) (key : List ℕ) (adds : Option (List ℕ)) (marked : Bool) (a b : Course)
       (r : Result (Unit {0}) Halt) (pass new : Pass R TreeView) : Type 0 where
     pub frame : StaysReady space pass new
     pub tried : HasTriedTo (λ _. tells) space.table.shared.key r pass.seat.me.0.upper new.seat.me.0.upper
     pub stays : StaysAt space.table.shared.key key r pass.seat.me.0.upper new.seat.me.0.upper b.again marked
+    pub crowds : Crowds space r pass new
     pub turn : IsTurn (λ _. true) adds space.table.shared.key t 0 a b (met_of new.seat.me) r pass.seat.me new.seat.me
 
 -- what is handed on behind the split of a full base: a turn where it was split, and that an exchange of a link was lost where that was

@@ -6,6 +6,7 @@ ghost use Rattle.ca_model.specs.Event.{Event, Remove};
 ghost use Rattle.ca_node.specs.Row.{pair};
 ghost use Rattle.ca_replace.specs.declared.attempting.Halt.TheVariants.{Deep as IsDeep, Split as IsSplit};
 ghost use Rattle.ca_replace.specs.Causes.{IsFullSince};
+ghost use Rattle.ca_replace.specs.Crowding.{Crowds};
 ghost use Rattle.ca_replace.specs.Cutting.{IsFullFor};
 ghost use Rattle.ca_replace.specs.Attempting.{BeginsAt, IsAsking, IsIdle, IsLooking, HasFetched, HasTriedSince, HasTriedTo, StaysAt, StaysFor, split_to};
 ghost use Rattle.ca_node.specs.Told.{IsKnown, IsSettled};
@@ -92,6 +93,7 @@ pub(crate) trait Attempt {
         ensures tried { HasTriedSince (λ answer. tells self.now answer left.new) (sizes tree.now.space) result (tree_of pass.old) (tree_of pass.new) }
         ensures stays { StaysFor tree.now.space (about self.now) result pass.old pass.new course.new }
         ensures deep { result ≡ Err IsDeep → IsFullSince (sizes tree.now.space) (adds self.now) (tree_of pass.new) }
+        ensures crowds { Crowds tree.now.space result pass.old pass.new }
         ensures turn { TakesTurn (edits self.now) (adds self.now) tree.now course.old course.new ((sizes tree.now.space).levels + 1) result pass.old pass.new };
 }
 
@@ -288,6 +290,7 @@ fn make_room(
         (tree_of pass.old) (tree_of pass.new) course.new.again false }
     ensures deep { result ≡ IsDeep → (sizes tree.now.space).levels ≤ (shown_last pass.old).place.level }
     ensures still { result ≡ IsDeep → tree_of pass.new ≡ tree_of pass.old }
+    ensures crowds { Crowds {T = Unit {0}} tree.now.space (Err result) pass.old pass.new }
     ensures turn { (key : List ℕ) → IsLooking (sizes tree.now.space) (tree_of pass.old) key cursor
         → IsFullFor (sizes tree.now.space) (Some key) (shown_last pass.old)
         → TakesTurn {T = Unit {0}} (λ _. true) (Some key) tree.now course.old course.new 0 (Err result) pass.old pass.new }

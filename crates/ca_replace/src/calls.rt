@@ -5,9 +5,11 @@ ghost use Rattle.ca_base.specs.declared.stop.Stop.TheVariants.{Empty as IsEmpty}
 ghost use Rattle.ca_replace.specs.declared.attempting.Halt.TheVariants.{Deep as IsDeep, Stopped as IsStopped};
 ghost use Rattle.ca_node.specs.Told.{with_upper};
 ghost use Rattle.ca_replace.specs.Attempting.{IsPaidTo, total, HasAttempted, HasDoneSuch, HasNext, HasStopped, HasTriedTo, IfDeep, refused_as};
+ghost use Rattle.ca_replace.specs.Alone.{IsCrowdedCause};
 ghost use Rattle.ca_replace.specs.Bounded.{IsBounded, IsPaced};
 ghost use Rattle.ca_replace.specs.Loading.{LoadsInAttempts, LoadsInTurns};
 ghost use Rattle.ca_replace.specs.Causes.{EndsAtLag, HasPinned, IsCausedBy, IsFullSince, KeepsFew};
+ghost use Rattle.ca_replace.specs.Crowding.{Crowds};
 ghost use Rattle.ca_replace.specs.Seen.{HasToldBy};
 ghost use Rattle.ca_base.specs.Progress.{IsRefused};
 ghost use Rattle.ca_model.specs.Known.{one_more};
@@ -116,6 +118,7 @@ fn attempts<A: Attempt>(
     ensures frame { StaysAtRest tree.now.space pass.old pass.new }
     ensures come { HasAttempted (λ answer. A.tells order.now.what.now answer left.new) result (tree_of pass.old) (tree_of pass.new) }
     ensures caused { IfErr result (λ why. IsCausedBy tree.now.space order.now.budget (A.adds order.now.what.now) why pass.old pass.new) }
+    ensures crowded { (sizes tree.now.space).passes ≡ 1 → IfErr result (λ why. IsCrowdedCause (sizes tree.now.space) (tree_of pass.old) why) }
     ensures few { KeepsFew (known pass.old) (known pass.new) pass.new.kept.rows }
     ensures lags { EndsAtLag (known pass.old) (known pass.new) }
     ensures bounded { IsBounded (vec_len pass.old.kept.rows) (known pass.old) (known pass.new) }
@@ -179,6 +182,7 @@ fn turns<A: Attempt>(
     ensures pinned { HasPinned (known pass.old) (known pass.new) }
     ensures paced { IsPaced (known pass.old) (known pass.new) }
     ensures loads { LoadsInTurns (A.edits order.now.what.now) (sizes tree.now.space) result (known pass.old) (known pass.new) }
+    ensures crowds { Crowds tree.now.space result pass.old pass.new }
     ensures lost { HasNext result → order.now.budget ≤ total course.new.spent }
     ensures turns { TakesTurns (A.edits order.now.what.now) (A.adds order.now.what.now) tree.now course.old course.new result pass.old pass.new }
 {

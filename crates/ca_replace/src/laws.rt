@@ -1,8 +1,18 @@
 //! What follows from the promises of calls alone.
-ghost use Rattle.ca_replace.specs.Levels.{DeepComesLate};
+ghost use Rattle.ca_replace.specs.Levels.{DeepComesLate, SplitsByCommands, UpdatesByCommands};
 
 /// In a tree for one pass none of the first commands is refused for want of levels: half as many as there are levels come before one that is, counted from where
-/// the pass had split no base. A command is one call that may edit, tried once or several times. Reads count for nothing.
+/// the pass had split no base. A command reads, and makes one call that may edit, if any; it is tried once or several times. Other reads count for nothing.
 pub fn deep_comes_late()
     ensures { DeepComesLate }
+{}
+
+/// A command carries out one update at most, however often it is tried.
+pub fn updates_by_commands()
+    ensures { UpdatesByCommands }
+{}
+
+/// In a tree for one pass it splits two bases at most.
+pub fn splits_by_commands()
+    ensures { SplitsByCommands }
 {}

@@ -31,7 +31,7 @@ mod within;
 pub use adapting::Last;
 pub use closing::{CloseFault, Closed};
 pub use fault::TreeFault;
-pub use laws::deep_comes_late;
+pub use laws::{deep_comes_late, splits_by_commands, updates_by_commands};
 pub use past::Past;
 pub use store::TreeStore;
 pub use tree::Tree;

@@ -2,12 +2,15 @@ use Rattle.ca_replace.specs.declared.attempting.Halt.{Halt}
 use Rattle.ca_replace.proofs.Tuning.{tuned_on}
 use Rattle.ca_replace.proofs.FullBases.{room_found, room_paid, room_waits}
 use Rattle.ca_replace.proofs.GoingOn.{split_further}
-use Rattle.std.proofs.Common.{◌≡◌, true, false, Err, Option, Some, refl, sym, ap, ◌∙◌, subst, arith}
+use Rattle.std.proofs.Common.{◌≡◌, true, false, Err, Option, Some, refl, sym, ap, ◌∙◌, subst, arith, le_refl}
 use Rattle.ca_node.specs.declared.cursor.Cursor.{Cursor}
 use Rattle.ca_replace.specs.Attempting.{BeginsAt}
 use Rattle.ca_replace.proofs.Again.{again_after, deep_stays, split_stays}
 use Rattle.ca_replace.proofs.Growing.{made_room}
 use Rattle.ca_replace.proofs.Showing.{shown_last}
+use Rattle.ca_base.specs.Splitting.{split_forms}
+use Rattle.ca_replace.specs.Crowding.{Crowds}
+use Rattle.ca_replace.proofs.Crowding.{room_crowds}
 use Rattle.ca_replace.proofs.Cutting.{made_cut}
 use Rattle.ca_replace.proofs.Winning.{room_won}
 use Rattle.ca_replace.specs.declared.adapting.Course.{Course}
@@ -32,6 +35,15 @@ split_at-split-requires-clause-target c = let l = c.requires.looking.1 in record
   at = l.at;
   many_are = c.requires.many.0;
 }
+
+pub returns-clause-crowds : goal.returns-clause-crowds
+returns-clause-crowds c = subst (λ (x : Halt). Crowds {T = Unit {0}} c.args.tree.now.space (Err x) c.args.pass.now c.split_at-split.new.pass)
+    (sym c.halt_of.ensures) (room_crowds c.args.tree.now.space split_forms c.args.cursor.base c.args.many _ c.split_at-split.result c.args.pass.now
+    c.split_at-split.new.pass c.requires.ready.own.1 c.split_at-split.ensures.frame c.split_at-split.ensures.split c.split_at-split.ensures.found
+    c.split_at-split.ensures.back c.split_at-split.ensures.crowded)
+
+pub returns-then-cursor-tree-clause-crowds : goal.returns-then-cursor-tree-clause-crowds
+returns-then-cursor-tree-clause-crowds c alone = (le_refl _, tt)
 
 pub returns-clause-turn : goal.returns-clause-turn
 returns-clause-turn c key looking full = let z = c.args.tree.now.space.table.shared.key in

@@ -1,16 +1,17 @@
 use Rattle.ca_node.specs.declared.cursor.Cursor.{Cursor}
 use Rattle.ca_replace.proofs.Again.{settled_stays}
-use Rattle.std.proofs.Common.{◌≡◌, Option, ◌≤◌, ℕ, ℤ, Result, OnOk, Ok, Err, Some, get_or, to_z, of_z, w32, Bool, true, false, length, sym, ap, ◌∙◌, subst, arith, map, ◌<◌}
+use Rattle.std.proofs.Common.{[], ◌∷◌, ◌≡◌, Option, ◌≤◌, ℕ, ℤ, Result, OnOk, Ok, Err, Some, get_or, to_z, of_z, w32, Bool, true, false, length, sym, ap, ◌∙◌, subst, arith, map, ◌<◌}
 use Rattle.std.proofs.lemmas.Int.{ints, to_z-of_z}
 use Rattle.ca_replace.specs.declared.attempting.Halt.{Halt}
 use Rattle.ca_replace.specs.declared.attempting.Halt.TheVariants as halt
 use Rattle.ca_base.specs.Targets.{key_in, edit_of, event_of}
 use Rattle.ca_model.specs.History.{Put}
 use Rattle.ca_base.specs.Finding.{IsReadable, IsAtCursor}
+use Rattle.ca_node.specs.Layout.{base_form, object_form}
 use Rattle.ca_node.specs.Place.{HasKey}
 use Rattle.ca_node.specs.Told.{MyTree, IsKnown, IsSettled}
 use Rattle.ca_node.specs.TreeView.{TreeView}
-use Rattle.ca_base.specs.Putting.{IsRoom, IsShownLast, first_note, object_at, put_event}
+use Rattle.ca_base.specs.Putting.{IsRoom, IsShownLast, first_note, gone, last_items, object_at, put_event}
 use Rattle.ca_replace.specs.Adapting.{IsMoved, IsCauseMet}
 use Rattle.ca_replace.proofs.Tuning.{tuned_on}
 use Rattle.ca_replace.proofs.Settling.{IsSettling}
@@ -21,6 +22,7 @@ use Rattle.ca_replace.proofs.DueCauses.{settled_met}
 use Rattle.ca_replace.proofs.Growing.{come_unsplit, settled_grown, tried_number}
 use Rattle.ca_replace.specs.Cutting.{IsFullFor}
 use Rattle.ca_replace.specs.Turning.{IsTurn}
+use Rattle.ca_replace.proofs.Crowding.{crowds_read, settled_crowds}
 use Rattle.ca_replace.proofs.Cutting.{full_for, settled_cut}
 use Rattle.ca_replace.proofs.Winning.{settled_won}
 use Rattle.ca_node.specs.Row.{pair}
@@ -271,6 +273,12 @@ returns-clause-edited c = record {
       c.settle.new.pass.seat.me.0.upper again false) (sym c.settle.ensures.again)
       (settled_stays c.put_at-tried.result (key_in c.args.insertion.now.keyed) c.args.cursor (settling c)
       c.requires.looking);
+  crowds = settled_crowds c.args.tree.now.space (base_form ∷ object_form ∷ [])
+      (gone c.args.insertion.now.place (last_items c.next_statistic-statistic.new.pass.seat.me.0.upper)) c.args.cursor.base (event_of c.args.insertion.now
+      (first_note c.next_statistic-statistic.new.pass.seat.me.0.upper.notes).objects) c.put_at-tried.result c.settle.result
+      c.args.pass.now c.next_statistic-statistic.new.pass c.put_at-tried.new.pass c.settle.new.pass c.settle.ensures.come
+      (reads_both c.count-many.ensures.frame c.next_statistic-statistic.ensures.frame) c.requires.ready.own.1 c.put_at-tried.ensures.frame
+      c.put_at-tried.ensures.put c.put_at-tried.ensures.back c.put_at-tried.ensures.crowded c.settle.ensures.still;
   turn = record {
     met_as = settled_met (IsCauseMet c.settle.new.course.adapting.last.adapted
         (met_of c.settle.new.pass.seat.me) c.settle.new.pass.seat.me.0.upper)
@@ -329,6 +337,8 @@ returns-then-not-has_room-clause-edited c = record {
       (c.make_room.ensures.stays key
       (subst (λ (m : MyTree). IsLooking z m.0.upper key c.args.cursor) (sym still)
       c.requires.looking));
+  crowds = crowds_read c.args.tree.now.space {T = Unit {0}} (Err c.make_room.result) c.args.pass.now c.count-many.new.pass c.make_room.new.pass
+      c.count-many.ensures.frame c.make_room.ensures.crowds;
   turn = let z = c.args.tree.now.space.table.shared.key in
       let key = key_in c.args.insertion.now.keyed in let u = c.args.pass.now.seat.me.0.upper in
       let last = c.make_room.new.pass.seat.me in let still = c.count-many.ensures.frame.still in

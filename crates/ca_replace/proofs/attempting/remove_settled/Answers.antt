@@ -1,14 +1,15 @@
 use Rattle.ca_node.specs.declared.cursor.Cursor.{Cursor}
 use Rattle.ca_replace.proofs.Again.{settled_stays}
-use Rattle.std.proofs.Common.{◌≡◌, false, Option, ℤ, get_or, to_z, of_z, w32, length, Ok, None, Some, sym, ap, ◌∙◌, subst, arith, map, rules}
+use Rattle.std.proofs.Common.{[], ◌∷◌, ◌≡◌, false, Option, ℤ, get_or, to_z, of_z, w32, length, Ok, None, Some, sym, ap, ◌∙◌, subst, arith, map, rules}
 use Rattle.std.proofs.lemmas.Int.{ints, to_z-of_z}
 use Rattle.ca_model.specs.Event.{Remove}
 use Rattle.ca_model.specs.History.{Del}
 use Rattle.ca_base.specs.Finding.{IsReadable, IsAtCursor}
+use Rattle.ca_node.specs.Layout.{base_form}
 use Rattle.ca_node.specs.Place.{HasKey}
 use Rattle.ca_node.specs.Told.{MyTree}
 use Rattle.ca_node.specs.TreeView.{TreeView}
-use Rattle.ca_base.specs.Putting.{IsShownLast, first_note, object_at}
+use Rattle.ca_base.specs.Putting.{IsShownLast, first_note, gone, last_items, object_at}
 use Rattle.ca_replace.specs.Adapting.{IsMoved, IsCauseMet}
 use Rattle.ca_replace.specs.Attempting.{StaysAt}
 use Rattle.ca_replace.proofs.Tuning.{tuned_on}
@@ -18,6 +19,7 @@ use Rattle.ca_replace.proofs.Showing.{shown_last}
 use Rattle.ca_rows.specs.Told.{met_of}
 use Rattle.ca_replace.proofs.DueCauses.{settled_met}
 use Rattle.ca_replace.proofs.Growing.{settled_grown}
+use Rattle.ca_replace.proofs.Crowding.{settled_crowds}
 use Rattle.ca_replace.proofs.Cutting.{settled_cut}
 use Rattle.ca_replace.proofs.Winning.{settled_won}
 use Rattle.ca_node.specs.Row.{pair}
@@ -163,6 +165,14 @@ returns-clause-edited c = record {
       c.settle.new.pass.seat.me.0.upper again false) (sym c.settle.ensures.again)
       (settled_stays c.remove_at-tried.result c.args.removal.now.key.now c.args.cursor (settling c)
       c.requires.looking);
+  crowds = settled_crowds c.args.tree.now.space (base_form ∷ [])
+      (gone (Ok c.args.removal.now.at) (last_items c.next_statistic-statistic.new.pass.seat.me.0.upper)) c.args.cursor.base
+      (Remove c.args.removal.now.key.now
+      (Some (object_at (Ok c.args.removal.now.at) (first_note c.next_statistic-statistic.new.pass.seat.me.0.upper.notes).objects)))
+      c.remove_at-tried.result c.settle.result
+      c.args.pass.now c.next_statistic-statistic.new.pass c.remove_at-tried.new.pass c.settle.new.pass c.settle.ensures.come
+      (reads_both c.count-many.ensures.frame c.next_statistic-statistic.ensures.frame) c.requires.ready.own.1 c.remove_at-tried.ensures.frame
+      c.remove_at-tried.ensures.removed c.remove_at-tried.ensures.back c.remove_at-tried.ensures.crowded c.settle.ensures.still;
   turn = record {
     met_as = settled_met (IsCauseMet c.settle.new.course.adapting.last.adapted
         (met_of c.settle.new.pass.seat.me) c.settle.new.pass.seat.me.0.upper)

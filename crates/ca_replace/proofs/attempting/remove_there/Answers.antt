@@ -9,7 +9,7 @@ use Rattle.ca_replace.specs.Turning.{HasEdited}
 use Rattle.ca_replace.specs.declared.adapting.Course.{Course}
 use Rattle.ca_replace.specs.declared.attempting.Halt.{Halt}
 use Rattle.ca_replace.proofs.Again.{stays_behind}
-use Rattle.ca_replace.proofs.Behind.{frame_behind, ready_behind, turn_marked, turn_tried}
+use Rattle.ca_replace.proofs.Behind.{crowds_tried, frame_behind, ready_behind, turn_marked, turn_tried}
 use Rattle.ca_replace.proofs.Helping.{edited_by_help, halt_of, help_not_deep}
 use Rattle.ca_replace.proofs.Marking.{marked_look, same_note, still_unmet}
 use Rattle.ca_replace.proofs.Showing.{tried_on}
@@ -75,6 +75,7 @@ returns-in-Free-clause-edited c = let l = c.in-Free.ensures.cleared in let marke
           (subst (λ (n : Note). HasTriedTo (tells n) z r w new.seat.me.0.upper) (same_note l.0 l.2) did.tried);
       stays = stays_behind z c.args.removal.now.key.now r u w new.seat.me.0.upper c.remove_settled-done.new.course.again false marked look.since
           (λ _. refl) (λ e. still_unmet l.0 l.2 (c.requires.idle.none_met refl) e) did.stays;
+      crowds = crowds_tried look ready known r new did.crowds;
       turn = turn_tried look ready known new (λ (_ : Unit {0}). true) None None c.args.tree.now.tuning
           c.args.course.now b _ r (turn_marked (λ (_ : Unit {0}). true) None z c.args.tree.now.tuning c.args.course.now
           c.remove_settled-done.new.course _ r c.clear.new.pass.seat.me new.seat.me marked did.turn)

@@ -8,6 +8,8 @@ use Rattle.ca_replace.specs.Adapting.{IsCauseMet, IsCauseMetInAttempts, Waits}
 use Rattle.ca_replace.specs.Causes.{IsFullSince, IsRefill}
 use Rattle.ca_replace.specs.Attempting.{HasStopped, total}
 use Rattle.ca_replace.specs.Growing.{HasWaited}
+use Rattle.ca_replace.specs.Crowding.{HasCrowded}
+use Rattle.ca_replace.proofs.Alone.{alone_at, first_number, lone_losses, refill_crowded, refused_uncrowded}
 use Rattle.ca_replace.proofs.Causing.{caused_as, few_from, nearer, refill_caused}
 use Rattle.ca_replace.proofs.Pacing.{bounded_by, bounded_yet, kept_more, none_yet, paid_more}
 use Rattle.ca_replace.proofs.Pinning.{begun_with, empty_before}
@@ -303,6 +305,30 @@ returns-else-is_empty-clause-caused g c = let i = c.loop-come.invariant in
       worn = λ e. let met = subst (λ (x : Result _ Halt). HasStopped x before behind) e found in
           omega (arith, i.worn, met.1, given.1);
     }
+
+pub returns-in-Err-clause-crowded : goal.returns-in-Err-clause-crowded
+returns-in-Err-clause-crowded g c one = let i = c.loop-come.invariant in let space = c.args.tree.now.space.table.shared in let z = space.key in
+    let start = c.args.pass.now in let before = c.loop-come.pass in let behind = c.turns-come.new.pass in
+    let adds = g.A.Attempt.adds c.args.order.now.what.now in let edits = λ (x : _). g.A.Attempt.edits c.args.order.now.what.now x in
+    let tells = λ (x : _). g.A.Attempt.tells c.args.order.now.what.now x c.turns-come.new.left in
+    let empty = c.if-is_empty.ensures.0 refl in let resting = c.turns-come.ensures.frame.resting in let turns = c.turns-come.ensures.turns in
+    let here = alone_at space.table_id z before.number before.tally before.kept.rows before.seat i.resting one in
+    let first = alone_at space.table_id z start.number start.tally start.kept.rows start.seat c.requires.resting one in
+    refill_crowded z behind.number c.args.order.now.budget c.kept-kept.result _ _ adds c.refill.new.spent c.in-Err.why start.seat.me.0.upper
+    before.seat.me behind.seat.me c.refill.new.pass.seat.me c.refill.new.pass.kept.rows one
+    (first_number space.table_id z behind.number behind.tally behind.kept.rows behind.seat resting one) c.kept-kept.ensures c.in-Err.ensures.refused
+    (subst (λ (x : Result _ Halt). HasCrowded x z.rows (vec_len before.kept.rows) (vec_len behind.kept.rows) before.seat.me behind.seat.me) empty
+    (c.turns-come.ensures.crowds here))
+    (lone_losses before.seat.me behind.seat.me (i.resting.unlost one) (resting.unlost one)
+    (stop_won edits c.turns-come.result empty_halt before.seat.me.0.upper behind.seat.me.0.upper empty (turns.won here)).0)
+    (has_waited z adds c.turns-come.result empty_halt before.seat.me.0.upper behind.seat.me.0.upper empty (turns.grown here))
+    (has_waited z adds c.turns-come.result empty_halt start.seat.me.0.upper behind.seat.me.0.upper empty
+    (attempts_so_far tells z adds c.turns-come.result start.seat.me.0.upper before.seat.me.0.upper behind.seat.me.0.upper
+    c.requires.resting.known i.resting.known i.further i.waited c.turns-come.ensures.tried turns.grown first))
+
+pub returns-else-is_empty-clause-crowded : goal.returns-else-is_empty-clause-crowded
+returns-else-is_empty-clause-crowded g c one = refused_uncrowded c.args.tree.now.space.table.shared.key c.args.pass.now.seat.me.0.upper
+    c.turns-come.result c.or_refusal.result _ _ c.or_refusal.ensures
 
 pub returns-in-Err-clause-lags : goal.returns-in-Err-clause-lags
 returns-in-Err-clause-lags g c = let i = c.loop-come.invariant in

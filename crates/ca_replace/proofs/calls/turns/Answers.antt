@@ -1,11 +1,15 @@
-use Rattle.std.proofs.Common.{[], ◌∙◌, ap, arith, refl, subst, sym}
+use Rattle.std.proofs.Common.{[], ◌∙◌, ap, arith, length, refl, subst, sym, vec_len}
+use Rattle.ca_base.specs.Counting.{losses}
 use Rattle.ca_node.specs.Told.{MyTree}
+use Rattle.ca_rows.specs.declared.kept.KeptRows.{KeptRows}
 use Rattle.ca_rows.specs.declared.view.Pin.{Pin}
-use Rattle.ca_replace.specs.Attempting.{at_pin, total}
+use Rattle.ca_replace.specs.Attempting.{at_pin, splits, total}
 use Rattle.ca_replace.specs.Causes.{IsFullSince}
 use Rattle.ca_replace.proofs.Again.{known_since, may_follow, next_since, tried_since}
 use Rattle.ca_replace.proofs.Between.{announced, first_since, may_first, paced_once}
 use Rattle.ca_replace.proofs.Counted.{met_then, met_turn, one_turn_less, paid_before, paid_turn}
+use Rattle.ca_replace.proofs.Crowding.{next_keeps, turns_crowd}
+use Rattle.ca_replace.proofs.Growing.{alone_on}
 use Rattle.ca_replace.proofs.Meeting.{further_on}
 use Rattle.ca_replace.proofs.Loads.{loads_last}
 use Rattle.ca_replace.proofs.Pacing.{paced_next, paced_on, paid_more, paid_to_more, turn_more}
@@ -34,6 +38,8 @@ loop-course-init g c = let z = c.args.tree.now.space.table.shared.key in
           (ap (λ (x : MyTree). x.0.pin.entered.lags) is)
           (ap (λ (x : MyTree). x.0.pin.begun_at) is) (ap (λ (x : MyTree). x.0.pin.begun) is);
       paced = paced_once c.pin.ensures.pinned.0 c.pin.ensures.pinned.1 k m is;
+      keeps = λ alone. let kept = ap (λ (x : KeptRows). vec_len x.rows) c.pin.ensures.frame.kept in
+          let lost = ap losses is in let cut = ap splits is in omega arith;
       unspent = c.requires.unspent;
       waiting = waits_none z (g.A.Attempt.adds c.args.order.now.what.now) _ _ k m (refl, refl)
           (moved_quiet k m pin u.seen [] [] ranges is)
@@ -104,6 +110,10 @@ loop-course-preserved g c = let z = c.args.tree.now.space.table.shared.key in
           (paid_turn c.attempt-tried.result c.loop-course.course.spent c.attempt-tried.new.course.spent m n next did.turn.counted)
           (met_turn c.attempt-tried.result m n next did.turn.found).1)
           (let none = more.met.0 in omega arith) (let none = on.quiet.met.0 in omega arith) on.quiet.lost on.quiet.same_turns on.paced;
+      keeps = λ alone. let kept = ap (λ (x : KeptRows). vec_len x.rows) on.kept in let lost = on.quiet.lost in let cut = on.quiet.splits_are in
+          let so_far = before.keeps alone in
+          let more = next_keeps c.attempt-tried.result z.rows _ _ m n next
+          (did.crowds (alone_on z k.0.upper m.0.upper before.waiting.further.number alone)) in omega arith;
       unspent = let room = c.if-spent_in_all-budget.false in let all = c.spent_in_all.ensures in
           let most = c.budget-budget.type_inv in let is = c.budget-budget.ensures in
           let same = ap total c.go_on.ensures.course.1 in omega arith;
@@ -208,6 +218,14 @@ returns-then-not-has_next-clause-paced g c = let i = turn_unpinned (λ (x : _). 
     (ap (λ (x : MyTree). x.0.pin.entered) out ∙ ap (λ (e : Pin). e.entered) pin)
     (paid_to_more c.attempt-tried.result c.loop-course.course.spent c.attempt-tried.new.course.spent c.loop-course.pass.seat.me
     c.unpin.new.pass.seat.me i.counted)
+
+pub returns-then-not-has_next-clause-crowds : goal.returns-then-not-has_next-clause-crowds
+returns-then-not-has_next-clause-crowds g c alone = let before = c.loop-course.invariant in let out = c.unpin.ensures.unpinned in
+    let k = c.args.pass.now.seat.me in let m = c.loop-course.pass.seat.me in
+    turns_crowd c.attempt-tried.result _ _ _ _ _ k m c.attempt-tried.new.pass.seat.me c.unpin.new.pass.seat.me (before.keeps alone)
+    (c.attempt-tried.ensures.crowds (alone_on c.args.tree.now.space.table.shared.key k.0.upper m.0.upper before.waiting.further.number alone))
+    (ap (λ (x : KeptRows). vec_len x.rows) c.unpin.ensures.frame.kept) (ap losses out) (ap splits out)
+    (ap (λ (x : MyTree). length x.0.upper.inventory.rows) out)
 
 pub returns-then-not-has_next-clause-turns : goal.returns-then-not-has_next-clause-turns
 returns-then-not-has_next-clause-turns g c = let z = c.args.tree.now.space.table.shared.key in

@@ -12,7 +12,7 @@ use Rattle.ca_replace.specs.Tells.{Removes}
 use Rattle.ca_replace.proofs.Showing.{did, read_done}
 use Rattle.ca_replace.proofs.Meeting.{further_on}
 use Rattle.ca_replace.proofs.Entries.{read_by}
-use Rattle.ca_replace.proofs.Behind.{frame_behind, frame_entered, ready_behind, turn_edited, turn_entered, turn_halted, idle_behind}
+use Rattle.ca_replace.proofs.Behind.{crowds_behind, frame_behind, frame_entered, ready_behind, turn_edited, turn_entered, turn_halted, idle_behind}
 use Rattle.ca_replace.proofs.removing.RemoveCallAttempt.attempt.Goals as goal
 
 pub fetch-place-requires-clause-unanswered : goal.fetch-place-requires-clause-unanswered
@@ -97,6 +97,9 @@ pub returns-in-Ok-remove_there-clause-turn : goal.returns-in-Ok-remove_there-cla
 returns-in-Ok-remove_there-clause-turn c =
     turn_edited c.fetch-place.ensures.looked c.requires.ready c.requires.known c.remove_there.new.pass (λ (was : Bool). was) None None
     c.args.tree.now.tuning c.args.course.now c.remove_there.new.course _ true refl c.in-Ok-remove_there.ensures.edited.turn _ c.fetch-place.ensures.loads
+
+pub returns-in-Err-clause-crowds : goal.returns-in-Err-clause-crowds
+returns-in-Err-clause-crowds c = crowds_behind c.fetch-place.ensures.looked c.requires.ready c.requires.known c.in-Err.stop c.remove_there.new.pass c.in-Err.ensures.edited.crowds
 
 pub returns-in-Err-clause-turn : goal.returns-in-Err-clause-turn
 returns-in-Err-clause-turn c =

@@ -17,7 +17,7 @@ use Rattle.ca_replace.proofs.Showing.{did, read_done}
 use Rattle.ca_replace.proofs.Meeting.{further_on}
 use Rattle.ca_replace.specs.Adapting.{is_put}
 use Rattle.ca_replace.proofs.Entries.{read_by}
-use Rattle.ca_replace.proofs.Behind.{frame_behind, frame_entered, ready_behind, turn_edited, turn_entered, turn_halted, idle_behind}
+use Rattle.ca_replace.proofs.Behind.{crowds_behind, frame_behind, frame_entered, ready_behind, turn_edited, turn_entered, turn_halted, idle_behind}
 use Rattle.ca_replace.proofs.removing.RemoveIfCallAttempt.attempt.Goals as goal
 
 pub fetch-place-requires-clause-unanswered : goal.fetch-place-requires-clause-unanswered
@@ -168,6 +168,9 @@ pub returns-in-Ok-remove_there-clause-turn : goal.returns-in-Ok-remove_there-cla
 returns-in-Ok-remove_there-clause-turn g c =
     turn_edited c.fetch-place.ensures.looked c.requires.ready c.requires.known c.remove_there.new.pass is_put None None
     c.args.tree.now.tuning c.args.course.now c.remove_there.new.course _ changed.Put refl c.in-Ok-remove_there.ensures.edited.turn _ c.fetch-place.ensures.loads
+
+pub returns-in-Err-clause-crowds : goal.returns-in-Err-clause-crowds
+returns-in-Err-clause-crowds g c = crowds_behind c.fetch-place.ensures.looked c.requires.ready c.requires.known c.in-Err.stop c.remove_there.new.pass c.in-Err.ensures.edited.crowds
 
 pub returns-in-Err-clause-turn : goal.returns-in-Err-clause-turn
 returns-in-Err-clause-turn g c =

@@ -2,7 +2,7 @@ use Rattle.std.proofs.Common.{Bool, ◌∙◌, ◌≡◌, ℕ, List, None, ap, r
 use Rattle.ca_model.specs.Answer.{FoundBelow, IfDone, IfRefused}
 use Rattle.ca_model.specs.Edges.{bound_of}
 use Rattle.ca_model.specs.Known.{Declines, Known}
-use Rattle.ca_node.specs.TreeView.{Tries}
+use Rattle.ca_node.specs.TreeView.{Renewal, Tries}
 use Rattle.ca_replace.specs.Attempting.{HasDoneSuch}
 use Rattle.ca_replace.specs.Causes.{IsSparing}
 use Rattle.ca_replace.specs.TreePromises.{HasRead, WasInBudget}
@@ -63,8 +63,9 @@ returns-clause-promised c = let tree = c.self.inside.tree.now in let last = c.se
         unchanged = record {
           same = record { table = refl; sizes = refl; tuning = refl; number = done.frame.number };
           last = refl;
-          untried = ap (λ (acts : Tries × ℕ). acts.0) done.acts;
-          unsplit = ap (λ (acts : Tries × ℕ). acts.1) done.acts;
+          untried = ap (λ (acts : Tries × ℕ × Renewal). acts.0) done.acts;
+          unsplit = ap (λ (acts : Tries × ℕ × Renewal). acts.1) done.acts;
+          unrenewed = ap (λ (acts : Tries × ℕ × Renewal). acts.2) done.acts;
         };
         caused = done.caused;
         alone = λ one. let z = tree.space.table.shared.key in let pass = c.self.inside.pass in let u = pass.seat.me.0.upper in

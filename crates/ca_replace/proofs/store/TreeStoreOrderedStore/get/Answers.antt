@@ -1,12 +1,15 @@
-use Rattle.std.proofs.Common.{◌≡◌, Bool, ℕ, List, Ok, refl, sym, ap, subst, ◌∙◌, arith, None}
+use Rattle.std.proofs.Common.{rules, ◌≡◌, Bool, true, false, ℕ, List, [], Ok, refl, sym, ap, subst, ◌∙◌, arith, None}
 use Rattle.ca_model.specs.Answer.{Got}
-use Rattle.ca_model.specs.Event.{Event}
+use Rattle.ca_base.specs.Progress.{HasDone}
+use Rattle.ca_model.specs.Event.{Event, effect}
 use Rattle.ca_model.specs.Known.{Meets, Known}
 use Rattle.ca_node.specs.Told.{MyTree, IsKnown}
 use Rattle.ca_node.proofs.Tallies.{tallied_still}
 use Rattle.ca_node.specs.TreeView.{TreeView, left_over}
 use Rattle.ca_rows.specs.declared.sizes.Sizes.{Sizes}
 use Rattle.ca_replace.specs.Attempting.{HasTriedTo}
+use Rattle.ca_replace.specs.Bounded.{WalksOnce}
+use Rattle.ca_replace.specs.Causes.{IsSparing}
 use Rattle.ca_replace.specs.Reads.{get_event}
 use Rattle.ca_replace.proofs.Entries.{held_upper, got_is}
 use Rattle.ca_replace.proofs.Meeting.{meets}
@@ -16,6 +19,9 @@ use Rattle.ca_replace.proofs.States.{none_since, pinned_first}
 use Rattle.ca_replace.proofs.Turns.{is_lone, known_pinned, none_pinned, rests_as, rests_again, tried_known, tried_pinned}
 use Rattle.ca_replace.specs.Resting.{StoreAndRun, known_of, knows, run_left}
 use Rattle.ca_replace.specs.Seen.{store_of}
+use Rattle.ca_replace.specs.TreePromises.{OnlyLooks}
+use Rattle.ca_replace.proofs.Alone.{alone_at}
+use Rattle.ca_replace.proofs.OneHand.{read_still}
 use Rattle.ca_replace.proofs.OpenStores.{between_rests, closed_still, rests_of, knows_closed, of_both}
 use Rattle.ca_replace.proofs.store.TreeStoreOrderedStore.get.Goals as goal
 
@@ -156,3 +162,43 @@ invariant_of-self c = between_rests (store_of c.self.inside.tree.now c.keep_few.
 pub returns-clause-closed : goal.returns-clause-closed
 returns-clause-closed c = closed_still c.self.inside.pass.seat.me.0.upper c.keep_few.new.pass.seat.me.0.upper c.self.inside.run
     (subst (λ (s : StoreAndRun). (knows s).run ≡ None) (sym c.self.view_is) c.requires.closed)
+
+-- A read of a key edits nothing.
+reads_only : (key : List ℕ) (found : Bool) (into : List ℕ) → effect (get_event key found into) ≡ []
+reads_only key true into = refl
+reads_only key false into = refl
+
+pub returns-clause-promised : goal.returns-clause-promised
+returns-clause-promised c = let tree = c.self.inside.tree.now in let pass = c.self.inside.pass in
+    let new = c.keep_few.new.pass in let behind = c.unpin.new.pass.seat.me.0.upper in
+    let before = store_of tree pass c.self.inside.last in
+    let rests = rests_of before c.self.inside.run c.self.invariant
+    (subst (λ (s : StoreAndRun). (knows s).run ≡ None) (sym c.self.view_is) c.requires.closed) in
+    let table = tree.space.table.shared.table_id in let z : Sizes = tree.space.table.shared.key in
+    let found : Bool = c.look_up-found.result in let into : List ℕ = c.look_up-found.new.into.items in
+    let event = get_event c.args.key.now found into in
+    let told = λ (_ : Bool) (e : Event). e ≡ event in
+    let tried =
+    read_tried z c.args.key c.pin.new.pass.seat.me c.walk-cursor.new.pass.seat.me
+    c.look_up-found.new.pass.seat.me c.walk-cursor.result event
+    found c.walk-cursor.ensures.walked (pinned_first c.pin.new.pass.seat.me.0.upper pass.seat.me.0.upper
+    (ap (λ (m : MyTree). m.0.upper) c.pin.ensures.pinned.3))
+    c.look_up-found.ensures.entered in
+    let done =
+    tried_pinned told z (Ok found) pass.seat.me.0.upper c.look_up-found.new.pass.seat.me.0.upper
+    behind
+    (ap (λ (m : MyTree). m.0.upper) c.unpin.ensures.unpinned)
+    (subst (λ (m : MyTree).
+    HasTriedTo told z (Ok found) m.0.upper c.look_up-found.new.pass.seat.me.0.upper)
+    c.pin.ensures.pinned.3 tried) in
+    let still = λ (one : z.passes ≡ 1). read_still z pass.seat.me.0.upper new.seat.me.0.upper done.0.0
+    (alone_at table z pass.number pass.tally pass.kept.rows pass.seat rests one) rests.known
+    c.keep_few.ensures.frame.resting.known
+    (subst (λ (u : TreeView). HasDone done.0.0 pass.seat.me.0.upper u) (sym c.keep_few.ensures.gave.upper) done.0.2)
+    (ap effect done.0.1 ∙ reads_only c.args.key.now found into) in
+    subst (λ (s : StoreAndRun). OnlyLooks s.store (store_of tree new c.self.inside.last)
+    × IsSparing s.store (store_of tree new c.self.inside.last) × WalksOnce s.store.z s.store.seat.me new.seat.me) c.self.view_is (
+      record { unchanged = search rules; untouched = search rules; still = still },
+      search rules,
+      search rules,
+    )

@@ -8,7 +8,7 @@ use Rattle.ca_model.specs.Known.{Declines, Known}
 use Rattle.ca_model.specs.Runs.{Opens}
 use Rattle.ca_range.specs.Looking.{IsNotEnough}
 use Rattle.ca_range.specs.declared.sought.Sought.{Sought}
-use Rattle.ca_node.specs.TreeView.{Tries}
+use Rattle.ca_node.specs.TreeView.{Renewal, Tries}
 use Rattle.ca_replace.specs.Ranging.{IsRangeCaused}
 use Rattle.ca_replace.specs.Resting.{StoreAndRun, known_of, knows, run_left}
 use Rattle.ca_replace.specs.Running.{left_of}
@@ -67,8 +67,9 @@ returns-in-Err-clause-promised g c = let tree = c.self.inside.tree.now in let la
         unchanged = record {
           same = record { table = refl; sizes = refl; tuning = refl; number = done.rests.number };
           last = refl;
-          untried = ap (λ (acts : Tries × ℕ). acts.0) c.range.ensures.acts;
-          unsplit = ap (λ (acts : Tries × ℕ). acts.1) c.range.ensures.acts;
+          untried = ap (λ (acts : Tries × ℕ × Renewal). acts.0) c.range.ensures.acts;
+          unsplit = ap (λ (acts : Tries × ℕ × Renewal). acts.1) c.range.ensures.acts;
+          unrenewed = ap (λ (acts : Tries × ℕ × Renewal). acts.2) c.range.ensures.acts;
         };
         caused = if_caused_by (λ why. IsRangeCaused (EndsTooSoon (bound_of c.args.lo) (bound_of c.args.hi)) tree.space.table.shared.key pass.number c.args.budget why pass.seat.me
             pass.kept.rows new.seat.me new.kept.rows) c.in-Err.why c.outcome_by.result c.outcome_by.ensures caused;
@@ -96,8 +97,9 @@ returns-in-Ok-clause-promised g c = let tree = c.self.inside.tree.now in let las
         unchanged = record {
           same = record { table = refl; sizes = refl; tuning = refl; number = done.works.number };
           last = refl;
-          untried = ap (λ (acts : Tries × ℕ). acts.0) c.range.ensures.acts;
-          unsplit = ap (λ (acts : Tries × ℕ). acts.1) c.range.ensures.acts;
+          untried = ap (λ (acts : Tries × ℕ × Renewal). acts.0) c.range.ensures.acts;
+          unsplit = ap (λ (acts : Tries × ℕ × Renewal). acts.1) c.range.ensures.acts;
+          unrenewed = ap (λ (acts : Tries × ℕ × Renewal). acts.2) c.range.ensures.acts;
         };
         caused = tt;
         alone = λ one. tt;
