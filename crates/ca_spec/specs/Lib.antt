@@ -15,4 +15,5 @@ pub mod PatternView
 pub mod QuickView
 pub mod Reached
 pub mod ScopeView
+pub mod SieveView
 pub mod SpecView

@@ -19,6 +19,7 @@ mod pattern;
 mod quick;
 mod results;
 mod scope;
+mod sieve;
 mod spec;
 
 pub use compiler::compile;
@@ -26,4 +27,5 @@ pub use fault::{SpecFault, SpecWhy};
 pub use found::Found;
 pub use on_codes::{apply_code, chooses};
 pub use results::apply;
+pub use sieve::Sieve;
 pub use spec::Spec;
