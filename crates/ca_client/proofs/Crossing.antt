@@ -7,6 +7,7 @@ use Rattle.std.proofs.string.String.TheSendSync as string
 use Rattle.ca_term.proofs.term.Term.TheLaws.TheKnot.{crosses as of_terms}
 use Rattle.ca_term.specs.contracts.term.Term as term
 use Rattle.ca_model.specs.declared.store.OrderedStore.{Ghosts}
+use Rattle.ca_table.specs.declared.follower.Follower.{Ghosts as Follower}
 use Rattle.ca_table.proofs.Crossing.{spec_send}
 use Rattle.ca_cmd.specs.contracts.answers.Answers as answers
 use Rattle.ca_cmd.specs.contracts.line.Lines as lines
@@ -21,5 +22,6 @@ lines_sync = search (sendable, of_std, term_sync) depth 40
 pub answers_send : IsSend answers.the_row
 answers_send = search (sendable, of_std) depth 40
 
-pub client_send : (a : NamedLft) (T : RattleType) (g : Ghosts T.Denot) → IsSend T → IsSend (client.the_row a T g)
-client_send a T g s = search (sendable, of_std, spec_send, answers_send, lines_sync) depth 60
+pub client_send : (a : NamedLft) (T W : RattleType) (g : Ghosts T.Denot) (h : Follower W.Denot T.Denot) → IsSend T → IsSend W
+    → IsSend (client.the_row a T W g h)
+client_send a T W g h s w = search (sendable, of_std, spec_send, answers_send, lines_sync) depth 60

@@ -1,6 +1,8 @@
+pub mod Chain
 pub mod Codes
 pub mod Commands
 pub mod Crossing
+pub mod Levels
 pub mod Logs
 pub mod OneHistory
 pub mod Refusals

@@ -1,6 +1,6 @@
 -- What clients that shared a tree come to, once the tree is closed.
-use Rattle.std.proofs.Common.{◌≡◌, ℕ, zero, suc, ◌+◌, ◌≤◌, ◌<◌, List, [], ◌∷◌, ◌++◌, length, map, take, get_or, drop, refl, sym, ◌∙◌, ap, subst, arith}
-use Rattle.std.specs.Prelude.{All}
+use Rattle.std.proofs.Common.{◌≡◌, ℕ, zero, suc, ◌+◌, ◌≤◌, ◌<◌, List, [], ◌∷◌, ◌++◌, length, map, take, get_or, drop, ◌==◌, true, false, refl, sym, ◌∙◌, ap, subst, arith}
+use Rattle.std.specs.Prelude.{All, cond}
 use Rattle.std.proofs.lemmas.List.{length-map, take_all}
 use Rattle.std.proofs.lemmas.List.Elements.{All-cons}
 use Rattle.std.proofs.Math.Seq.{take-append_seam}
@@ -8,7 +8,7 @@ use Rattle.atomic_table.specs.Seated.{TableId}
 use Rattle.ca_term.specs.Tree.{Tree}
 use Rattle.ca_ets.specs.Command.{Command, Never, Answer}
 use Rattle.ca_ets.specs.Explained.{ExplainedBy}
-use Rattle.ca_cmd.specs.File.{Numbered, commands_in}
+use Rattle.ca_cmd.specs.File.{commands_in}
 use Rattle.ca_cmd.specs.Lines.{numbered}
 use Rattle.ca_cmd.specs.Told.{AreTold, AreAllTold}
 use Rattle.ca_cmd.specs.declared.answers.Answers.{Answers}
@@ -25,6 +25,7 @@ use Rattle.ca_node.specs.TreeView.{Ended, TreeView, no_refusals}
 use Rattle.ca_replace.specs.Closing.{IsClosed}
 use Rattle.ca_replace.specs.Past.{TreePast, left_by}
 use Rattle.ca_replace.specs.Resting.{StoreAndRun, knows, numbers_of}
+use Rattle.ca_replace.specs.TreePromises.{tree_promises}
 use Rattle.ca_rows.specs.Closed.{IsClosable}
 use Rattle.ca_rows.specs.declared.sizes.Sizes.{Sizes}
 use Rattle.ca_rows.specs.declared.space.Pass.{Pass}
@@ -34,12 +35,15 @@ use Rattle.ca_explain.specs.Stands.{Stands}
 use Rattle.ca_explain.proofs.Explains.{explains}
 use Rattle.ca_client.specs.Clients.{IsBehind, HavePlayed}
 use Rattle.ca_client.specs.Played.{AreCounted, HasPlayed}
-use Rattle.ca_client.specs.Told.{HasTold}
-use Rattle.ca_client.specs.Ran.{HasRun, IsPlayedBy, ArePlayedBy, answers_in, splits_of, joins_of}
+use Rattle.ca_client.specs.Following.{asked_on_tree}
+use Rattle.ca_client.specs.Told.{HasToldBefore}
+use Rattle.ca_client.specs.Ran.{AreDeepLate, HasRun, IsPlayedBy, ArePlayedBy, answers_in, splits_of, joins_of}
 use Rattle.ca_client.specs.Sharing.{IsReady, AreReady, IsPart, AreParts, AreLeft}
 use Rattle.ca_client.specs.declared.clients.Client.{Client}
+use Rattle.ca_client.specs.declared.following.OnTree.{OnTree}
 use Rattle.ca_client.specs.declared.running.Parts.{Parts}
 use Rattle.ca_client.specs.declared.running.Ran.{Ran}
+use Rattle.ca_client.proofs.Levels.{begins_late}
 use Rattle.ca_client.proofs.Logs.{log_of_parts}
 
 -- The numbers of a table tell it from all others.
@@ -62,6 +66,11 @@ pub record IsShare {R : Type 0} (table : TableId) (z : Sizes) (number : ℕ) (fi
   pub plays : Plays z.keypos Never (commands_in (numbered file)) answers parts
   pub played : IsPlayedBy number (record { commands = commands_in (numbered file); answers = answers; parts = parts }) (left_by pass)
   pub closable : IsClosable table pass.seat
+  pub deep_late : z.passes ≡ 1 → number ≡ 1 → AreDeepLate z.levels 0 answers
+
+-- A pass of a space for one is alone.
+is_alone : (passes number : ℕ) → passes ≡ 1 → number ≡ 1 → cond (passes == 1) (number == 1) false ≡ true
+is_alone passes number one first = rw (one, first) refl
 
 module _ {R : Type 0} (table : TableId) (z : Sizes) where
   -- So it is with clients, of which the first has this number.
@@ -71,40 +80,45 @@ module _ {R : Type 0} (table : TableId) (z : Sizes) where
   AreShares first files all passes = ⊥
 
 module _ {R : Type 0} (table : TableId) (z : Sizes) where
-  module _ (number : ℕ) (file : List Line) (a b : Client StoreAndRun) (told : Answers) (pass : Pass R TreeView)
-      (ready : IsReady table z number file a) (behind : IsBehind knows a b) (part : IsPart b told pass) where
-    tells : HasTold (knows a.table) (knows b.table) (numbered a.lines.now) told
+  module _ (number : ℕ) (file : List Line) (a b : Client StoreAndRun OnTree) (told : Answers) (pass : Pass R TreeView)
+      (ready : IsReady table z number file a) (behind : IsBehind knows tree_promises asked_on_tree a b) (part : IsPart b told pass) where
+    tells : HasToldBefore knows tree_promises asked_on_tree a.table b.table (numbered a.lines.now) told
     tells = behind.played told part.answered
 
-    play : HasPlayed (knows a.table) (knows b.table) (commands_in (numbered a.lines.now)) tells.answers
-    play = tells.played
+    play : HasPlayed (knows a.table) (knows b.table) (commands_in (numbered a.lines.now)) tells.1.answers
+    play = subst (λ (k : Known). HasPlayed (knows a.table) k (commands_in (numbered a.lines.now)) tells.1.answers) (sym tells.2) tells.1.played
+
+    late : z.passes ≡ 1 → number ≡ 1 → AreDeepLate z.levels 0 tells.1.answers
+    late one first = subst (λ (y : Sizes). AreDeepLate y.levels 0 tells.1.answers) ready.sizes
+        (begins_late a.table tells.0 (commands_in (numbered a.lines.now)) tells.1.answers (ap (λ (y : Sizes). y.passes) ready.sizes ∙ one) ready.unsplit
+        (ap (λ (k : Known). k.alone) ready.begins ∙ is_alone z.passes number one first) tells.1.made)
 
     -- What a pass that was just made played is its client's share.
     pub share : IsShare table z number file told pass
-    unfolding play
     share = record {
-      answers = tells.answers;
-      are_told = subst (λ (l : List Line). AreTold (numbered l) tells.answers told) ready.lines tells.are_told;
+      answers = tells.1.answers;
+      are_told = subst (λ (l : List Line). AreTold (numbered l) tells.1.answers told) ready.lines tells.1.are_told;
       parts = play.parts;
-      plays = subst (λ (l : List Line). Plays z.keypos Never (commands_in (numbered l)) tells.answers play.parts) ready.lines
-          (subst (λ (k : Known). Plays k.keypos Never (commands_in (numbered a.lines.now)) tells.answers play.parts) ready.begins play.plays);
+      plays = subst (λ (l : List Line). Plays z.keypos Never (commands_in (numbered l)) tells.1.answers play.parts) ready.lines
+          (subst (λ (k : Known). Plays k.keypos Never (commands_in (numbered a.lines.now)) tells.1.answers play.parts) ready.begins play.plays);
       played = record {
         number_is = sym (ap (λ (k : Known). k.pass) part.known) ∙ play.grown.same.pass ∙ ap (λ (k : Known). k.pass) ready.begins;
-        log = log_of_parts (knows a.table) (knows b.table) (commands_in (numbered a.lines.now)) tells.answers [] (tree_of pass).seen (tree_of pass).log play
+        log = log_of_parts (knows a.table) (knows b.table) (commands_in (numbered a.lines.now)) tells.1.answers [] (tree_of pass).seen (tree_of pass).log play
             (ap (λ (k : Known). k.seen) ready.begins) (ap (λ (k : Known). k.seen) part.known);
-        counted = subst (λ (k : Known). AreCounted no_refusals k.counts tells.answers) part.known
-            (subst (λ (k : Known). AreCounted k.counts (knows b.table).counts tells.answers) ready.begins play.counted);
+        counted = subst (λ (k : Known). AreCounted no_refusals k.counts tells.1.answers) part.known
+            (subst (λ (k : Known). AreCounted k.counts (knows b.table).counts tells.1.answers) ready.begins play.counted);
       };
       closable = (
         one_table pass.seat.table_id table
             (sym (ap (λ (k : Known). k.store) part.known) ∙ play.grown.same.store ∙ ap (λ (k : Known). k.store) ready.begins),
         part.unpinned,
       );
+      deep_late = late;
     }
 
   -- What these played is their clients' shares.
-  pub shares : (first : ℕ) (files : List (List Line)) (olds news : List (Client StoreAndRun)) (all : List Answers) (passes : List (Pass R TreeView))
-      → length news ≡ length olds → AreReady table z first files olds → HavePlayed knows olds news
+  pub shares : (first : ℕ) (files : List (List Line)) (olds news : List (Client StoreAndRun OnTree)) (all : List Answers) (passes : List (Pass R TreeView))
+      → length news ≡ length olds → AreReady table z first files olds → HavePlayed knows tree_promises asked_on_tree olds news
       → AreParts news all passes → AreShares table z first files all passes
   shares first [] [] [] [] [] e ready played parts = tt
   shares first [] [] [] [] (p ∷ passes) e ready played parts = absurd parts
@@ -121,14 +135,15 @@ module _ {R : Type 0} (table : TableId) (z : Sizes) where
   )
 
 -- The same of clients that were lent to be played, and came back.
-pub shares_left : (table : TableId) (z : Sizes) (files : List (List Line)) (n : ℕ) (olds lent news : List (Client StoreAndRun)) (parts : Parts)
-    → n ≡ length olds → lent ≡ olds → length news ≡ length lent → AreReady table z 1 files olds → HavePlayed knows lent news
+pub shares_left : (table : TableId) (z : Sizes) (files : List (List Line)) (n : ℕ) (olds lent news : List (Client StoreAndRun OnTree)) (parts : Parts)
+    → n ≡ length olds → lent ≡ olds → length news ≡ length lent → AreReady table z 1 files olds → HavePlayed knows tree_promises asked_on_tree lent news
     → AreLeft (take n (news ++ drop (length news) olds)) parts → AreShares table z 1 files parts.answers.items parts.passes.items
 shares_left table z files n olds lent news parts many same all ready played left =
     let count : length news ≡ length olds = all ∙ ap (λ cs. length cs) same in
     let whole : take n (news ++ drop (length news) olds) ≡ news =
     ap (λ (k : ℕ). take k (news ++ drop (length news) olds)) (many ∙ sym count) ∙ take-append_seam news (drop (length news) olds) in
-    shares table z 1 files olds news parts.answers.items parts.passes.items count ready (subst (λ cs. HavePlayed knows cs news) same played)
+    shares table z 1 files olds news parts.answers.items parts.passes.items count ready
+    (subst (λ cs. HavePlayed knows tree_promises asked_on_tree cs news) same played)
     (subst (λ cs. AreParts cs parts.answers.items parts.passes.items) whole left.each)
 
 -- What a closed tree has is a map.
@@ -137,13 +152,14 @@ closed_map past objects closed = let keypos = past.sizes.keypos in
     subst (λ (m : StoreMap). IsStoreMap keypos m) (sym closed.has) (map_after keypos closed.history [] closed.edits tt)
 
 -- Clients that played these files by these passes, and were told so.
-pub record ArePlayers (keypos first : ℕ) (files : List (List Line)) (all : List Answers) (passes : List Ended) : Type 0 where
+pub record ArePlayers (z : Sizes) (first : ℕ) (files : List (List Line)) (all : List Answers) (passes : List Ended) : Type 0 where
   pub clients : List Player
   pub count : length clients ≡ length files
   pub commands_are : map (λ (c : Player). c.commands) clients ≡ map commands_in (map numbered files)
   pub are_told : AreAllTold (map numbered files) (answers_in clients) all
   pub played : ArePlayedBy first clients passes
-  pub plays : All (λ (c : Player). Plays keypos Never c.commands c.answers c.parts) clients
+  pub plays : All (λ (c : Player). Plays z.keypos Never c.commands c.answers c.parts) clients
+  pub deep_late : z.passes ≡ 1 → first ≡ 1 → length files ≤ 1 → All (λ (answers : List Answer). AreDeepLate z.levels 0 answers) (answers_in clients)
 
 module _ {R : Type 0} (table : TableId) (z : Sizes) where
   -- The passes of such clients may be closed with the table.
@@ -158,9 +174,17 @@ module _ {R : Type 0} (table : TableId) (z : Sizes) where
       All-cons (λ (pass : Pass R TreeView). IsClosable table pass.seat) p passes shares.0.closable (closable (suc first) files all passes shares.1)
 
   pub players : (first : ℕ) (files : List (List Line)) (all : List Answers) (passes : List (Pass R TreeView))
-      → AreShares table z first files all passes → ArePlayers z.keypos first files all (map left_by passes)
+      → AreShares table z first files all passes → ArePlayers z first files all (map left_by passes)
   players first [] [] [] shares =
-      record { clients = []; count = refl; commands_are = refl; are_told = tt; played = tt; plays = λ k d l. absurd (omega (arith, l)) }
+      record {
+        clients = [];
+        count = refl;
+        commands_are = refl;
+        are_told = tt;
+        played = tt;
+        plays = λ k d l. absurd (omega (arith, l));
+        deep_late = λ one is few k d l. absurd (omega (arith, l));
+      }
   players first [] [] (p ∷ passes) shares = absurd shares
   players first [] (x ∷ all) passes shares = absurd shares
   players first (f ∷ files) [] passes shares = absurd shares
@@ -175,6 +199,9 @@ module _ {R : Type 0} (table : TableId) (z : Sizes) where
         are_told = (shares.0.are_told, rest.are_told);
         played = (shares.0.played, rest.played);
         plays = All-cons (λ (c : Player). Plays z.keypos Never c.commands c.answers c.parts) player rest.clients shares.0.plays rest.plays;
+        deep_late = λ one is few.
+            All-cons (λ (answers : List Answer). AreDeepLate z.levels 0 answers) shares.0.answers (answers_in rest.clients) (shares.0.deep_late one is)
+            (λ k d l. absurd (let count = rest.count in let many = length-map rest.clients (λ (c : Player). c.answers) in omega (arith, l, few, count, many)));
       }
 
 -- The log of each client is lawful, where those of the passes are.
@@ -213,10 +240,11 @@ have_logs keypos past clients objects table closed e played plays stands = let h
 
 -- Clients that shared a tree have run, once it is closed.
 module _ {R : Type 0} (table : TableId) (z : Sizes) (files : List (List Line)) (passes : List (Pass R TreeView)) (objects : StoreMap) (ran : Ran)
-    (shares : AreShares table z 1 files ran.answers.items passes) (left : ran.past.passes ≡ map left_by passes) (made : ran.past.made ≡ length files)
+    (shares : AreShares table z 1 files ran.answers.items passes) (sizes : ran.past.sizes ≡ z) (few : length files ≤ z.passes)
+    (left : ran.past.passes ≡ map left_by passes) (made : ran.past.made ≡ length files)
     (closed : IsClosed ran.past objects) (stands : Stands z.keypos objects ran.table) where
-  players_are : ArePlayers z.keypos 1 files ran.answers.items ran.past.passes
-  players_are = subst (λ (xs : List Ended). ArePlayers z.keypos 1 files ran.answers.items xs) (sym left)
+  players_are : ArePlayers z 1 files ran.answers.items ran.past.passes
+  players_are = subst (λ (xs : List Ended). ArePlayers z 1 files ran.answers.items xs) (sym left)
       (players table z 1 files ran.answers.items passes shares)
 
   pub has_run : ran.splits ≡ splits_of (map left_by passes) → ran.joins ≡ joins_of (map left_by passes)
@@ -236,6 +264,9 @@ module _ {R : Type 0} (table : TableId) (z : Sizes) (files : List (List Line)) (
         played = p.played;
         splits_are = splits ∙ ap (λ (xs : List Ended). splits_of xs) (sym left);
         joins_are = joins ∙ ap (λ (xs : List Ended). joins_of xs) (sym left);
+        deep_late = λ one. let alone = ap (λ (y : Sizes). y.passes) (sym sizes) ∙ one in
+            subst (λ (y : Sizes). All (λ (answers : List Answer). AreDeepLate y.levels 0 answers) (answers_in p.clients)) (sym sizes)
+            (p.deep_late alone refl (omega (arith, few, alone)));
         explained = subst (λ (cs : List (List Command)). ExplainedBy z.keypos cs (answers_in p.clients) merge terms) p.commands_are
             (explains z.keypos closed.history p.clients terms logs);
       }

@@ -15,6 +15,7 @@ use Rattle.ca_rows.specs.declared.space.Pass.{Pass}
 use Rattle.ca_client.specs.Ran.{splits_of, joins_of}
 use Rattle.ca_client.specs.Sharing.{IsNew, AreNew, IsReady, AreReady, IsPart, AreParts}
 use Rattle.ca_client.specs.declared.clients.Client.{Client}
+use Rattle.ca_client.specs.declared.following.OnTree.{OnTree}
 
 module _ {R : Type 0} (table : TableId) (z : Sizes) where
   pub new_more : (first number : ℕ) (passes : List (Pass R TreeView)) (pass : Pass R TreeView) → number ≡ first + length passes
@@ -23,7 +24,7 @@ module _ {R : Type 0} (table : TableId) (z : Sizes) where
   new_more first number (x ∷ passes) pass e all new = (all.0, new_more (suc first) number passes pass (omega (arith, e)) all.1 new)
 
 module _ (table : TableId) (z : Sizes) where
-  pub ready_more : (first number : ℕ) (files : List (List Line)) (clients : List (Client StoreAndRun)) (file : List Line) (client : Client StoreAndRun)
+  pub ready_more : (first number : ℕ) (files : List (List Line)) (clients : List (Client StoreAndRun OnTree)) (file : List Line) (client : Client StoreAndRun OnTree)
       → number ≡ first + length clients → AreReady table z first files clients → IsReady table z number file client
       → AreReady table z first (files ++ file ∷ []) (clients ++ client ∷ [])
   ready_more first number [] [] file client e all ready = (subst (λ (n : ℕ). IsReady table z n file client) (omega (arith, e)) ready, tt)
@@ -33,8 +34,8 @@ module _ (table : TableId) (z : Sizes) where
       (all.0, ready_more (suc first) number files clients file client (omega (arith, e)) all.1 ready)
 
 module _ {R : Type 0} where
-  pub parts_more : (clients : List (Client StoreAndRun)) (all : List Answers) (passes : List (Pass R TreeView))
-      (client : Client StoreAndRun) (answers : Answers) (pass : Pass R TreeView) → AreParts clients all passes → IsPart client answers pass
+  pub parts_more : (clients : List (Client StoreAndRun OnTree)) (all : List Answers) (passes : List (Pass R TreeView))
+      (client : Client StoreAndRun OnTree) (answers : Answers) (pass : Pass R TreeView) → AreParts clients all passes → IsPart client answers pass
       → AreParts (clients ++ client ∷ []) (all ++ answers ∷ []) (passes ++ pass ∷ [])
   parts_more [] [] [] client answers pass parts part = (part, tt)
   parts_more [] [] (p ∷ passes) client answers pass parts part = absurd parts

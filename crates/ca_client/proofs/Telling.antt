@@ -1,5 +1,5 @@
 -- A client's answers become text, line by line.
-use Rattle.std.proofs.Common.{◌≡◌, ℕ, suc, ◌+◌, ◌≤◌, List, [], ◌∷◌, ◌++◌, drop, Ok, Err, refl, sym, ◌∙◌, ap, arith, append_assoc, append-nil}
+use Rattle.std.proofs.Common.{◌≡◌, ℕ, ◌+◌, ◌≤◌, List, [], ◌∷◌, ◌++◌, drop, Ok, Err, sym, ◌∙◌, ap, arith, append_assoc, append-nil}
 use Rattle.ca_ets.specs.Command.{Answer, Continuation}
 use Rattle.ca_cmd.specs.Answers.{refusals}
 use Rattle.ca_cmd.specs.File.{commands_in}
@@ -8,7 +8,11 @@ use Rattle.ca_cmd.specs.Output.{answer_line, answer_lines}
 use Rattle.ca_cmd.specs.Told.{AreTold}
 use Rattle.ca_cmd.specs.declared.answers.Answers.{Answers}
 use Rattle.ca_cmd.specs.declared.line.Line.{Line}
+use Rattle.ca_model.specs.declared.outcome.Changed.{Changed}
+use Rattle.ca_model.specs.declared.outcome.Outcome.{Outcome}
 use Rattle.ca_model.specs.Known.{Known}
+use Rattle.ca_model.specs.Promises.{Promises}
+use Rattle.ca_client.proofs.Chain.{AreCommands}
 use Rattle.ca_client.proofs.Commands.{IsPlaying}
 
 -- The answers to the lines before a place are told, and those to the other lines come behind them, whatever they are.
@@ -56,8 +60,10 @@ module _ (lines : List Line) (at : ℕ) (answers : List Answer) (told : Answers)
     refused = t.refused;
   }
 
--- The lines before a place were played, and their answers are told.
-pub record IsAt (a b : Known) (now : Continuation) (lines : List Line) (at : ℕ) (told : Answers) : Type 0 where
-  pub answers : List Answer
-  pub playing : IsPlaying a b now (commands_in (numbered lines)) (commands_in (numbered (drop at lines))) answers
-  pub telling : IsTelling lines at answers told
+-- The lines before a place were played, by such calls of the store, and their answers are told.
+module _ {S : Type 0} (knows : S → Known) (promises : Promises S) (asked : ℕ → S → S → Outcome Changed → Type 0) where
+  pub record IsAt (s t : S) (now : Continuation) (lines : List Line) (at : ℕ) (told : Answers) : Type 0 where
+    pub answers : List Answer
+    pub playing : IsPlaying (knows s) (knows t) now (commands_in (numbered lines)) (commands_in (numbered (drop at lines))) answers
+    pub made : AreCommands knows promises asked (commands_in (numbered lines)) (commands_in (numbered (drop at lines))) answers s t
+    pub telling : IsTelling lines at answers told

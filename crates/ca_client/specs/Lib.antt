@@ -1,6 +1,8 @@
 pub mod Clients
 pub mod Tries
 pub mod Played
+pub mod Chain
+pub mod Following
 pub mod Told
 pub mod Ran
 pub mod Sharing

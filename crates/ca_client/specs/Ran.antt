@@ -1,6 +1,6 @@
 -- What a run of clients on one tree comes to.
-use Rattle.std.specs.Prelude.{◌≡◌, ℕ, suc, min, List, [], ◌∷◌, length, map, sum_by}
-use Rattle.ca_ets.specs.Command.{Answer}
+use Rattle.std.specs.Prelude.{◌≡◌, ℕ, suc, ◌*◌, ◌≤◌, min, All, List, [], ◌∷◌, length, map, sum_by, Err}
+use Rattle.ca_ets.specs.Command.{Answer, Deep}
 use Rattle.ca_ets.specs.Explained.{ExplainedBy}
 use Rattle.ca_model.specs.History.{History}
 use Rattle.ca_node.specs.TreeView.{Ended, no_refusals}
@@ -44,9 +44,15 @@ pub record IsPastOf (tree : Tree) (past : TreePast) : Type 0 where
   pub sizes : past.sizes ≡ tree.space.sizes
   pub tuning : past.tuning ≡ tree.tuning
 
+-- Of these answers, before which so many were given, one that refuses for want of levels has half as many before it as there are levels, or more.
+abbrev pub AreDeepLate : ℕ → ℕ → List Answer → Type 0
+AreDeepLate levels before [] = Unit {0}
+AreDeepLate levels before (answer ∷ answers) = (answer ≡ Err Deep → levels ≤ 2 * before) × AreDeepLate levels (suc before) answers
+
 -- The clients played these lines by the passes of the closed tree, which made one for each, and no other. There is one history for which the passes' logs
 -- are lawful, and whose last state stands for the table; so the merge by places explains the answers and the table. What is told of the answers is their
--- printed lines, and how many of them refuse. Splits and joins are those of the passes.
+-- printed lines, and how many of them refuse. Splits and joins are those of the passes. In a tree for one pass no answer refuses for want of levels before half
+-- as many commands were played as there are levels.
 pub record HasRun (keypos : ℕ) (lines : List (List Numbered)) (ran : Ran) : Type 0 where
   pub made : ran.past.made ≡ length lines
   pub history : History
@@ -57,6 +63,7 @@ pub record HasRun (keypos : ℕ) (lines : List (List Numbered)) (ran : Ran) : Ty
   pub played : ArePlayedBy 1 clients ran.past.passes
   pub splits_are : ran.splits ≡ splits_of ran.past.passes
   pub joins_are : ran.joins ≡ joins_of ran.past.passes
+  pub deep_late : ran.past.sizes.passes ≡ 1 → All (λ answers. AreDeepLate ran.past.sizes.levels 0 answers) (answers_in clients)
   pub explained : ExplainedBy keypos (map commands_in lines) (answers_in clients) (merge_of history clients) ran.table
 
 -- The history of a run is told by the logs of its passes: there is no other one.

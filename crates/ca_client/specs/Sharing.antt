@@ -12,6 +12,7 @@ use Rattle.ca_rows.specs.declared.space.Pass.{Pass}
 use Rattle.ca_rows.specs.Rule.{fresh}
 use Rattle.ca_client.specs.Ran.{splits_of, joins_of}
 use Rattle.ca_client.specs.declared.clients.Client.{Client}
+use Rattle.ca_client.specs.declared.following.OnTree.{OnTree}
 use Rattle.ca_client.specs.declared.running.Parts.{Parts}
 
 module _ {R : Type 0} (table : TableId) (z : Sizes) where
@@ -26,33 +27,35 @@ module _ {R : Type 0} (table : TableId) (z : Sizes) where
   AreNew first (pass ∷ passes) = IsNew first pass × AreNew (suc first) passes
 
 module _ (table : TableId) (z : Sizes) where
-  -- The client has these lines, and its store is that of the pass of this number, which was just made.
-  pub record IsReady (number : ℕ) (file : List Line) (client : Client StoreAndRun) : Type 0 where
+  -- The client has these lines, and its store is that of the pass of this number, which was just made, and split no base.
+  pub record IsReady (number : ℕ) (file : List Line) (client : Client StoreAndRun OnTree) : Type 0 where
     pub lines : client.lines.now ≡ file
     pub begins : knows client.table ≡ known_of table z (blank number)
+    pub sizes : client.table.store.z ≡ z
+    pub unsplit : client.table.store.seat.me.0.upper.splits ≡ 0
 
   -- So it is with a client for each file, of which the first has this number.
-  abbrev pub AreReady : ℕ → List (List Line) → List (Client StoreAndRun) → Type 0
+  abbrev pub AreReady : ℕ → List (List Line) → List (Client StoreAndRun OnTree) → Type 0
   AreReady first [] [] = Unit {0}
   AreReady first (file ∷ files) (client ∷ clients) = IsReady first file client × AreReady (suc first) files clients
   AreReady first files clients = ⊥
 
 module _ {R : Type 0} where
   -- The client was told so, and this is its store's pass, which isn't pinned.
-  pub record IsPart (client : Client StoreAndRun) (told : Answers) (pass : Pass R TreeView) : Type 0 where
+  pub record IsPart (client : Client StoreAndRun OnTree) (told : Answers) (pass : Pass R TreeView) : Type 0 where
     pub answered : client.answers ≡ Some told
     pub z : Sizes
     pub known : knows client.table ≡ known_of pass.seat.table_id z (tree_of pass)
     pub unpinned : pass.seat.me.0.pin.pinned ≡ false
 
   -- So it is with each client.
-  abbrev pub AreParts : List (Client StoreAndRun) → List Answers → List (Pass R TreeView) → Type 0
+  abbrev pub AreParts : List (Client StoreAndRun OnTree) → List Answers → List (Pass R TreeView) → Type 0
   AreParts [] [] [] = Unit {0}
   AreParts (client ∷ clients) (told ∷ all) (pass ∷ passes) = IsPart client told pass × AreParts clients all passes
   AreParts clients all passes = ⊥
 
 -- These are the clients' answers and passes, and what all passes together did to the tree.
-pub record AreLeft (clients : List (Client StoreAndRun)) (parts : Parts) : Type 0 where
+pub record AreLeft (clients : List (Client StoreAndRun OnTree)) (parts : Parts) : Type 0 where
   pub each : AreParts clients parts.answers.items parts.passes.items
   pub splits_are : parts.splits ≡ splits_of (map left_by parts.passes.items)
   pub joins_are : parts.joins ≡ joins_of (map left_by parts.passes.items)

@@ -7,7 +7,7 @@ use crate::giving::give_back;
 use crate::playing::play;
 use ca_cmd::{Answers, Lines};
 use ca_model::OrderedStore;
-use ca_table::{Table, Upkeep};
+use ca_table::{Follower, Table, Unfollowed, Upkeep};
 use std::alloc::Global;
 use std::sync::Wait;
 use std::sync::atomic::{AtomicUsize, Ordering};
@@ -18,17 +18,17 @@ const MOST_THREADS: usize = 64;
 
 /// A client: its number, counted from 1, its table, its lines, and its answers as text, once it has played. There are none where memory wasn't found.
 #[derive(Drop)]
-pub struct Client<'l, S: OrderedStore + Drop> {
+pub struct Client<'l, S: OrderedStore + Drop, W: Follower<S> = Unfollowed> {
     pub number: u32,
-    pub table: Table<S>,
+    pub table: Table<S, W>,
     pub lines: &'l Lines,
     pub answers: Option<Answers>,
 }
 
-impl<S: OrderedStore + Drop> Client<'_, S> {
+impl<S: OrderedStore + Drop, W: Follower<S>> Client<'_, S, W> {
     // Plays its lines.
     fn play<R: Wait, G: Gate>(&mut self, rt: &R, alloc: Global, gate: &G)
-        ensures { IsBehind S.knows self.old self.new }
+        ensures { IsBehind S.knows S.promises W.asked self.old self.new }
     {
         let played = play(rt, alloc, self.number, &mut self.table, self.lines, gate);
         self.answers = match played {
@@ -52,19 +52,20 @@ impl<S: OrderedStore + Drop> Client<'_, S> {
 pub fn play_all<
     R: Threads + Wait + Sync,
     S: OrderedStore + Drop + Send,
+    W: Follower<S> + Send,
     G: Gate + Sync,
     U: Upkeep<S> + Sync,
->(rt: &R, alloc: Global, clients: &mut [Client<'_, S>], gate: &G, upkeep: &U)
+>(rt: &R, alloc: Global, clients: &mut [Client<'_, S, W>], gate: &G, upkeep: &U)
     ensures same { length clients.new ≡ length clients.old }
-    ensures played { HavePlayed S.knows clients.old clients.new }
+    ensures played { HavePlayed S.knows S.promises W.asked clients.old clients.new }
 {
     let playing = &AtomicUsize::new(clients.len());
     for_each_mut(
         rt,
         clients,
         MOST_THREADS,
-        &|_place, client: &mut Client<'_, S>|
-            ensures { IsBehind S.knows client.entry.now client.exit.now }
+        &|_place, client: &mut Client<'_, S, W>|
+            ensures { IsBehind S.knows S.promises W.asked client.entry.now client.exit.now }
         {
             client.play(rt, alloc, gate);
             client.end(upkeep, playing);

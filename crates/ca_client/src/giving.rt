@@ -4,7 +4,7 @@ ghost use Rattle.std.specs.Prelude.{◌≡◌};
 use crate::playing::{MOST_WAITS, pause};
 use ca_model::OrderedStore;
 use ca_replace::TreeStore;
-use ca_table::{Table, Upkeep};
+use ca_table::{Follower, Table, Upkeep};
 use std::sync::atomic::{AtomicUsize, Ordering};
 
 /// Gives rows back, and does so again where another pass lags, or has just taken or put one.
@@ -18,8 +18,8 @@ impl<'t> Upkeep<TreeStore<'t>> for GivesRowsBack {
 }
 
 /// Tends a client's store until nothing more comes of it, or nobody plays any more, some 1,000 times at most. Between two times other threads run.
-pub(crate) fn give_back<S: OrderedStore + Drop, U: Upkeep<S>>(
-    table: &mut Table<S>,
+pub(crate) fn give_back<S: OrderedStore + Drop, W: Follower<S>, U: Upkeep<S>>(
+    table: &mut Table<S, W>,
     upkeep: &U,
     playing: &AtomicUsize,
 )

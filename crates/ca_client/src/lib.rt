@@ -2,6 +2,7 @@
 #![tactic(auto)]
 
 mod clients;
+mod following;
 mod gate;
 mod giving;
 mod laws;

@@ -4,6 +4,7 @@ ghost use Rattle.ca_ets.specs.Command.{IsContinuation, continuation_of};
 ghost use Rattle.ca_cmd.specs.Answers.{answer_of};
 ghost use Rattle.ca_cmd.specs.File.{commands_in};
 ghost use Rattle.ca_cmd.specs.Lines.{numbered};
+ghost use Rattle.ca_client.specs.Chain.{HasBeenAnswered};
 ghost use Rattle.ca_client.specs.Played.{HasAnswered, HasRead, HasStopped};
 ghost use Rattle.ca_client.specs.Told.{HasTold};
 
@@ -11,7 +12,7 @@ use crate::gate::Gate;
 use ca_cmd::{Answer, Answers, Lines};
 use ca_ets::{Cmd, Cont};
 use ca_model::{FullCause, OrderedStore, Outcome};
-use ca_table::Table;
+use ca_table::{Follower, Table};
 use std::alloc::{AllocError, Global};
 use std::sync::Wait;
 use std::thread::yield_now;
@@ -63,10 +64,10 @@ fn rest(answer: &Answer, refused: u32) -> u32 {
 }
 
 // Plays one command until it is answered.
-fn answer_to<R: Wait, S: OrderedStore + Drop>(
+fn answer_to<R: Wait, S: OrderedStore + Drop, W: Follower<S>>(
     rt: &R,
     alloc: Global,
-    table: &mut Table<S>,
+    table: &mut Table<S, W>,
     cmd: &Cmd,
     cont: &mut Cont,
 ) -> Result<Answer, AllocError>
@@ -74,6 +75,7 @@ fn answer_to<R: Wait, S: OrderedStore + Drop>(
     ensures continuation { IsContinuation (continuation_of cont.new) }
     ensures answered { IfOk result (λ answer.
         HasAnswered (S.knows table.old) (S.knows table.new) (continuation_of cont.old) cmd.now (answer_of answer) (continuation_of cont.new)) }
+    ensures made { IfOk result (λ answer. HasBeenAnswered S.knows S.promises W.asked cmd.now (answer_of answer) table.old table.new) }
     ensures stopped { OnErr result (HasRead (S.knows table.old) (S.knows table.new)) }
 {
     let mut budget = FIRST_BUDGET;
@@ -105,15 +107,15 @@ fn answer_to<R: Wait, S: OrderedStore + Drop>(
 /// while another pass lags waits and is played again, 1,000 times at most. Behind a line that found no room other threads are let run. Each command is made
 /// from the text of its line when it is played, and an answer is text as soon as it was given. `Err` where memory wasn't found; what was played before
 /// stands.
-pub fn play<R: Wait, S: OrderedStore + Drop, G: Gate>(
+pub fn play<R: Wait, S: OrderedStore + Drop, W: Follower<S>, G: Gate>(
     rt: &R,
     alloc: Global,
     client: u32,
-    table: &mut Table<S>,
+    table: &mut Table<S, W>,
     lines: &Lines,
     gate: &G,
 ) -> Result<Answers, AllocError>
-    ensures played { IfOk result (λ told. HasTold (S.knows table.old) (S.knows table.new) (numbered lines.now) told) }
+    ensures played { IfOk result (λ told. HasTold S.knows S.promises W.asked table.old table.new (numbered lines.now) told) }
     ensures stopped { OnErr result (HasStopped (S.knows table.old) (S.knows table.new) (commands_in (numbered lines.now))) }
 {
     let mut cont = Cont::Never;

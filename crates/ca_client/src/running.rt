@@ -7,6 +7,7 @@ ghost use Rattle.ca_node.specs.TreePasses.{tree_of};
 ghost use Rattle.ca_client.specs.Sharing.{AreLeft, AreNew, AreReady, IsNew, IsPart, IsReady};
 
 use crate::clients::{Client, play_all};
+use crate::following::OnTree;
 use crate::gate::Gate;
 use crate::giving::GivesRowsBack;
 use crate::table::ClosedTable;
@@ -68,7 +69,7 @@ fn clients_of<'t, 'l>(
     keypos: u32,
     passes: Vec<TreePass>,
     files: &'l [Lines],
-) -> Result<Vec<Client<'l, TreeStore<'t>>>, AllocError>
+) -> Result<Vec<Client<'l, TreeStore<'t>, OnTree>>, AllocError>
     requires keypos { (keypos ≡ tree.now.space.table.shared.key.keypos) × (1 ≤ keypos) }
     requires all { vec_len passes ≡ length files.now }
     requires passes { AreNew tree.now.space.table.shared.table_id tree.now.space.table.shared.key 1 passes.items }
@@ -90,7 +91,7 @@ fn client_on<'t, 'l>(
     keypos: u32,
     pass: TreePass,
     lines: &'l Lines,
-) -> Client<'l, TreeStore<'t>>
+) -> Client<'l, TreeStore<'t>, OnTree>
     requires keypos { (keypos ≡ tree.now.space.table.shared.key.keypos) × (1 ≤ keypos) }
     requires pass { (number : ℕ) × IsNew tree.now.space.table.shared.table_id tree.now.space.table.shared.key number pass }
     ensures { (number : ℕ) → IsNew tree.now.space.table.shared.table_id tree.now.space.table.shared.key number pass
@@ -98,14 +99,14 @@ fn client_on<'t, 'l>(
 {
     Client {
         number: pass.number(),
-        table: Table::new(TreeStore::new(tree, pass), keypos),
+        table: Table::followed(TreeStore::new(tree, pass), keypos),
         lines,
         answers: None,
     }
 }
 
 // What a client that played leaves: its answers and its pass. There is nothing where it found no memory.
-fn part_of(client: Client<'_, TreeStore<'_>>) -> Option<(Answers, TreePass)>
+fn part_of(client: Client<'_, TreeStore<'_>, OnTree>) -> Option<(Answers, TreePass)>
     ensures { IfSome result (λ part. IsPart client.entry part.0 part.1 × IsTallied part.1.tally (tree_of part.1)) }
 {
     let answers = client.answers?;
@@ -113,7 +114,10 @@ fn part_of(client: Client<'_, TreeStore<'_>>) -> Option<(Answers, TreePass)>
 }
 
 // What clients that played leave. `Err` where one of them found no memory.
-fn parts_of(alloc: Global, clients: Vec<Client<'_, TreeStore<'_>>>) -> Result<Parts, AllocError>
+fn parts_of(
+    alloc: Global,
+    clients: Vec<Client<'_, TreeStore<'_>, OnTree>>,
+) -> Result<Parts, AllocError>
     ensures { IfOk result (λ parts. AreLeft clients.entry.items parts) }
 {
     let mut all = Vec::with_capacity(alloc, clients.len())?;

@@ -5,7 +5,7 @@ use Rattle.std.proofs.lemmas.Bool.Decides.{nat_tests}
 use Rattle.std.proofs.lemmas.List.{map-append}
 use denote.Ref.{Bor}
 use denote.Param.Members.{Shared}
-use Rattle.ca_term.specs.Tree.{Tree, AreTerms}
+use Rattle.ca_term.specs.Tree.{Tree, AreTerms, IsTerm}
 use Rattle.ca_term.specs.Code.{code_of}
 use Rattle.ca_term.specs.Object.{key_of}
 use Rattle.ca_match.specs.Match.{result_of}
@@ -23,10 +23,12 @@ use Rattle.ca_model.specs.Answer.{IfDone}
 use Rattle.ca_table.specs.Refusals.{IsParted}
 use Rattle.ca_model.specs.Runs.{HandedOut, HasCounted, Opens, Reaches}
 use Rattle.ca_model.proofs.Edits.{map_after, map_filter}
+use Rattle.ca_spec.specs.SieveView.{IsSieveOf, passes}
+use Rattle.ca_spec.specs.declared.sieve.Sieve.{Sieve}
 use Rattle.ca_explain.proofs.Calls.{beside_run_meets, both_beside_run, one_read}
 use Rattle.ca_explain.proofs.Pairs.{object_of_pair}
 use Rattle.ca_explain.proofs.Results.{keyed_append, keyed_none, keyed_some, last_append}
-use Rattle.ca_table.specs.Collected.{AddsObject, Adds, AreCollected, AreObjectsOf, AreResults, AreUpTo, AreWithin, CountsOnly, IsLastOf, IsObjectOf, IsOpenRun, is_full, left_of, wanted}
+use Rattle.ca_table.specs.Collected.{AddsObject, Adds, AreCollected, AreObjectsOf, AreResults, AreUpTo, AreWithin, CountsOnly, HasNoResult, IsLastOf, IsObjectOf, IsOpenRun, is_full, left_of, wanted}
 use Rattle.ca_table.specs.ComesTo.{EditsNothing}
 use Rattle.ca_table.proofs.Listed.{terms_more}
 use Rattle.ca_table.proofs.ReadBack.{first_part}
@@ -181,6 +183,17 @@ more_length : (limit : Option ℕ) (r : Option Tree) (o : Tree) (results : List 
     → Adds limit r o results last more next → length more ≤ length results + 1
 more_length limit None o results last more next h = omega (arith, ap length h.0)
 more_length limit (Some v) o results last more next h = omega (arith, ap length h.0, length-append results (v ∷ []))
+
+-- One without a result adds none.
+pub adds_none : (limit : Option ℕ) (s : Tree) (bytes : List ℕ) (results : List Tree) (last : Option Tree) → HasNoResult s bytes
+    → AddsObject limit s bytes results last results last
+adds_none limit s bytes results last none = λ o b e.
+    subst (λ (r : Option Tree). Adds limit r o results last results last) (sym (none o b e)) (refl, refl)
+
+-- What a sieve doesn't let pass has none.
+pub stopped_none : (s : Tree) (sieve : Sieve) (bytes : List ℕ) (p : Bool) → ((o : Tree) → IsTerm o → bytes ≡ code_of o → p ≡ passes sieve o)
+    → p ≡ false → IsSieveOf s sieve → HasNoResult s bytes
+stopped_none s sieve bytes p told stops is = λ o b e. is o (sym (told o b e) ∙ stops)
 
 -- One more object was handed out and its result collected.
 pub collecting_more : (s : Tree) (limit : Option ℕ) (a m n : Known) (into : List ℕ) (found : Bool) (results : List Tree) (last : Option Tree)

@@ -13,7 +13,7 @@ use Rattle.ca_model.specs.Answer.{IsDone}
 use Rattle.ca_model.specs.Known.{Known}
 use Rattle.ca_model.specs.Promises.{Promises}
 use Rattle.ca_table.specs.ComesTo.{IsOvertaken}
-use Rattle.ca_table.specs.Made.{Read, Edit, AreReads, HasDeclined, HasEdited, HasMadeFor, HasRead, HasReadKeys, IsByKey, IsEdit, IsRead, added_by, added_key, refusal_of, refused_by}
+use Rattle.ca_table.specs.Made.{Read, Edit, AreReads, HasDeclined, HasEdited, HasMadeFor, HasPrepared, HasRead, HasReadKeys, IsByKey, IsEdit, IsRead, added_by, added_key, refusal_of, refused_by}
 use Rattle.ca_table.specs.Refusals.{IsParted}
 
 module _ {S : Type 0} (promises : Promises S) where
@@ -71,31 +71,36 @@ module _ {S : Type 0} (promises : Promises S) (asked : ℕ → S → S → Outco
 
 module _ {S : Type 0} (knows : S → Known) (promises : Promises S) (asked : ℕ → S → S → Outcome Changed → Type 0) (command : Command) where
   -- Its last call was done, or refused.
-  pub was_done : (s u t : S) (answer : Outcome Reply) → HasReadKeys promises s u
+  pub was_done : (s u t : S) (answer : Outcome Reply) → HasPrepared promises (added_key (knows s).keypos command) s u
       → HasEdited promises asked (added_key (knows s).keypos command) None u t → IsDone answer
       → HasMadeFor knows promises asked command s t answer
-  was_done s u t answer read last done = inr (record { between = u; read = read; refusal = None; edited = last; answered = inl done })
+  was_done s u t answer first last done = inr (record { between = u; prepared = first; refusal = None; edited = last; answered = inl done })
 
-  pub was_declined : (s u t : S) (answer : Outcome Reply) → HasReadKeys promises s u
+  pub was_declined : (s u t : S) (answer : Outcome Reply) → HasPrepared promises (added_key (knows s).keypos command) s u
       → HasDeclined promises asked (added_key (knows s).keypos command) answer u t
       → HasMadeFor knows promises asked command s t answer
-  was_declined s u t answer read last =
-      inr (record { between = u; read = read; refusal = Some last.0; edited = last.2; answered = last.1 })
+  was_declined s u t answer first last =
+      inr (record { between = u; prepared = first; refusal = Some last.0; edited = last.2; answered = last.1 })
 
   -- It was done, but the command was overtaken.
-  pub was_overtaken : (s u t : S) (spent : Spent) → HasReadKeys promises s u
+  pub was_overtaken : (s u t : S) (spent : Spent) → HasPrepared promises (added_key (knows s).keypos command) s u
       → HasEdited promises asked (added_key (knows s).keypos command) None u t → IsOvertaken (knows s) (knows t) (nature_of command).asks spent
       → HasMadeFor knows promises asked command s t (outcome.Busy spent)
-  was_overtaken s u t spent read last over =
-      inr (record { between = u; read = read; refusal = None; edited = last; answered = inr (spent, refl, over) })
+  was_overtaken s u t spent first last over =
+      inr (record { between = u; prepared = first; refusal = None; edited = last; answered = inr (spent, refl, over) })
 
-  -- So it was of a command that read nothing before.
-  pub done_first : (s t : S) (answer : Outcome Reply)
+  -- So it was of a command that adds no key, and read nothing before.
+  nothing_first : (s : S) → added_key (knows s).keypos command ≡ None
+      → HasPrepared promises (added_key (knows s).keypos command) s s
+  nothing_first s none =
+      subst (λ (adds : Option (List ℕ)). HasPrepared promises adds s s) (sym none) (no_keys promises s)
+
+  pub done_first : (s t : S) (answer : Outcome Reply) → added_key (knows s).keypos command ≡ None
       → HasEdited promises asked (added_key (knows s).keypos command) None s t → IsDone answer
       → HasMadeFor knows promises asked command s t answer
-  done_first s t answer last done = was_done s s t answer (no_keys promises s) last done
+  done_first s t answer none last done = was_done s s t answer (nothing_first s none) last done
 
-  pub declined_first : (s t : S) (answer : Outcome Reply)
+  pub declined_first : (s t : S) (answer : Outcome Reply) → added_key (knows s).keypos command ≡ None
       → HasDeclined promises asked (added_key (knows s).keypos command) answer s t
       → HasMadeFor knows promises asked command s t answer
-  declined_first s t answer last = was_declined s s t answer (no_keys promises s) last
+  declined_first s t answer none last = was_declined s s t answer (nothing_first s none) last

@@ -12,7 +12,7 @@ use Rattle.ca_model.specs.Known.{Known}
 use Rattle.ca_explain.proofs.Alone.{never_refused, never_overtaken}
 use Rattle.ca_table.specs.ComesTo.{ComesTo, ComesToFrom, IsOvertaken, SureAndAloneIsDone, SureAndAloneIsDoneFrom}
 
-not_overtaken : (a b : Known) (asks : Asking) (spent : Spent) → a.alone ≡ true → IsOvertaken a b asks spent → ⊥
+pub not_overtaken : (a b : Known) (asks : Asking) (spent : Spent) → a.alone ≡ true → IsOvertaken a b asks spent → ⊥
 not_overtaken a b ReadsKey spent alone h = h
 not_overtaken a b (ReadsBy s) spent alone h = h
 not_overtaken a b ReadsMany spent alone h = h

@@ -51,6 +51,10 @@ abbrev pub CountsOnly : Tree → List ℕ → Bool → Type 0
 CountsOnly s bytes false = Unit {0}
 CountsOnly s bytes true = (o : Tree) → IsTerm o → bytes ≡ code_of o → (r : Tree) × (result_of s o ≡ Some r)
 
+-- The object of these bytes has no result.
+abbrev pub HasNoResult : Tree → List ℕ → Type 0
+HasNoResult s bytes = (o : Tree) → IsTerm o → bytes ≡ code_of o → result_of s o ≡ None
+
 -- whether so many results are as many as are wanted; without a limit none are
 abbrev pub is_full : Option ℕ → ℕ → Bool
 is_full None found = false

@@ -63,9 +63,8 @@ added_key keypos (Insert object) = Some (code_of (key_of keypos object))
 added_key keypos (InsertNew object) = Some (code_of (key_of keypos object))
 added_key keypos command = None
 
--- It makes room, or looks for one key.
+-- It looks for one key.
 abbrev pub IsByKey : Read → Type 0
-IsByKey Reserves = Unit {0}
 IsByKey (Gets budget key outcome into) = Unit {0}
 IsByKey read = ⊥
 
@@ -93,6 +92,16 @@ module _ {S : Type 0} (promises : Promises S) where
 
   abbrev pub HasReadKeys : S → S → Type 0
   HasReadKeys s t = (reads : List Read) × AreByKey reads × AreReads reads s t
+
+  -- Before its call that may edit, a command that may add this key made room for it, and did nothing else; one that adds none looked for its key, if anything.
+  abbrev pub HasPrepared : Option (List ℕ) → S → S → Type 0
+  HasPrepared None s t = HasReadKeys s t
+  HasPrepared (Some key) s t = promises.reserve s t
+
+  -- It made no call that may edit, and is answered so: not refused for want of levels; and one that may add this key made no call at all, and is done.
+  abbrev pub HasOnlyRead : Option (List ℕ) → Outcome Reply → S → S → Type 0
+  HasOnlyRead None answer s t = HasRead s t × IsNeverDeep answer
+  HasOnlyRead (Some key) answer s t = (t ≡ s) × IsDone answer
 
 module _ {S : Type 0} (promises : Promises S) (asked : ℕ → S → S → Outcome Changed → Type 0) where
   abbrev pub IsEdit : Edit → S → S → Type 0
@@ -124,17 +133,17 @@ module _ {S : Type 0} (knows : S → Known) (promises : Promises S) (asked : ℕ
   IsAnswerTo None answer = IsDone answer
       ⊎ ((spent : Spent) × (answer ≡ outcome.Busy spent) × IsOvertaken (knows s) (knows t) (nature_of command).asks spent)
 
-  -- The command made room or looked for its key, if anything, and the last of its calls may edit.
+  -- The command made room or looked for its key, and the last of its calls may edit.
   pub record HasReadAndEdited (answer : Outcome Reply) : Type 0 where
     pub between : S
-    pub read : HasReadKeys promises s between
+    pub prepared : HasPrepared promises (added_key (knows s).keypos command) s between
     pub refusal : Option Cause
     pub edited : HasEdited promises asked (added_key (knows s).keypos command) refusal between t
     pub answered : IsAnswerTo refusal answer
 
-  -- The command read, and made at most one call behind it that may edit; for want of levels it is refused by that one alone. Where memory lacked it only read.
+  -- The command only read, or made one call behind its reads that may edit. Where memory lacked it only read.
   abbrev pub HasMadeFor : Outcome Reply → Type 0
-  HasMadeFor answer = (HasRead promises s t × IsNeverDeep answer) ⊎ HasReadAndEdited answer
+  HasMadeFor answer = HasOnlyRead promises (added_key (knows s).keypos command) answer s t ⊎ HasReadAndEdited answer
 
   abbrev pub HasMade : {Lack : Type 0} → Result (Outcome Reply) Lack → Type 0
   HasMade (Ok answer) = HasMadeFor answer

@@ -1,19 +1,20 @@
 //! Results of the objects of a run.
-ghost use Rattle.std.specs.Prelude.{◌≡◌, ◌≤◌, [], IfErr, IfOk, OnOk, None, Some, length, if◌then◌else◌};
+ghost use Rattle.std.specs.Prelude.{◌≡◌, ◌≤◌, [], IfErr, IfOk, IfSome, OnOk, None, Some, true, length, if◌then◌else◌};
 ghost use Rattle.ca_term.specs.Code.{code_of};
 ghost use Rattle.ca_term.specs.Tree.{IsTerm, Tree};
 ghost use Rattle.ca_order.specs.Languages.{IsTermCode};
+ghost use Rattle.ca_spec.specs.SieveView.{IsSieveOf};
 ghost use Rattle.ca_model.specs.Edges.{IsProperBound, bound_of};
 ghost use Rattle.ca_model.specs.Known.{StaysBesideRun};
 ghost use Rattle.ca_table.specs.ResultsView.{results_of};
-ghost use Rattle.ca_table.specs.Collected.{AddsObject, AreCollected, AreWithin, CountsOnly, IsOpenRun, IsStopped, WasAsked, is_full, left_of, wanted};
+ghost use Rattle.ca_table.specs.Collected.{AddsObject, AreCollected, AreWithin, CountsOnly, HasNoResult, IsOpenRun, IsStopped, WasAsked, is_full, left_of, wanted};
 ghost use Rattle.ca_table.specs.Made.{HasRead};
 
 use crate::kept::Object;
 use crate::outcome::{Stop, done};
 use crate::results::Results;
 use ca_model::{Code, Edge, OrderedStore};
-use ca_spec::{Spec, apply_code, chooses};
+use ca_spec::{Sieve, Spec, apply_code, chooses};
 use std::alloc::{AllocError, Global};
 
 // What is collected of a run: results in key order, and the last object that gave one, where there are as many as are wanted.
@@ -21,7 +22,12 @@ use std::alloc::{AllocError, Global};
 pub(crate) struct Collected {
     pub results: Results,
     pub last: Option<Object>,
+    // how many of the newest objects had a result, one after the other
+    in_a_row: u32,
 }
+
+// Behind so many objects in a row with a result a sieve would seldom stop one.
+const MANY: u32 = 16;
 
 impl Collected {
     // Nothing yet.
@@ -32,6 +38,7 @@ impl Collected {
         Collected {
             results: Results::new(alloc),
             last: None,
+            in_a_row: 0,
         }
     }
 
@@ -53,6 +60,36 @@ impl Collected {
         self.results.push(alloc, found)?;
         self.keep(limit, code);
         Ok(())
+    }
+
+    // The same where there may be a sieve of the specification. It isn't asked behind many objects in a row with a result, up to the next one without.
+    #[inline(always)]
+    #[tactic(auto, using(crate::proofs::Collecting::adds_none))]
+    fn sift(
+        &mut self,
+        alloc: Global,
+        spec: &Spec,
+        sieve: Option<Sieve<'_>>,
+        limit: Option<u64>,
+        code: &Code,
+    ) -> Result<(), AllocError>
+        requires code { IsTermCode code.now.items }
+        requires sieve { IfSome sieve (λ sieve. IsSieveOf spec.now sieve) }
+        ensures { OnOk result (AddsObject limit spec.now code.now.items (results_of self.old.results) self.old.last (results_of self.new.results) self.new.last) }
+    {
+        if self.in_a_row < MANY && stops(sieve, code.as_slice()) {
+            self.in_a_row = 0;
+            Ok(())
+        } else {
+            let before = self.results.len();
+            self.add(alloc, spec, limit, code)?;
+            self.in_a_row = if before < self.results.len() {
+                self.in_a_row.saturating_add(1)
+            } else {
+                0
+            };
+            Ok(())
+        }
     }
 
     // With the object of this code where there are as many results as are wanted.
@@ -89,14 +126,29 @@ pub(crate) fn is_full(limit: Option<u64>, found: usize) -> bool
     }
 }
 
+// Whether a sieve tells of the object of this code that it has no result.
+#[inline(always)]
+#[tactic(auto, using(crate::proofs::Collecting::stopped_none))]
+fn stops(sieve: Option<Sieve<'_>>, code: &[u8]) -> bool
+    requires { IsTermCode code.now }
+    ensures { result ≡ true → (s : Tree) → IfSome sieve.entry (λ sieve. IsSieveOf s sieve) → HasNoResult s code.now }
+{
+    match sieve {
+        Some(sieve) => !sieve.passes(code),
+        None => false,
+    }
+}
+
 // Collects the results of the open run, as many as are wanted, or all. Only objects are handed out.
 fn collect<S: OrderedStore>(
     store: &mut S,
     alloc: Global,
     spec: &Spec,
+    sieve: Option<Sieve<'_>>,
     limit: Option<u64>,
 ) -> Result<Collected, AllocError>
     requires run { IsOpenRun (S.knows store.old) }
+    requires sieve { IfSome sieve (λ sieve. IsSieveOf spec.now sieve) }
     ensures collected { IfOk result (λ c. AreCollected (S.knows store.old).keypos spec.now limit (left_of (S.knows store.old)) (results_of c.results) c.last) }
     ensures stays { StaysBesideRun (S.knows store.old) (S.knows store.new) }
     ensures read { HasRead S.promises store.old store.new }
@@ -107,16 +159,19 @@ fn collect<S: OrderedStore>(
         if !store.found(&mut code) {
             return Ok(collected);
         }
-        collected.add(alloc, spec, limit, &code)?;
+        collected.sift(alloc, spec, sieve, limit, &code)?;
     }
     Ok(collected)
 }
 
 // Whether a specification gives the object of this code a result; also false where memory wasn't found, since a run is only longer then.
-fn gives_result(alloc: Global, spec: &Spec, code: &[u8]) -> bool
+fn gives_result(alloc: Global, spec: &Spec, sieve: Option<Sieve<'_>>, code: &[u8]) -> bool
     requires { IsTermCode code.now }
     ensures { CountsOnly spec.now code.now result }
 {
+    if stops(sieve, code) {
+        return false;
+    }
     matches!(chooses(alloc, spec, code), Ok(true))
 }
 
@@ -153,14 +208,15 @@ pub(crate) fn results_within<S: OrderedStore>(
     ensures read { HasRead S.promises store.old store.new }
     ensures closed { (S.knows store.new).run ≡ None }
 {
+    let sieve = Sieve::of(spec);
     let counts = |code: &[u8]| -> bool
         requires { IsTermCode code.now }
         ensures { CountsOnly spec.entry.now code.now result }
-    { gives_result(alloc, spec, code) };
+    { gives_result(alloc, spec, sieve, code) };
     if let Err(refusal) = done(store.range(lo, hi, wanted(limit), &counts, budget)) {
         return Err(Stop::Refused(refusal));
     }
-    let collected = collect(store, alloc, spec, limit);
+    let collected = collect(store, alloc, spec, sieve, limit);
     store.close_run();
     match collected {
         Ok(collected) => Ok(collected),

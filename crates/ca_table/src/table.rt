@@ -453,7 +453,7 @@ impl<S: OrderedStore + Drop, W: Follower<S>> Table<S, W> {
         ensures room { OnOk result (1 ≤ (S.knows self.new).spare) }
         ensures lack { OnErr result ((S.knows self.old).spare ≡ 0) }
         ensures stays { Stays (S.knows self.old) (S.knows self.new) }
-        ensures by_key { HasReadKeys S.promises self.old self.new }
+        ensures promised { S.promises.reserve self.old self.new }
         ensures read { HasRead S.promises self.old self.new }
     {
         self.store.reserve()

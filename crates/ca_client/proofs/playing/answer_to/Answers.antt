@@ -1,9 +1,10 @@
-use Rattle.std.proofs.Common.{◌≡◌, ◌≤◌, ◌*◌, ◌∙◌, Ok, Err, refl, sym, subst, arith}
+use Rattle.std.proofs.Common.{◌*◌, ◌∙◌, Ok, Err, refl, subst, arith}
 use Rattle.std.specs.Prelude.{OnErr, Result}
 use Rattle.ca_ets.specs.Command.{Continuation, Full, Deep, Worn, continuation_of, response_of}
 use Rattle.ca_ets.specs.Step.{nature_of}
 use Rattle.ca_model.specs.declared.outcome.Cause.TheVariants as cause
 use Rattle.ca_table.specs.ComesTo.{StepsOnce}
+use Rattle.ca_client.proofs.Chain.{last_try, no_tries, one_try}
 use Rattle.ca_client.proofs.Trying.{not_tried, tried_again, behind_wait, replied, refused, at_last, stopped, lacking_reads}
 use Rattle.ca_client.proofs.playing.answer_to.Goals as goal
 
@@ -14,6 +15,7 @@ on_err (Err e) p = p
 pub loop-init : goal.loop-init
 loop-init g c = record {
   tried = not_tried (g.S.OrderedStore.knows c.args.table.now);
+  made = no_tries g.S.OrderedStore.knows g.S.OrderedStore.promises g.W.Follower.asked c.args.cmd.now c.args.table.now;
   stays = refl;
   continuation = c.requires;
   budget = omega arith;
@@ -49,6 +51,8 @@ loop-preserved-then-budget-lt-MOST_BUDGET g c =
     let low = c.loop.invariant.budget in record {
       tried = tried_again first table next c.loop.budget c.loop.waits (c.loop.budget * 2) c.args.cmd.now c.in-Busy.field-0
           c.loop.invariant.tried busy.0 (omega arith) (omega arith);
+      made = one_try g.S.OrderedStore.knows g.S.OrderedStore.promises g.W.Follower.asked c.args.cmd.now
+          c.args.table.now c.loop.table c.apply.new.self c.loop.budget _ c.loop.invariant.made tt busy.0 (rw c.in-Busy.is at c.in_ok-reply.ensures.made);
       stays = busy.1 ∙ c.loop.invariant.stays;
       continuation = c.apply.ensures.continuation;
       budget = omega arith;
@@ -64,6 +68,8 @@ loop-preserved-else-budget-lt-MOST_BUDGET g c =
     let most = c.if-budget-lt-MOST_BUDGET.false in record {
       tried = tried_again first table next c.loop.budget c.loop.waits c.loop.budget c.args.cmd.now c.in-Busy.field-0
           c.loop.invariant.tried busy.0 (omega arith) (omega arith);
+      made = one_try g.S.OrderedStore.knows g.S.OrderedStore.promises g.W.Follower.asked c.args.cmd.now
+          c.args.table.now c.loop.table c.apply.new.self c.loop.budget _ c.loop.invariant.made tt busy.0 (rw c.in-Busy.is at c.in_ok-reply.ensures.made);
       stays = busy.1 ∙ c.loop.invariant.stays;
       continuation = c.apply.ensures.continuation;
       budget = c.loop.invariant.budget;
@@ -91,6 +97,8 @@ loop-preserved g c =
     let few = worth.1 in record {
       tried = behind_wait first table next c.loop.budget c.loop.waits c.loop.invariant.tried c.in-Full.why full.0.1
           worth.0 few;
+      made = one_try g.S.OrderedStore.knows g.S.OrderedStore.promises g.W.Follower.asked c.args.cmd.now
+          c.args.table.now c.loop.table c.apply.new.self c.loop.budget _ c.loop.invariant.made tt full.0 (rw c.in-Full.is at c.in_ok-reply.ensures.made);
       stays = full.1 ∙ c.loop.invariant.stays;
       continuation = c.apply.ensures.continuation;
       budget = c.loop.invariant.budget;
@@ -116,3 +124,27 @@ returns-in-Worn-clause-answered g c =
     refused first table next c.loop.budget c.loop.waits c.loop.invariant.tried
     (continuation_of c.args.cont.now) (continuation_of c.apply.new.cont) c.args.cmd.now Worn (cause.Worn c.in-Worn.field-0) worn.0.1
     (worn.1 ∙ c.loop.invariant.stays) tt
+
+pub returns-in-Done-clause-made : goal.returns-in-Done-clause-made
+returns-in-Done-clause-made g c =
+    last_try g.S.OrderedStore.knows g.S.OrderedStore.promises g.W.Follower.asked c.args.cmd.now _
+    c.args.table.now c.loop.table c.apply.new.self _ c.loop.invariant.made (rw c.in-Done.is at c.in_ok-reply.ensures.made) refl
+    (returns-in-Done-clause-answered g c).grown.same
+
+pub returns-then-not-is_worth_a_wait-clause-made : goal.returns-then-not-is_worth_a_wait-clause-made
+returns-then-not-is_worth_a_wait-clause-made g c =
+    last_try g.S.OrderedStore.knows g.S.OrderedStore.promises g.W.Follower.asked c.args.cmd.now _
+    c.args.table.now c.loop.table c.apply.new.self _ c.loop.invariant.made (rw c.in-Full.is at c.in_ok-reply.ensures.made) refl
+    (returns-then-not-is_worth_a_wait-clause-answered g c).grown.same
+
+pub returns-in-Deep-clause-made : goal.returns-in-Deep-clause-made
+returns-in-Deep-clause-made g c =
+    last_try g.S.OrderedStore.knows g.S.OrderedStore.promises g.W.Follower.asked c.args.cmd.now _
+    c.args.table.now c.loop.table c.apply.new.self _ c.loop.invariant.made (rw c.in-Deep.is at c.in_ok-reply.ensures.made) refl
+    (returns-in-Deep-clause-answered g c).grown.same
+
+pub returns-in-Worn-clause-made : goal.returns-in-Worn-clause-made
+returns-in-Worn-clause-made g c =
+    last_try g.S.OrderedStore.knows g.S.OrderedStore.promises g.W.Follower.asked c.args.cmd.now _
+    c.args.table.now c.loop.table c.apply.new.self _ c.loop.invariant.made (rw c.in-Worn.is at c.in_ok-reply.ensures.made) refl
+    (returns-in-Worn-clause-answered g c).grown.same

@@ -1,11 +1,12 @@
 use Rattle.std.proofs.Common.{◌≡◌, ◌+◌, ◌≤◌, ℕ, zero, suc, length, List, [], ◌∷◌, ◌++◌, drop, Ok, Err, refl, ap, subst, arith}
 use Rattle.std.specs.Prelude.{OnErr, Result}
-use Rattle.ca_ets.specs.Command.{Never, continuation_of}
+use Rattle.ca_ets.specs.Command.{continuation_of}
 use Rattle.ca_cmd.specs.Answers.{answer_of}
 use Rattle.ca_cmd.specs.File.{commands_in}
 use Rattle.ca_cmd.specs.Lines.{numbered}
 use Rattle.ca_cmd.specs.declared.line.Line.{Line}
 use Rattle.ca_cmd.proofs.Determined.{drop_one}
+use Rattle.ca_client.proofs.Chain.{AreCommands, all_commands, no_commands, one_command}
 use Rattle.ca_client.proofs.Commands.{IsPlaying, begins, plays_on, stops, ends}
 use Rattle.ca_client.proofs.Telling.{nothing_told, one_told, all_told}
 use Rattle.ca_client.proofs.Trying.{read_nothing}
@@ -28,6 +29,7 @@ loop-at-init g c =
       so_far = record {
         answers = [];
         playing = begins table (commands_in (numbered lines));
+        made = no_commands g.S.OrderedStore.knows g.S.OrderedStore.promises g.W.Follower.asked (commands_in (numbered lines)) c.args.table.now;
         telling = nothing_told lines c.new-answers.result c.new-answers.ensures.text c.new-answers.ensures.refused;
       };
       continuation = tt;
@@ -97,10 +99,15 @@ loop-at-preserved g c =
     let given = answer_of c.in_ok-answer.answer in
     let here : IsPlaying first table now commands (item.cmd ∷ rest) so_far.answers =
     subst (λ (ls : List Line). IsPlaying first table now commands (commands_in (numbered ls)) so_far.answers) left so_far.playing in
+    let made = one_command g.S.OrderedStore.knows g.S.OrderedStore.promises g.W.Follower.asked commands rest so_far.answers item.cmd given
+    c.args.table.now c.loop-at.table c.answer_to.new.table
+    (subst (λ (ls : List Line). AreCommands g.S.OrderedStore.knows g.S.OrderedStore.promises g.W.Follower.asked commands
+    (commands_in (numbered ls)) so_far.answers c.args.table.now c.loop-at.table) left so_far.made) c.in_ok-answer.ensures.made in
     let added = c.in_ok-add.ensures in record {
       so_far = record {
         answers = so_far.answers ++ given ∷ [];
         playing = plays_on first table next now behind commands item.cmd rest so_far.answers here given c.in_ok-answer.ensures.answered;
+        made = made;
         telling = one_told lines i so_far.answers c.loop-at.answers so_far.telling item given c.add.new.self left added.text added.refused;
       };
       continuation = c.answer_to.ensures.continuation;
@@ -119,5 +126,8 @@ returns-clause-played g c =
       answers = so_far.answers;
       played = ends first table (continuation_of c.loop-at.cont) (commands_in (numbered lines)) (commands_in (numbered (drop i lines)))
           so_far.answers so_far.playing (ap (λ (ls : List Line). commands_in (numbered ls)) none);
+      made = all_commands g.S.OrderedStore.knows g.S.OrderedStore.promises g.W.Follower.asked (commands_in (numbered lines))
+          (commands_in (numbered (drop i lines))) so_far.answers c.args.table.now c.loop-at.table so_far.made
+          (ap (λ (ls : List Line). commands_in (numbered ls)) none);
       are_told = all_told lines i so_far.answers c.loop-at.answers so_far.telling none;
     }

@@ -1,4 +1,4 @@
-use Rattle.std.proofs.Common.{◌≡◌, ℕ, List, map, sym, ◌∙◌, ap, subst}
+use Rattle.std.proofs.Common.{◌≡◌, ℕ, List, map, sym, ◌∙◌, ap, subst, arith}
 use Rattle.ca_cmd.specs.Lines.{numbered}
 use Rattle.ca_model.specs.StoreMap.{IsStoreMap}
 use Rattle.ca_term.specs.Tree.{Tree}
@@ -43,6 +43,8 @@ returns g c =
     ap (λ (p : TreePast). p.sizes.keypos) told ∙ ap (λ (z : Sizes). z.keypos) space.same in
     let keypos : shared.key.keypos ≡ c.args.keypos =
     ap (λ (z : Sizes). z.keypos) (sym space.same ∙ same.1) ∙ sym c.requires.keypos.0 in
+    let wide : shared.key.passes ≡ c.args.tree.space.sizes.passes = ap (λ (z : Sizes). z.passes) (sym space.same ∙ same.1) in
+    let few = c.requires.few in
     let map_is = subst (λ (k : ℕ). IsStoreMap k objects) past_keypos (closed_map past objects c.in-Ok.ensures.closed) in
     let table = table_in shared.key.keypos objects map_is in
     let stands : Stands shared.key.keypos objects c.of.result =
@@ -50,7 +52,8 @@ returns g c =
     (table_stands shared.key.keypos objects table.0 map_is table.1) in
     record {
       ran = subst (λ (k : ℕ). HasRun k (map numbered files) ran) keypos
-          (has_run shared.table_id shared.key files parts.passes.items objects ran shares (ap (λ (p : TreePast). p.passes) told)
+          (has_run shared.table_id shared.key files parts.passes.items objects ran shares (ap (λ (p : TreePast). p.sizes) told ∙ space.same)
+          (omega (arith, few, wide)) (ap (λ (p : TreePast). p.passes) told)
           (ap (λ (p : TreePast). p.made) told ∙ c.in_ok-passes.ensures.made) c.in-Ok.ensures.closed stands
           c.in_ok-parts.ensures.splits_are c.in_ok-parts.ensures.joins_are);
       past = record {

@@ -26,8 +26,8 @@ pub returns-then-not-found-clause-stays : goal.returns-then-not-found-clause-sta
 returns-then-not-found-clause-stays g c =
     both_beside_run _ (g.S.OrderedStore.knows c.objects.store) _ c.objects.invariant.collecting.stays c.found.ensures.stays
 
-pub add-requires : goal.add-requires
-add-requires g c =
+pub sift-requires-clause-code : goal.sift-requires-clause-code
+sift-requires-clause-code g c =
     handed_code (g.S.OrderedStore.knows c.args.store.now).keypos (g.S.OrderedStore.knows c.objects.store) (g.S.OrderedStore.knows c.found.new.self)
     c.found.new.into.items c.objects.invariant.collecting.left (rw c.if-not-found.false at c.found.ensures.handed_out)
 
@@ -41,13 +41,13 @@ objects-preserved g c = record {
   collecting = collecting_more c.args.spec.now c.args.limit (g.S.OrderedStore.knows c.args.store.now) (g.S.OrderedStore.knows c.objects.store)
       (g.S.OrderedStore.knows c.found.new.self) c.found.new.into.items c.found.result _ _ _ _ c.objects.invariant.collecting
       (ap (is_full c.args.limit) (sym c.len.ensures) ∙ sym c.is_full.ensures ∙ c.objects-test.true) c.if-not-found.false c.found.ensures.handed_out
-      c.found.ensures.stays (rw c.in_ok-add.was at c.add.ensures);
+      c.found.ensures.stays (rw c.in_ok-sift.was at c.sift.ensures);
   read = read_both g.S.OrderedStore.promises c.args.store.now c.objects.store c.found.new.self c.objects.invariant.read
       (read_once g.S.OrderedStore.promises HandsOut c.objects.store c.found.new.self c.found.ensures.promised);
 }
 
-pub returns-in_err-add-clause-stays : goal.returns-in_err-add-clause-stays
-returns-in_err-add-clause-stays g c = both_beside_run _ (g.S.OrderedStore.knows c.objects.store) _ c.objects.invariant.collecting.stays c.found.ensures.stays
+pub returns-in_err-sift-clause-stays : goal.returns-in_err-sift-clause-stays
+returns-in_err-sift-clause-stays g c = both_beside_run _ (g.S.OrderedStore.knows c.objects.store) _ c.objects.invariant.collecting.stays c.found.ensures.stays
 
 pub returns-clause-collected : goal.returns-clause-collected
 returns-clause-collected g c =
@@ -63,8 +63,8 @@ returns-then-not-found-clause-read g c =
     read_both g.S.OrderedStore.promises c.args.store.now c.objects.store c.found.new.self c.objects.invariant.read
     (read_once g.S.OrderedStore.promises HandsOut c.objects.store c.found.new.self c.found.ensures.promised)
 
-pub returns-in_err-add-clause-read : goal.returns-in_err-add-clause-read
-returns-in_err-add-clause-read g c =
+pub returns-in_err-sift-clause-read : goal.returns-in_err-sift-clause-read
+returns-in_err-sift-clause-read g c =
     read_both g.S.OrderedStore.promises c.args.store.now c.objects.store c.found.new.self c.objects.invariant.read
     (read_once g.S.OrderedStore.promises HandsOut c.objects.store c.found.new.self c.found.ensures.promised)
 

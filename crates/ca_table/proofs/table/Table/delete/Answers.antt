@@ -1,3 +1,4 @@
+use Rattle.std.proofs.Common.{refl}
 use Rattle.ca_table.proofs.Keyed.{key_begins, delete_done}
 use Rattle.ca_ets.specs.declared.command.Cmd.TheVariants.{Delete}
 use Rattle.ca_table.proofs.Making.{declined_first, done_first}
@@ -14,9 +15,9 @@ returns-in-Ok-clause-comes g c =
 pub returns-in-Ok-clause-made : goal.returns-in-Ok-clause-made
 returns-in-Ok-clause-made g c =
     done_first g.S.OrderedStore.knows g.S.OrderedStore.promises g.W.Follower.asked
-    (Delete c.args.key.now) c.args.self.now c.remove.new.self _ c.in-Ok.ensures.edited tt
+    (Delete c.args.key.now) c.args.self.now c.remove.new.self _ refl c.in-Ok.ensures.edited tt
 
 pub returns-in-Err-remove-clause-made : goal.returns-in-Err-remove-clause-made
 returns-in-Err-remove-clause-made g c =
     declined_first g.S.OrderedStore.knows g.S.OrderedStore.promises g.W.Follower.asked (Delete c.args.key.now) c.args.self.now c.remove.new.self
-    c.in-Err-remove.refusal c.in-Err-remove.ensures.declined
+    c.in-Err-remove.refusal refl c.in-Err-remove.ensures.declined

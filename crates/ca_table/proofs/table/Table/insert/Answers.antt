@@ -18,7 +18,7 @@ returns-in-Ok-put-clause-made g c =
     let promises = g.S.OrderedStore.promises in
     let asked = g.W.Follower.asked in
     was_done g.S.OrderedStore.knows promises asked (Insert c.args.object.now) c.args.self.now c.reserve.new.self c.put.new.self _
-    c.reserve.ensures.by_key
+    c.reserve.ensures.promised
     (subst (λ (key : List ℕ). HasEdited promises asked (Some key) None c.reserve.new.self c.put.new.self) c.in-Ok.ensures.code.1.key_is
     c.in-Ok-put.ensures.edited) tt
 
@@ -27,6 +27,6 @@ returns-in-Err-put-clause-made g c =
     let promises = g.S.OrderedStore.promises in
     let asked = g.W.Follower.asked in
     was_declined g.S.OrderedStore.knows promises asked (Insert c.args.object.now) c.args.self.now c.reserve.new.self c.put.new.self
-    c.in-Err-put.refusal c.reserve.ensures.by_key
+    c.in-Err-put.refusal c.reserve.ensures.promised
     (subst (λ (key : List ℕ). HasDeclined promises asked (Some key) c.in-Err-put.refusal c.reserve.new.self c.put.new.self)
     c.in-Ok.ensures.code.1.key_is c.in-Err-put.ensures.declined)

@@ -20,7 +20,7 @@ returns-in-Ok-put_new-clause-made g c =
     let promises = g.S.OrderedStore.promises in
     let asked = g.W.Follower.asked in
     was_done g.S.OrderedStore.knows promises asked (InsertNew c.args.object.now) c.args.self.now c.reserve.new.self c.put_new.new.self _
-    c.reserve.ensures.by_key
+    c.reserve.ensures.promised
     (subst (λ (key : List ℕ). HasEdited promises asked (Some key) None c.reserve.new.self c.put_new.new.self) c.in-Ok.ensures.code.1.key_is
     c.in-Ok-put_new.ensures.edited) tt
 
@@ -29,6 +29,6 @@ returns-in-Err-put_new-clause-made g c =
     let promises = g.S.OrderedStore.promises in
     let asked = g.W.Follower.asked in
     was_declined g.S.OrderedStore.knows promises asked (InsertNew c.args.object.now) c.args.self.now c.reserve.new.self c.put_new.new.self
-    c.in-Err-put_new.refusal c.reserve.ensures.by_key
+    c.in-Err-put_new.refusal c.reserve.ensures.promised
     (subst (λ (key : List ℕ). HasDeclined promises asked (Some key) c.in-Err-put_new.refusal c.reserve.new.self c.put_new.new.self)
     c.in-Ok.ensures.code.1.key_is c.in-Err-put_new.ensures.declined)

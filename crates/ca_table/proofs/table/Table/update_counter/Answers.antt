@@ -1,4 +1,4 @@
-use Rattle.std.proofs.Common.{inr, map}
+use Rattle.std.proofs.Common.{inr, map, refl}
 use Rattle.ca_term.specs.Add.{addition_of}
 use Rattle.ca_ets.specs.Asked.{operations_in}
 use Rattle.ca_table.proofs.Keyed.{key_begins, only_read}
@@ -86,20 +86,20 @@ returns-in-Ok-Absent-clause-comes g c =
 pub returns-in-Ok-Put-clause-made : goal.returns-in-Ok-Put-clause-made
 returns-in-Ok-Put-clause-made g c =
     done_first g.S.OrderedStore.knows g.S.OrderedStore.promises g.W.Follower.asked
-    (UpdateCounter c.args.key.now c.args.op.now) c.args.self.now c.count.new.self _ c.in-Ok-Put.ensures.edited tt
+    (UpdateCounter c.args.key.now c.args.op.now) c.args.self.now c.count.new.self _ refl c.in-Ok-Put.ensures.edited tt
 
 pub returns-in-Ok-Kept-clause-made : goal.returns-in-Ok-Kept-clause-made
 returns-in-Ok-Kept-clause-made g c =
     done_first g.S.OrderedStore.knows g.S.OrderedStore.promises g.W.Follower.asked
-    (UpdateCounter c.args.key.now c.args.op.now) c.args.self.now c.count.new.self _ c.in-Ok-Kept.ensures.edited tt
+    (UpdateCounter c.args.key.now c.args.op.now) c.args.self.now c.count.new.self _ refl c.in-Ok-Kept.ensures.edited tt
 
 pub returns-in-Ok-Absent-clause-made : goal.returns-in-Ok-Absent-clause-made
 returns-in-Ok-Absent-clause-made g c =
     done_first g.S.OrderedStore.knows g.S.OrderedStore.promises g.W.Follower.asked
-    (UpdateCounter c.args.key.now c.args.op.now) c.args.self.now c.count.new.self _ c.in-Ok-Absent.ensures.edited tt
+    (UpdateCounter c.args.key.now c.args.op.now) c.args.self.now c.count.new.self _ refl c.in-Ok-Absent.ensures.edited tt
 
 pub returns-in-Err-count-clause-made : goal.returns-in-Err-count-clause-made
 returns-in-Err-count-clause-made g c =
     declined_first g.S.OrderedStore.knows g.S.OrderedStore.promises g.W.Follower.asked
     (UpdateCounter c.args.key.now c.args.op.now) c.args.self.now c.count.new.self
-    c.in-Err-count.refusal c.in-Err-count.ensures.declined
+    c.in-Err-count.refusal refl c.in-Err-count.ensures.declined

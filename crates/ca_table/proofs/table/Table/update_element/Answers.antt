@@ -76,20 +76,20 @@ returns-in-Ok-Absent-clause-comes g c =
 pub returns-in-Ok-Put-clause-made : goal.returns-in-Ok-Put-clause-made
 returns-in-Ok-Put-clause-made g c =
     done_first g.S.OrderedStore.knows g.S.OrderedStore.promises g.W.Follower.asked
-    (UpdateElement c.args.key.now c.args.op.now) c.args.self.now c.replace.new.self _ c.in-Ok-Put.ensures.edited tt
+    (UpdateElement c.args.key.now c.args.op.now) c.args.self.now c.replace.new.self _ refl c.in-Ok-Put.ensures.edited tt
 
 pub returns-in-Ok-Kept-clause-made : goal.returns-in-Ok-Kept-clause-made
 returns-in-Ok-Kept-clause-made g c =
     done_first g.S.OrderedStore.knows g.S.OrderedStore.promises g.W.Follower.asked
-    (UpdateElement c.args.key.now c.args.op.now) c.args.self.now c.replace.new.self _ c.in-Ok-Kept.ensures.edited tt
+    (UpdateElement c.args.key.now c.args.op.now) c.args.self.now c.replace.new.self _ refl c.in-Ok-Kept.ensures.edited tt
 
 pub returns-in-Ok-Absent-clause-made : goal.returns-in-Ok-Absent-clause-made
 returns-in-Ok-Absent-clause-made g c =
     done_first g.S.OrderedStore.knows g.S.OrderedStore.promises g.W.Follower.asked
-    (UpdateElement c.args.key.now c.args.op.now) c.args.self.now c.replace.new.self _ c.in-Ok-Absent.ensures.edited tt
+    (UpdateElement c.args.key.now c.args.op.now) c.args.self.now c.replace.new.self _ refl c.in-Ok-Absent.ensures.edited tt
 
 pub returns-in-Err-replace-clause-made : goal.returns-in-Err-replace-clause-made
 returns-in-Err-replace-clause-made g c =
     declined_first g.S.OrderedStore.knows g.S.OrderedStore.promises g.W.Follower.asked
     (UpdateElement c.args.key.now c.args.op.now) c.args.self.now c.replace.new.self
-    c.in-Err-replace.refusal c.in-Err-replace.ensures.declined
+    c.in-Err-replace.refusal refl c.in-Err-replace.ensures.declined

@@ -1,0 +1,33 @@
+//! What is told of the calls of a store on the tree that ask a function.
+ghost use Rattle.ca_client.specs.Following.{asked_on_tree};
+
+use ca_model::{Changed, Code, OrderedStore, Outcome};
+use ca_replace::TreeStore;
+use ca_table::Follower;
+
+// It is told all that such a store promises of them, which doesn't speak of the function.
+pub(crate) struct OnTree;
+
+impl<'t> Follower<TreeStore<'t>> for OnTree {
+    ghost asked = { asked_on_tree };
+
+    fn remove_if<F: Fn(&[u8]) -> bool>(
+        store: &mut TreeStore<'t>,
+        key: &[u8],
+        f: &F,
+        old: &mut Code,
+        budget: u32,
+    ) -> Outcome<Changed> {
+        store.remove_if(key, f, old, budget)
+    }
+
+    fn change<F: Fn(&[u8], &mut Code, &mut usize) -> bool>(
+        store: &mut TreeStore<'t>,
+        key: &[u8],
+        f: &F,
+        old: &mut Code,
+        budget: u32,
+    ) -> Outcome<Changed> {
+        store.change(key, f, old, budget)
+    }
+}
