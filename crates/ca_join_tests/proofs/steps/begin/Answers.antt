@@ -1,8 +1,11 @@
-use Rattle.std.proofs.Common.{◌≡◌, sym, subst}
+use Rattle.std.proofs.Common.{◌≡◌, List, ap, sym, subst}
 use Rattle.ca_base.specs.Finding.{IsBaseShown}
+use Rattle.ca_node.specs.Joining.{IsRemembered}
 use Rattle.ca_node.specs.Told.{MyTree, link_word}
+use Rattle.ca_node.specs.TreeView.{Way}
 use Rattle.ca_adapt.specs.Joins.{last_on}
 use Rattle.ca_adapt.specs.Trying.{FindsSibling, OnlyLooks}
+use Rattle.ca_adapt.proofs.Securing.{remembered_by}
 use Rattle.ca_adapt.proofs.Tried.{finds_shown, keeps_reads}
 use Rattle.ca_join_tests.specs.declared.steps.Begun.{Begun}
 use Rattle.ca_join_tests.specs.Stopping.{HasBegun}
@@ -14,6 +17,14 @@ base_level-level-requires-clause-shown c = let p = c.args.pass.now in let o = c.
     let note = last_on (link_word c.args.cursor.link) p.seat.me.0.upper.notes in
     let f = c.in-Ok.ensures.looked note (shown_there c.args.space.now p c.args.cursor c.requires.looked) in
     (f.look.sibling, finds_shown z c.args.cursor.link note c.in-Ok.base p.seat.me o.seat.me f)
+
+pub begin_attempt-requires-clause-remembered : goal.begin_attempt-requires-clause-remembered
+begin_attempt-requires-clause-remembered c = let p = c.args.pass.now in let z = c.args.space.now.table.shared.key in let u = p.seat.me.0.upper in
+    let note = last_on (link_word c.args.cursor.link) u.notes in
+    let f = subst (λ (x : MyTree). FindsSibling z c.args.cursor.link note c.in-Ok.base p.seat.me x) (sym c.base_level-level.ensures.frame.still)
+    (c.in-Ok.ensures.looked note (shown_there c.args.space.now p c.args.cursor c.requires.looked)) in
+    subst (λ (ways : List Way). IsRemembered ways c.in-Some.fork.route) (sym (ap (λ (x : MyTree). x.0.upper.ways) f.now))
+    (remembered_by z u c.in-Some.fork.route c.in-Some.fork.above (c.in-Some.ensures z u c.requires.looked.hung).3)
 
 pub returns : goal.returns
 returns c = record {
