@@ -19,7 +19,7 @@ use Rattle.ca_rows.specs.declared.view.View.{View}
 use Rattle.ca_runs.specs.Runs.{AreRuns}
 use Rattle.ca_runs.specs.Scenes.{IsFirst, IsNext, Replaces}
 use Rattle.ca_runs.proofs.Marking.{marks}
-use Rattle.ca_node.specs.LoneStays.{KeepsOwn}
+use Rattle.ca_node.specs.LoneStays.{KeepsOwn, MarksActive}
 use Rattle.ca_node.specs.Attempts.{IsUnderWay}
 use Rattle.ca_node.specs.Copies.{Copy, update_of, copy_note, IsCopy, copied, IsCopied}
 use Rattle.ca_node.specs.Inventory.{AreOnce, row_itself, AreCounted}
@@ -209,6 +209,7 @@ module _ (z : Sizes) (s : State (Unit {0}) (View TreeView)) (r : R z s) (id : �
         → IsOfOwnRun (set s.words x.old.place.link new) me.0.upper row)
         (shown : ranges.run ≡ me.0.upper.ranges.run) (joins : ranges.joins ≡ me.0.upper.ranges.joins)
         (keeps_own : KeepsOwn me.0.upper.ranges.own ranges.own)
+        (marks : MarksActive s.words me.0.upper.number me.0.upper.ranges.own ranges.own)
         (counted : AreCounted s.words r.made served (0 + me.0.upper.renewal.count) me.0.upper.renewal.count) where
       abbrev u' : TreeView
       u' = copied served ranges new x me.0.upper
@@ -297,7 +298,8 @@ module _ (z : Sizes) (s : State (Unit {0}) (View TreeView)) (r : R z s) (id : �
           has_now others_have served serve served_once new_end u'
           (own_notes z s r id me at new (update_of x) ex hit over free r.above.history mark bounded has_now
           others_have served serve served_once new_end u' refl refl borders run shown)
-          me.0.upper.renewal.count refl counted keeps_own refl (ap (λ (y : KnownJoins). y.begun) joins) f.edits f.by_passes (runs_now fits) own_knows own others_know
+          me.0.upper.renewal.count refl counted keeps_own marks refl refl
+          (ap (λ (y : KnownJoins). y.begun) joins) f.edits f.by_passes (runs_now fits) own_knows own others_know
 
       pub copied_now : IsCopied served ranges new x me (d', me.1)
       copied_now = record {

@@ -16,7 +16,7 @@ use Rattle.ca_rows.specs.Words.{own_word}
 use Rattle.ca_rows.specs.declared.sizes.Sizes.{Sizes}
 use Rattle.ca_rows.specs.declared.view.View.{View}
 use Rattle.ca_rows.proofs.Relinking.{Change, Stays, Ends, IsChange, relinks}
-use Rattle.ca_node.specs.LoneStays.{KeepsOwn}
+use Rattle.ca_node.specs.LoneStays.{KeepsOwn, KeepsActive}
 use Rattle.ca_node.specs.Endings.{without}
 use Rattle.ca_node.specs.Laws.{tree_lends}
 use Rattle.ca_node.specs.Links.{IsIn, IsLinked, by_range, IsLent, IsOfOwnRun, IsNoted, by_note, by_item, by_way, by_link, by_link_item, by_border, by_run, by_run_item, by_shown, by_shown_item}
@@ -60,7 +60,8 @@ module _ (z : Sizes) (s : State (Unit {0}) (View TreeView)) (r : R z s) (id : �
       (own_knows : Knows z r.made (set s.words (own_word s.words pass + 1) word') r.above.role (set (map upper_of s.views) id u') r.above.history id u')
       (own_ranging : IsRanging z (set s.words (own_word s.words pass + 1) word') r.above.role (r.above.ranged.ends u'.number) u'.since r.above.history u'.number
       u'.ranges)
-      (same : 0 < u'.number → u'.number ≡ me.0.upper.number)
+      (same : 0 < u'.number → u'.number ≡ me.0.upper.number) (same_number : u'.number ≡ me.0.upper.number)
+      (keeps_active : KeepsActive s.words (set s.words (own_word s.words pass + 1) word') me.0.upper.number me.0.upper.ranges.own u'.ranges.own)
       (other_runs : (j : ℕ) (y : View TreeView) → j ≢ id → get_elem? s.views j ≡ some y → (row : ℕ)
       → IsOfOwnRun (set s.words (own_word s.words pass + 1) word') y.upper row → IsOfOwnRun s.words y.upper row
       ⊎ (IsBase r.above.role row × ((d : ℕ) × IsNoted s.words y.upper d)))
@@ -121,6 +122,7 @@ module _ (z : Sizes) (s : State (Unit {0}) (View TreeView)) (r : R z s) (id : �
         (runs' z s r pass number word' end)
         (λ p n now. f.ranged.made_before p n (active_before z s r pass number word' end p n now).0)
         own_knows own_ranging others (without top) (listed' z s r pass number word' end) same_tree (omega arith) (λ few most are. shorter few most are.0) keeps_own same_ways same_begun
+        keeps_active same_number
 
     pub ends_step : R z record { words = set s.words (own_word s.words pass + 1) word'; homes = s.homes; views = set s.views id (relinked me me.0.claims u').0 }
     ends_step = relinks IsLinked IsLent IsNoted IsTree tree_lends z s r id me.0 d' words' kind record {

@@ -23,9 +23,9 @@ use Rattle.ca_runs.specs.Runs.{AreRuns}
 use Rattle.ca_runs.proofs.Keeping.{runs_still}
 use Rattle.ca_rows.proofs.Relinking.{Change, Stays, Comes, Goes, IsChange, relinks}
 use Rattle.ca_rows.proofs.Rules.{all_seats}
-use Rattle.ca_node.specs.LoneStays.{same_kept, lone_still}
+use Rattle.ca_node.specs.LoneStays.{same_kept, same_active, lone_still}
 use Rattle.ca_node.proofs.Lone.{lone_by_one}
-use Rattle.ca_node.specs.Inventory.{row_itself, row_of_base, IsInventory, OwnsTree, own_tree}
+use Rattle.ca_node.specs.Inventory.{row_itself, row_of_base, IsInventory}
 use Rattle.ca_node.specs.Attempts.{join_of, IsJoinWord, IsSecured, IsUnderWay}
 use Rattle.ca_node.specs.JoinsStay.{joining_unnoted}
 use Rattle.ca_node.specs.Laws.{noted_alike, tree_lends, in_nothing, numbered, relisted}
@@ -876,13 +876,14 @@ module _ (z : Sizes) (s : State (Unit {0}) (View TreeView)) (r : R z s) (id : �
           (routes_back c p key e);
     };
     lone = lone_by_one z r.made s.words words' role role' (map upper_of s.views) f.history f.each_seat id d.upper u' mine u.is_pass
-        (λ few. lone_still s.words words' role role' d.upper.ranges.own d.upper.ranges.own d.upper.ways d.upper.ways d.upper.ranges.joins.begun
+        (λ few. lone_still s.words words' role role' d.upper.number d.upper.ranges.own d.upper.ranges.own d.upper.ways d.upper.ways d.upper.ranges.joins.begun
         d.upper.ranges.joins.begun (λ c p key e. ⊎_elim
         (λ (new : c ≡ x.route). inl (subst (λ t. join_of words' t % 4 ≡ 0) (sym new) route_word))
         (λ (was : role c ≡ Route p key). inr (p, key, was, relinked_joins z s.words role last shape x.old.row place (ap place_of is_old) x.route c))
         (routes_back c p key e))
         (λ c p key e. (routes_stay c p key e, relinked_joins z s.words role last shape x.old.row place (ap place_of is_old) x.route c))
-        (λ way i. inl i) (same_kept d.upper.ranges.own) refl
+        (λ way i. inl i) (same_kept d.upper.ranges.own)
+        (same_active s.words words' d.upper.number d.upper.ranges.own (active_on z s.words words' role role' same_ranges d.upper.number)) refl
         (f.lone id d.upper mine few u.is_pass));
     each_seat =
         all_seats (Knows z r.made words' role' (set (map upper_of s.views) id u') f.history)

@@ -23,7 +23,8 @@ use Rattle.ca_runs.specs.Runs.{AreRuns}
 use Rattle.ca_runs.specs.Scenes.{Replaces}
 use Rattle.ca_rows.proofs.Relinking.{Change, Stays, Comes, Serves, Goes, IsChange, relinks}
 use Rattle.ca_rows.proofs.Rules.{all_seats}
-use Rattle.ca_node.specs.LoneStays.{KeepsOwn, lone_still}
+use Rattle.ca_node.specs.LoneStays.{KeepsOwn, MarksActive, marks_active, lone_still}
+use Rattle.ca_node.specs.Lone.{IsLone}
 use Rattle.ca_node.proofs.Lone.{lone_by_one}
 use Rattle.ca_node.specs.Inventory.{AreOnce, row_itself, row_of_base, IsInventory, OwnsTree, own_tree, IsLentFirst, AreCounted}
 use Rattle.ca_node.specs.Attempts.{HasAttempt, IsUnderWay}
@@ -815,7 +816,9 @@ module _ (z : Sizes) (s : State (Unit {0}) (View TreeView)) (r : R z s) (id : �
           ⊎ IsLinked (set s.words x.old.place.link new) row)
           (count : ℕ) (same_tree : own_tree u' ≡ (exchanged_inventory served new x d.upper.inventory, d.upper.splits, count))
           (counted : AreCounted s.words r.made served (length x.comes + d.upper.renewal.count) count)
-          (keeps_own : KeepsOwn d.upper.ranges.own u'.ranges.own) (same_ways : u'.ways ≡ d.upper.ways)
+          (keeps_own : KeepsOwn d.upper.ranges.own u'.ranges.own)
+          (marks : MarksActive s.words d.upper.number d.upper.ranges.own u'.ranges.own)
+          (same_number : u'.number ≡ d.upper.number) (same_ways : u'.ways ≡ d.upper.ways)
           (same_begun : u'.ranges.joins.begun ≡ d.upper.ranges.joins.begun)
           (edits : AreEdits z.keypos next) (by_passes : AreByPasses r.made next)
           (runs : AreRuns (scene_of (set s.words x.old.place.link new) role') r.above.ranged.ends)
@@ -928,12 +931,15 @@ module _ (z : Sizes) (s : State (Unit {0}) (View TreeView)) (r : R z s) (id : �
                 f.joined route p key (routes_back route p key e);
           };
           lone = lone_by_one z r.made s.words words' role role' (map upper_of s.views) f.history f.each_seat id d.upper u' first u.is_pass
-              (λ few. lone_still s.words words' role role' d.upper.ranges.own u'.ranges.own d.upper.ways u'.ways d.upper.ranges.joins.begun
+              (λ few. subst (λ (p : ℕ). IsLone words' role' p u'.ranges.own u'.ways u'.ranges.joins.begun) (sym same_number)
+              (lone_still s.words words' role role' d.upper.number d.upper.ranges.own u'.ranges.own d.upper.ways u'.ways d.upper.ranges.joins.begun
               u'.ranges.joins.begun
               (λ route p key e. inr (p, key, routes_back route p key e, relinked_joins z s.words role last shape x.old.row place (ap place_of is_old) new route))
               (λ route p key e. (routes_stay route p key e, relinked_joins z s.words role last shape x.old.row place (ap place_of is_old) new route))
-              (λ way i. inl (subst (IsIn way) same_ways i)) keeps_own same_begun
-              (f.lone id d.upper first few u.is_pass));
+              (λ way i. inl (subst (IsIn way) same_ways i)) keeps_own
+              (marks_active s.words words' d.upper.number d.upper.ranges.own u'.ranges.own
+              (active_on z s.words words' role role' same_ranges d.upper.number) marks) same_begun
+              (f.lone id d.upper first few u.is_pass)));
           each_seat =
               all_seats (Knows z r.made words' role' (set (map upper_of s.views) id u') next)
               (map upper_of s.views) id u' own_knows (λ j v ne here. (others_know j v ne here).0);

@@ -18,7 +18,7 @@ use Rattle.ca_rows.specs.declared.view.View.{View}
 use Rattle.ca_rows.proofs.OwnWords.{own_is}
 use Rattle.ca_runs.specs.Runs.{range_of}
 use Rattle.ca_runs.proofs.Keeping.{of_run}
-use Rattle.ca_node.specs.LoneStays.{same_kept}
+use Rattle.ca_node.specs.LoneStays.{same_kept, same_active}
 use Rattle.ca_node.specs.Endings.{active_word, decided_word, IsHelping, over_up_to, without, helped, too_late, IsHelpStep, Helps, HasHelped}
 use Rattle.ca_node.specs.Laws.{noted_alike}
 use Rattle.ca_node.specs.Layout.{sequence_unit}
@@ -36,7 +36,7 @@ use Rattle.ca_node.proofs.Copying.{one_active}
 use Rattle.ca_node.proofs.Deciding.{ends_step}
 use Rattle.ca_node.proofs.Ended.{IsEnd, not_active, began, over_then, true_then, sequence_then, ranging_then}
 use Rattle.ca_node.proofs.Looking.{R, knows_upper, knows_ranges, starts_shorter, in_more}
-use Rattle.ca_node.proofs.OwnWord.{result_here, border_stays, run_before, noted_same, knows_then}
+use Rattle.ca_node.proofs.OwnWord.{else_then, result_here, border_stays, run_before, noted_same, knows_then}
 use Rattle.ca_node.proofs.Runs.{run, run_trues, run_bases, run_shown, on_chain}
 
 -- A range that was begun and isn't active is over, and so are those before.
@@ -262,7 +262,9 @@ module _ (z : Sizes) (s : State (Unit {0}) (View TreeView)) (r : R z s) (id : �
         k.ending.is_pass (same_kept me.0.upper.ranges.own) refl refl (ap (λ b. (without b me.0.upper.inventory, me.0.upper.splits, me.0.upper.renewal.count)) (sym border_same))
         (λ row n. inl (noted_same z s r pass word' begun.0 begun.1 id me.0 at own_run_before row
         (noted_alike words' me.0.upper u' (λ x i. i) (λ x i. i) (λ x i. i) (λ x i. i) (λ x i. i) row n)))
-        own_knows own_ranging_now (λ _. refl)
+        own_knows own_ranging_now (λ _. refl) refl
+        (same_active s.words words' me.0.upper.number me.0.upper.ranges.own
+        (λ n now. else_then z s r pass word' begun.0 begun.1 me.0.upper.number n (λ e. k.other (sym e)) now))
         (λ j y ne here row o. dite (ℕ_discrete y.upper.number pass)
         (λ e. inr (run_mine j y here e row o))
         (λ other. inl (run_before z s r pass word' begun.0 begun.1 j y here other row o)))

@@ -27,7 +27,7 @@ use Rattle.ca_node.specs.States.{IsAlone}
 use Rattle.ca_node.specs.LoneStays.{none_by_quiet}
 use Rattle.ca_node.specs.Shape.{Route}
 use Rattle.ca_node.specs.Told.{MyTree}
-use Rattle.ca_node.specs.TreeView.{Note, Way, Attempt, Finished, KnownJoins, Joining, TreeView, one_tried}
+use Rattle.ca_node.specs.TreeView.{Note, Way, Attempt, Finished, KnownJoins, Marking, Joining, TreeView, one_tried}
 use Rattle.ca_node.proofs.JoinEnds.{is_route, same_joining}
 use Rattle.ca_node.proofs.JoinTurns.{begun_goes_on}
 use Rattle.ca_node.proofs.JoinWord.{join_else, join_here, child_stays, joining_then, join_step}
@@ -98,8 +98,8 @@ module _ (z : Sizes) (s : State (Unit {0}) (View TreeView)) (r : R z s) (id : �
 
   module _ (k : IsBeginning me x) where
     -- No attempt of a route of the tree was under way, if the pass is the only one; now its own is.
-    lone_then : r.made ≤ 1 → 0 < me.0.upper.number → IsLone (set s.words (row_words * x.route + 3) (4 * x.number + 1)) r.above.role (Joining x) me.0.upper.ways
-        (x ∷ me.0.upper.ranges.joins.begun)
+    lone_then : r.made ≤ 1 → 0 < me.0.upper.number → IsLone (set s.words (row_words * x.route + 3) (4 * x.number + 1)) r.above.role
+        me.0.upper.number (Joining x) me.0.upper.ways (x ∷ me.0.upper.ranges.joins.begun)
     lone_then few pass = let l = r.above.lone id me.0.upper first few pass in let none = none_by_quiet me.0.upper.ranges.own k.quiet in record {
       prepared = λ t p key' attempt e now. dite (ℕ_discrete t x.route)
           (λ (w : t ≡ x.route). let there : join_of words' t ≡ 4 * x.number + 1 = ap (join_of words') w ∙ here in
@@ -117,6 +117,7 @@ module _ (z : Sizes) (s : State (Unit {0}) (View TreeView)) (r : R z s) (id : �
           (λ (o : IsIn y me.0.upper.ranges.joins.begun). let t = l.latest y o in
           subst (λ w. IsOfTree r.above.role y.route × IsIn (attempt_of y.route (w / 4)) (x ∷ me.0.upper.ranges.joins.begun)) (sym (same y.route ne))
           (t.0, (suc t.1.0, t.1.1))) (in_more x y me.0.upper.ranges.joins.begun i));
+      active = λ range border mine. let c : Joining x ≡ Marking range border = mine in absurd cc;
     }
 
     turn : TurnsOwn me.0.upper.ranges.own (Joining x)

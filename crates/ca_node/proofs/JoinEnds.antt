@@ -30,7 +30,7 @@ use Rattle.ca_node.specs.May.{MaySwap}
 use Rattle.ca_node.specs.Told.{MyTree}
 use Rattle.ca_node.specs.TreeView.{Note, Way, Attempt, Finished, Ranging, Quiet, Unmarked, Marking, Left, Joining, Secured, KnownJoins, Turns, Tries, TreeView, one_helped, one_overtaken}
 use Rattle.ca_node.proofs.JoinTurns.{aborted_goes_on, secured_goes_on}
-use Rattle.ca_node.proofs.JoinWord.{join_else, join_here, child_stays, joining_then, join_step}
+use Rattle.ca_node.proofs.JoinWord.{join_else, join_here, active_then, child_stays, joining_then, join_step}
 use Rattle.ca_node.proofs.Lone.{no_other}
 use Rattle.ca_node.proofs.Looking.{R, knows_upper, knows_ranges, in_more}
 use Rattle.ca_node.proofs.OwnTurns.{TurnsOwn, IsRangeless, so_turned, marking_back}
@@ -193,9 +193,9 @@ module _ (z : Sizes) (s : State (Unit {0}) (View TreeView)) (r : R z s) (id : �
         let was : join_of s.words t ≡ 4 * x.number + 1 = ap (join_of s.words) w ∙ hit in
         omega (arith, now, was)) (λ (ne : t ≢ x.route). ap (λ n. n / 4) (same t ne))
 
-    lone_now : me.0.upper.ranges.own ≢ Joining x → IsLone s.words r.above.role me.0.upper.ranges.own
-        me.0.upper.ways me.0.upper.ranges.joins.begun
-        → IsLone words' r.above.role me.0.upper.ranges.own me.0.upper.ways
+    lone_now : me.0.upper.ranges.own ≢ Joining x → IsLone s.words r.above.role me.0.upper.number
+        me.0.upper.ranges.own me.0.upper.ways me.0.upper.ranges.joins.begun
+        → IsLone words' r.above.role me.0.upper.number me.0.upper.ranges.own me.0.upper.ways
         me.0.upper.ranges.joins.begun
     lone_now other l = record {
       prepared = λ t p k attempt e now. l.prepared t p k attempt e
@@ -212,11 +212,13 @@ module _ (z : Sizes) (s : State (Unit {0}) (View TreeView)) (r : R z s) (id : �
       latest = λ y i. subst (λ n. IsOfTree role y.route
           × IsIn (attempt_of y.route n) u.ranges.joins.begun) (sym (last_same y.route))
           (l.latest y i);
+      active = λ range border mine. active_then z s r x.route place key spot (4 * x.number)
+          me.0.upper.number range.number (l.active range border mine);
     }
 
     else_now : 0 < me.0.upper.number → (j : ℕ) (v : TreeView) → j ≢ id
         → get_elem? (map upper_of s.views) j ≡ some v → r.made ≤ 1 → 0 < v.number
-        → IsLone words' r.above.role v.ranges.own v.ways v.ranges.joins.begun
+        → IsLone words' r.above.role v.number v.ranges.own v.ways v.ranges.joins.begun
     else_now is_pass j v ne here' few pass = absurd
         (no_other z r.made s.words r.above.role (map upper_of s.views) r.above.history
         r.above.each_seat id u first
@@ -241,7 +243,8 @@ module _ (z : Sizes) (s : State (Unit {0}) (View TreeView)) (r : R z s) (id : �
     -- pass.
     module _ (is_pass : 0 < me.0.upper.number) (own : me.0.upper.ranges.own ≡ Joining x) where
       lone_left : r.made ≤ 1 → 0 < me.0.upper.number
-          → IsLone words' r.above.role Quiet me.0.upper.ways me.0.upper.ranges.joins.begun
+          → IsLone words' r.above.role me.0.upper.number Quiet me.0.upper.ways
+          me.0.upper.ranges.joins.begun
       lone_left few pass = let l = r.above.lone id u first few pass in record {
         prepared = λ t p k attempt e now. let b = (before_it t attempt (inl now)).1 in
             absurd (b (sym (ap (λ (y : Attempt). y.route)
@@ -255,6 +258,7 @@ module _ (z : Sizes) (s : State (Unit {0}) (View TreeView)) (r : R z s) (id : �
         latest = λ y i. subst (λ n. IsOfTree role y.route
             × IsIn (attempt_of y.route n) u.ranges.joins.begun) (sym (last_same y.route))
             (l.latest y i);
+        active = λ range border mine. let c : Quiet ≡ Marking range border = mine in absurd cc;
       }
 
       pub leave_step : R z record {
@@ -330,8 +334,8 @@ module _ (z : Sizes) (s : State (Unit {0}) (View TreeView)) (r : R z s) (id : �
 
     -- If the pass is the only one, no other attempt is under way.
     lone_too : r.made ≤ 1 → 0 < me.0.upper.number
-        → IsLone (set s.words (row_words * x.route + 3) (4 * x.number + 2)) r.above.role (Secured x)
-        me.0.upper.ways
+        → IsLone (set s.words (row_words * x.route + 3) (4 * x.number + 2)) r.above.role
+        me.0.upper.number (Secured x) me.0.upper.ways
         me.0.upper.ranges.joins.begun
     lone_too few pass = let l = r.above.lone id u first few pass in record {
       prepared = λ t p key' attempt e now. dite (ℕ_discrete t x.route)
@@ -358,6 +362,7 @@ module _ (z : Sizes) (s : State (Unit {0}) (View TreeView)) (r : R z s) (id : �
           (λ (ne : y.route ≢ x.route). ap (λ n. n / 4) (same_too y.route ne)) in
           subst (λ n. IsOfTree role y.route × IsIn (attempt_of y.route n) u.ranges.joins.begun)
           (sym last) (l.latest y i);
+      active = λ range border mine. let c : Secured x ≡ Marking range border = mine in absurd cc;
     }
 
     -- So the whole rule holds again.
@@ -381,9 +386,9 @@ module _ (z : Sizes) (s : State (Unit {0}) (View TreeView)) (r : R z s) (id : �
   -- its own operation is so far.
   pub late_step : (turns : Turns) (tries : Tries) (own' : Ranging)
       → TurnsOwn me.0.upper.ranges.own own'
-      → (r.made ≤ 1 → 0 < me.0.upper.number → IsLone s.words r.above.role me.0.upper.ranges.own
-      me.0.upper.ways me.0.upper.ranges.joins.begun
-      → IsLone s.words r.above.role own' me.0.upper.ways me.0.upper.ranges.joins.begun)
+      → (r.made ≤ 1 → 0 < me.0.upper.number → IsLone s.words r.above.role me.0.upper.number
+      me.0.upper.ranges.own me.0.upper.ways me.0.upper.ranges.joins.begun
+      → IsLone s.words r.above.role me.0.upper.number own' me.0.upper.ways me.0.upper.ranges.joins.begun)
       → HasAttempt s.words x.route x.number → ¬ IsPrepared s.words x.route x.number → (i : ℕ)
       → R z record {
         words = set s.words i (get_or s.words i 0);

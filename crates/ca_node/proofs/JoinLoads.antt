@@ -80,7 +80,8 @@ module _ (z : Sizes) where
       let here_word : join_of s.words way.row ≡ n = ap (join_of s.words) known.2 ∙ same in
       let state = state_now z s.words f.role d.upper.since f.history way true_way f.joined in
       let ranging = f.ranged.each id d.upper first in
-      let lone : d.sizes.passes ≤ 1 → 0 < d.upper.number → IsLone s.words f.role d.upper.ranges.own d.upper.ways d.upper.ranges.joins.begun = λ few pass.
+      let lone : d.sizes.passes ≤ 1 → 0 < d.upper.number
+      → IsLone s.words f.role d.upper.number d.upper.ranges.own d.upper.ways d.upper.ranges.joins.begun = λ few pass.
       let one : z.passes ≤ 1 = subst (λ (y : Sizes). y.passes ≤ 1) sized few in let within = r.within in f.lone id d.upper first (omega (arith, one, within)) pass in
       let u' : TreeView = with_joins d.upper (joins_loaded route n d.upper.ranges.joins) in
       let told : LoadsJoin (step slots word_at 0 0 none) me n (with_upper me u') = (
@@ -125,6 +126,7 @@ module _ (z : Sizes) where
                   ))
                   (λ (o : IsIn x d.upper.ranges.joins.begun). let t = l.latest x o in (t.0, (suc t.1.0, t.1.1)))
                   (in_more (attempt_of route (n / 4)) x d.upper.ranges.joins.begun i);
+              active = l.active;
             }) record {
               over = ranging.over;
               borders = ranging.borders;

@@ -230,7 +230,8 @@ module _ (z : Sizes) (s : State (Unit {0}) (View TreeView)) (r : R z s) (id : �
     exchange_step z s r id me at new (update_of x) ex hit over free r.above.history mark bounded has_now others_have [] serve once new_end u'
         (own_notes z s r id me at new (update_of x) ex hit over free r.above.history mark bounded has_now others_have [] serve once new_end u'
         refl refl (λ border i. inl i) (λ row o. o) refl)
-        me.0.upper.renewal.count refl (inl (omega arith)) (same_kept me.0.upper.ranges.own) refl refl f.edits f.by_passes runs_now own_knows own_ranging others_know,
+        me.0.upper.renewal.count refl (inl (omega arith))
+        (same_kept me.0.upper.ranges.own) (λ _ _ same. inl same) refl refl refl f.edits f.by_passes runs_now own_knows own_ranging others_know,
     record {
       now = refl;
       unclaimed = unclaimed_row z s r id me.0 at x.old.row

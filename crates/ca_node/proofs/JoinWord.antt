@@ -79,6 +79,11 @@ module _ (z : Sizes) (s : State (Unit {0}) (View TreeView)) (r : R z s) (route :
   same_ranges pass lo hi = let w = f.shape.wide in let most = at_route.in_range in
       result_else s.words (row_words * route + 3) word' pass (λ e. omega arith)
 
+  -- A range that was active is so.
+  pub active_then : (pass number : ℕ) → IsActive s.words pass number
+      → IsActive (set s.words (row_words * route + 3) word') pass number
+  active_then = active_on z s.words words' role role same_ranges
+
   same_told : (pass : ℕ) → 0 < pass → pass ≤ 64 → announced words' pass ≡ announced s.words pass
   same_told pass lo hi = let w = f.shape.wide in let most = at_route.in_range in
       announced_else s.words (row_words * route + 3) word' pass (λ e. omega arith)
@@ -424,11 +429,11 @@ module _ (z : Sizes) (s : State (Unit {0}) (View TreeView)) (r : R z s) (route :
         d.upper.ways joining)
         (own' : Ranging) (turn : TurnsOwn d.upper.ranges.own own')
         (lone' : r.made ≤ 1 → 0 < d.upper.number → IsLone
-        (set s.words (row_words * route + 3) word') r.above.role own' d.upper.ways
+        (set s.words (row_words * route + 3) word') r.above.role d.upper.number own' d.upper.ways
         joining.begun)
         (lone_else : (j : ℕ) (v : TreeView) → j ≢ id → get_elem? (map upper_of s.views) j ≡ some v
         → r.made ≤ 1 → 0 < v.number
-        → IsLone (set s.words (row_words * route + 3) word') r.above.role v.ranges.own v.ways
+        → IsLone (set s.words (row_words * route + 3) word') r.above.role v.number v.ranges.own v.ways
         v.ranges.joins.begun) where
       abbrev u' : TreeView
       u' = record d.upper {
@@ -523,8 +528,8 @@ module _ (z : Sizes) (s : State (Unit {0}) (View TreeView)) (r : R z s) (route :
         };
         joined = joined';
         lone = all_seats (λ j v. r.made ≤ 1 → 0 < v.number
-            → IsLone words' role v.ranges.own v.ways v.ranges.joins.begun) (map upper_of s.views) id
-            u' lone' lone_else;
+            → IsLone words' role v.number v.ranges.own v.ways v.ranges.joins.begun) (map upper_of s.views)
+            id u' lone' lone_else;
         each_seat = all_seats
             (Knows z r.made words' role (set (map upper_of s.views) id u') f.history)
             (map upper_of s.views) id u' own_knows (λ j v n here. still j v here);

@@ -1,3 +1,4 @@
+mod BehindOwn
 mod ChainLength
 pub mod Copying
 pub mod Covering

@@ -10,13 +10,14 @@ use Rattle.ca_rows.specs.declared.sizes.Sizes.{Sizes}
 use Rattle.ca_rows.specs.declared.view.View.{View}
 use Rattle.ca_rows.specs.Calls.{Raises}
 use Rattle.ca_rows.specs.Rule.{upper_of}
-use Rattle.ca_node.specs.LoneStays.{same_kept, lone_same}
+use Rattle.ca_node.specs.LoneStays.{same_kept, same_active, lone_same}
 use Rattle.ca_node.specs.Attempts.{HasAttempt, IsSecured}
 use Rattle.ca_node.specs.Inventory.{HasFewRows, IsListed}
 use Rattle.ca_node.specs.Joining.{AreJoining, IsHung}
 use Rattle.ca_node.specs.JoinsStay.{mark_hangs, joining_noted, joining_further}
 use Rattle.ca_node.specs.Laws.{numbered, relisted, seat_changed, starts_whole}
 use Rattle.ca_node.specs.Links.{IsIn, IsUnder, IsLinked, IsNoted, by_link, by_link_item}
+use Rattle.ca_node.specs.Lone.{IsBehindOwn}
 use Rattle.ca_node.specs.Marks.{IsMarkedUnder, AreJoined}
 use Rattle.ca_node.specs.May.{MayLoad}
 use Rattle.ca_node.specs.Notes.{IsBaseNote}
@@ -29,6 +30,7 @@ use Rattle.ca_node.specs.Told.{MyTree, with_upper, IsRouteNote, IsKnown, IsAnyLi
 use Rattle.ca_node.specs.Tree.{StartsWith, ArePast, IsAlive, IsDead, IsLinkOfView, IsTrue, IsTrueWay, Knows, IsTree}
 use Rattle.ca_node.specs.TreeView.{Note, Way, Attempt, Inventory, TreeView}
 use Rattle.ca_rows.specs.Layout.{row_words}
+use Rattle.ca_node.proofs.BehindOwn.{behind_own}
 use Rattle.ca_node.proofs.Logs.{last_state}
 use Rattle.ca_node.proofs.Looking.{R, looked, knows_upper, in_more, new_note, new_way, row_note, in_turn, starts_shorter, base_true, base_is, base_has, left_true, left_is, route_way, there, way_true, way_alike, route_is, IsLeftLink, known_leads, link_of_view, place_known, whole, since_whole, past_whole, known_now}
 
@@ -158,6 +160,7 @@ module _ (z : Sizes) (s : State (Unit {0}) (View TreeView)) (r : R z s) (id : �
     listed : IsAlone z u → IsListed u.inventory (note level)
     shallow : IsAlone z u → level ≤ u.splits
     few_rows : IsAlone z u → HasFewRows u
+    behind : IsAlone z u → IsBehindOwn u (note level)
 
   module _ (level : ℕ) (b : IsShownBase level) where
     abbrev with_base : TreeView
@@ -222,6 +225,7 @@ module _ (z : Sizes) (s : State (Unit {0}) (View TreeView)) (r : R z s) (id : �
       listed = λ _. sized (λ y. IsAlone y u → IsListed u.inventory (note level)) b.listed;
       shallow = λ _. sized (λ y. IsAlone y u → level ≤ u.splits) b.shallow;
       few_rows = λ _. sized (λ y. IsAlone y u → HasFewRows u) b.few_rows;
+      behind = λ _. sized (λ y. IsAlone y u → IsBehindOwn u (note level)) b.behind;
       alike = λ old i same. sym (k.notes old i).spells ∙ ap (row_at s.words) same;
     }
 
@@ -267,7 +271,10 @@ module _ (z : Sizes) (s : State (Unit {0}) (View TreeView)) (r : R z s) (id : �
         shallow = λ alone. let one = alone.0 in let within = r.within in
             (f.only_one id u first (omega arith) alone.1).shallow c (spot level) is;
         few_rows = λ alone. let one = alone.0 in let within = r.within in
-            let most = (f.only_one id u first (omega arith) alone.1).rows in omega arith;
+            let own = f.only_one id u first (omega arith) alone.1 in
+            let most = own.rows in let bases = own.few in (omega arith, omega arith);
+        behind = λ alone. let one = alone.0 in let within = r.within in
+            behind_own z r.made s.words us f id u first (omega arith) alone.1 c (spot level) is;
       }
 
   -- It names a base that was left over: the seat remembers the route, and so has a note on the base
@@ -305,6 +312,7 @@ module _ (z : Sizes) (s : State (Unit {0}) (View TreeView)) (r : R z s) (id : �
         listed = λ alone. absurd (not_alone alone);
         shallow = λ alone. absurd (not_alone alone);
         few_rows = λ alone. absurd (not_alone alone);
+        behind = λ alone. absurd (not_alone alone);
       }
 
   -- It names a route.
@@ -360,11 +368,12 @@ module _ (z : Sizes) (s : State (Unit {0}) (View TreeView)) (r : R z s) (id : �
         (ap place_of is))
         (there z r.made s.words us f c (spot level) key is).is_route row m))
         (seat_changed z r.made s.words us id u with_route f first (λ _. refl) (λ _. refl)
-        (λ _ _ l. lone_same s.words f.role u.ranges.own u.ranges.own u.ways (way ∷ u.ways)
+        (λ _ _ l. lone_same s.words f.role u.number u.ranges.own u.ranges.own u.ways (way ∷ u.ways)
         u.ranges.joins.begun u.ranges.joins.begun
         (λ w i. ⊎_elim (λ (e : way ≡ w). inr (subst (IsAlive f.role) e alive_now))
         (λ (o : IsIn w u.ways). inl o) (in_more way w u.ways i))
-        (same_kept u.ranges.own) (inl refl) l) record {
+        (same_kept u.ranges.own)
+        (same_active s.words s.words u.number u.ranges.own (λ _ now. now)) (inl refl) l) record {
           made_before = k'.made_before;
           alone = k'.alone;
           seen_first = subst (StartsWith f.history) (whole z s r id me at) (starts_whole f.history);

@@ -106,8 +106,9 @@ module _ (z : Sizes) (s : State (Unit {0}) (View TreeView)) (r : R z s) (i id : 
   pub knows_ranges : IsJoining s.words d.upper.notes d.upper.ways ranges.joins
       → ((row : ℕ) → IsNoted s.words (record d.upper { ranges = ranges; turns = turns; tries = tries }) row
       → IsNoted s.words d.upper row ⊎ (IsLinked s.words row × (d.pin.pinned ≡ true)))
-      → (r.made ≤ 1 → 0 < d.upper.number → IsLone s.words r.above.role d.upper.ranges.own d.upper.ways d.upper.ranges.joins.begun
-      → IsLone s.words r.above.role ranges.own d.upper.ways ranges.joins.begun)
+      → (r.made ≤ 1 → 0 < d.upper.number
+      → IsLone s.words r.above.role d.upper.number d.upper.ranges.own d.upper.ways d.upper.ranges.joins.begun
+      → IsLone s.words r.above.role d.upper.number ranges.own d.upper.ways ranges.joins.begun)
       → IsRanging z s.words r.above.role (r.above.ranged.ends d.upper.number) d.upper.since
       r.above.history d.upper.number ranges
       → R z record {

@@ -19,7 +19,7 @@ use Rattle.ca_rows.specs.declared.view.Claim.TheVariants.{Holds}
 use Rattle.ca_rows.specs.declared.view.View.{View}
 use Rattle.ca_runs.specs.Runs.{AreNeighbours, BeginsBefore, Span}
 use Rattle.ca_runs.specs.Scenes.{IsFirst, IsNext}
-use Rattle.ca_node.specs.LoneStays.{KeepsOwn, same_kept, none_kept, none_by_unmarked, none_by_marking}
+use Rattle.ca_node.specs.LoneStays.{KeepsOwn, MarksActive, same_kept, none_kept, none_by_unmarked, none_by_marking}
 use Rattle.ca_node.specs.Copies.{Copy, update_of, IsCopy, IsFirstCopy, IsNextCopy, copied, IsCopied, Copies, HasCopied, marking_now}
 use Rattle.ca_node.specs.Inventory.{AreOnce, row_itself, IsLentFirst}
 use Rattle.ca_node.specs.Layout.{sequence_unit}
@@ -34,7 +34,7 @@ use Rattle.ca_node.specs.Scenes.{IsBase, span_of, scene_of}
 use Rattle.ca_node.specs.Shape.{Role, Base, place_of}
 use Rattle.ca_node.specs.Told.{MyTree, IsLastThere, one_more_lost, IsMissed, taken_out, given, lent_out}
 use Rattle.ca_node.specs.Tree.{IsTrue}
-use Rattle.ca_node.specs.TreeView.{Note, Border, Begun, KnownRanges, TreeView}
+use Rattle.ca_node.specs.TreeView.{Note, Border, Begun, Marking, KnownRanges, TreeView}
 use Rattle.ca_node.proofs.Copying.{one_active, ex, over, free, knows, new_words, serve_linked, ranging_still, run_keeps, copy_step, copied_now}
 use Rattle.ca_node.proofs.Exchanging.{own_ranging, is_old, new_row, ins_once}
 use Rattle.ca_node.proofs.Holding.{held_row}
@@ -46,6 +46,10 @@ use Rattle.ca_node.proofs.Relinked.{relinked_ranges, relinked_border}
 -- A range that is active was begun.
 active_begun : (words : List ℕ) (pass number : ℕ) → IsActive words pass number → HasBegun words pass number
 active_begun words pass number now = let here = now.2 in (now.0, now.1, omega arith)
+
+-- A range that marks is one.
+same_range : (a b : Begun) (to to' : Border) → Marking a to ≡ Marking b to' → a ≡ b
+same_range a b to to' e = cc
 
 module _ (z : Sizes) (s : State (Unit {0}) (View TreeView)) (r : R z s) (id : ℕ) (me : MyTree)
     (at : get_elem? s.views id ≡ some me.0) (new : ℕ) (x : Copy) (c : IsCopy z me new x)
@@ -232,6 +236,10 @@ module _ (z : Sizes) (s : State (Unit {0}) (View TreeView)) (r : R z s) (id : �
     keeps_own = none_kept me.0.upper.ranges.own (marking_now me.0.upper.ranges begun its).own (none_by_unmarked me.0.upper.ranges.own begun k.own)
         (none_by_marking (marking_now me.0.upper.ranges begun its).own begun (record { row = begun.top; its = its }) refl)
 
+    -- The range that marks something is active.
+    marks_own : MarksActive s.words me.0.upper.number me.0.upper.ranges.own (marking_now me.0.upper.ranges begun its).own
+    marks_own range border is = inr (subst (λ (b : Begun). IsActive s.words me.0.upper.number b.number) (same_range begun range _ border is) so.0.0)
+
     -- No row is lent to a range where the pass is the only one: its own is the one that is active, and marked nothing yet.
     counted : IsLentFirst s.words r.made served (0 + me.0.upper.renewal.count) me.0.upper.renewal.count
     counted = record {
@@ -257,9 +265,9 @@ module _ (z : Sizes) (s : State (Unit {0}) (View TreeView)) (r : R z s) (id : �
         × IsCopied served (marking_now me.0.upper.ranges begun its) new x me (first_view, me.1)
     first_copied = (
       copy_step z s r id me at new x c hit has_begun bounded served serve served_once new_end
-          (marking_now me.0.upper.ranges begun its) fits own_now unmarked borders run refl refl keeps_own (inr counted),
+          (marking_now me.0.upper.ranges begun its) fits own_now unmarked borders run refl refl keeps_own marks_own (inr counted),
       copied_now z s r id me at new x c hit has_begun bounded served serve served_once new_end
-          (marking_now me.0.upper.ranges begun its) fits own_now unmarked borders run refl refl keeps_own (inr counted),
+          (marking_now me.0.upper.ranges begun its) fits own_now unmarked borders run refl refl keeps_own marks_own (inr counted),
     )
 
   -- The next base behind one that the range marked.
@@ -348,10 +356,10 @@ module _ (z : Sizes) (s : State (Unit {0}) (View TreeView)) (r : R z s) (id : �
     next_copied = (
       copy_step z s r id me at new x c hit was_begun bounded_too [] serves_none once new_end_too
           me.0.upper.ranges fits_next own_still (λ j y _ here. none_before j y here) (λ b i. inl i) (λ row o. o) refl refl (same_kept me.0.upper.ranges.own)
-          (inl (omega arith)),
+          (λ _ _ same. inl same) (inl (omega arith)),
       copied_now z s r id me at new x c hit was_begun bounded_too [] serves_none once new_end_too
           me.0.upper.ranges fits_next own_still (λ j y _ here. none_before j y here) (λ b i. inl i) (λ row o. o) refl refl (same_kept me.0.upper.ranges.own)
-          (inl (omega arith)),
+          (λ _ _ same. inl same) (inl (omega arith)),
     )
 
 module _ (z : Sizes) where

@@ -1,5 +1,5 @@
 -- The exchange by which a pass decides its own range, and the one by which it gives it up.
-use Rattle.std.proofs.Common.{◌≡◌, ◌≢◌, ℕ, ◌+◌, ◌*◌, ◌/◌, ◌%◌, ◌<◌, ◌≤◌, Bool, eqb, List, ◌++◌, length, map, get_or, set, sym, refl, ap, ◌∙◌, subst, inl, inr, ⊎_elim, arith, eq-eqb, ne_eqb}
+use Rattle.std.proofs.Common.{◌≡◌, ◌≢◌, ℕ, ◌+◌, ◌*◌, ◌/◌, ◌%◌, ◌<◌, ◌≤◌, Bool, true, false, eqb, List, ◌++◌, length, map, get_or, set, sym, refl, ap, ◌∙◌, subst, inl, inr, ⊎_elim, arith, eq-eqb, ne_eqb}
 use mathlib.Core.Logic.{dite}
 use mathlib.Core.Option.{some, none}
 use native.Mathlib.Decide.{ℕ_discrete}
@@ -18,19 +18,20 @@ use Rattle.ca_rows.specs.declared.sizes.Sizes.{Sizes}
 use Rattle.ca_rows.specs.declared.view.View.{View}
 use Rattle.ca_rows.proofs.OwnWords.{own_is}
 use Rattle.ca_runs.specs.Runs.{BeginsBefore}
-use Rattle.ca_node.specs.LoneStays.{none_kept, none_by_marking, none_by_quiet, lone_same}
+use Rattle.ca_node.specs.LoneStays.{none_kept, none_by_marking, none_by_quiet, quiet_active, lone_same}
 use Rattle.ca_node.specs.Endings.{active_word, decided_word, over_up_to, without}
 use Rattle.ca_node.specs.Laws.{noted_alike, starts_whole}
 use Rattle.ca_node.specs.Layout.{sequence_unit}
 use Rattle.ca_node.specs.Links.{IsIn, IsActive, IsLinked, IsOnChain, IsOfOwnRun}
 use Rattle.ca_node.specs.May.{MaySwap}
 use Rattle.ca_node.specs.Notes.{IsBaseNote}
-use Rattle.ca_node.specs.OwnRanges.{ended_with_run, IsOwnEnding, IsOwnDecided, own_over, DecidesOwn, HasDecidedOwn, IsGivingUp, given_up, aborted, Aborts, HasAborted}
+use Rattle.ca_node.specs.OwnRanges.{ended_with_run, IsOwnEnding, IsOwnDecided, own_over, DecidesOwn, HasDecidedOwn, IsGivingUp, IsOvertaken, given_up, aborted, Aborts, HasAborted}
 use Rattle.ca_node.specs.Ranging.{IsOver, IsSomeMarked, objects_of, IsRunShown}
 use Rattle.ca_node.specs.Reached.{placed_linked, item_linked}
 use Rattle.ca_node.specs.Row.{row_at, IsBaseRow, items, IsMarkedBy}
 use Rattle.ca_node.specs.Scenes.{IsBase, span_of}
 use Rattle.ca_node.specs.Shape.{Role, Base, place_of}
+use Rattle.ca_node.specs.States.{IsAlone}
 use Rattle.ca_node.specs.Told.{MyTree, IsKnown, status_word}
 use Rattle.ca_node.specs.Tree.{StartsWith, ArePast, IsTrue, IsTree}
 use Rattle.ca_node.specs.TreeView.{Note, Border, Begun, Quiet, Marking, TreeView}
@@ -216,6 +217,13 @@ module _ (z : Sizes) (s : State (Unit {0}) (View TreeView)) (r : R z s) (id : �
           refl refl);
     }
 
+  -- That another one ended it a pass that is alone never finds.
+  pub overtaken : 0 < me.0.upper.number → me.0.upper.ranges.own ≡ Marking begun border
+      → result_of s.words me.0.upper.number ≢ active_word begun.number → IsOvertaken me
+  overtaken is_pass own miss = sized z s r id me at (λ y. ¬ IsAlone y me.0.upper)
+      (λ (alone : IsAlone z me.0.upper). let one = alone.0 in let within = r.within in
+      miss ((f.lone id me.0.upper first (omega arith) is_pass).active begun border own).2)
+
   -- Another one had decided it, and the seat learns that.
   pub lost_step : (k : (last : Note) × IsOwnEnding me begun border last)
       → result_of s.words me.0.upper.number ≢ active_word begun.number → (i : ℕ)
@@ -292,12 +300,12 @@ module _ (z : Sizes) (s : State (Unit {0}) (View TreeView)) (r : R z s) (id : �
         (knows_upper z s r id me.0 at).joining
         (λ row n. inl (noted_alike s.words me.0.upper u' (λ x m. m) (λ x m. m) (λ x m. m)
         (λ c o. (let e : Quiet ≡ Marking o.2.0 o.2.1 = o.2.2 in absurd cc)) (λ x m. m) row n))
-        (λ _ _ l. lone_same s.words f.role me.0.upper.ranges.own Quiet me.0.upper.ways
+        (λ _ _ l. lone_same s.words f.role me.0.upper.number me.0.upper.ranges.own Quiet me.0.upper.ways
         me.0.upper.ways me.0.upper.ranges.joins.begun
         me.0.upper.ranges.joins.begun (λ w i. inl i)
         (none_kept me.0.upper.ranges.own Quiet
         (none_by_marking me.0.upper.ranges.own begun border k.own) (none_by_quiet Quiet refl))
-        (inl refl) l) record {
+        (quiet_active s.words s.words me.0.upper.number me.0.upper.ranges.own) (inl refl) l) record {
           over = λ x m. ⊎_elim (λ (e : over_up_to pass begun.number ≡ x). subst (IsOver s.words) e
               (over_else z s r id me at k.is_pinned k.is_pass begun border k.own miss))
               (λ o. known.over x o)
@@ -369,7 +377,7 @@ module _ (z : Sizes) where
       let told : DecidesOwn begun border last
       (step slots word_at (active_word begun.number) (decided_word begun.number last.row) none)
       me n (late, me.1) =
-      ((λ hit. absurd (miss hit)), λ _. refl) in (
+      ((λ hit. absurd (miss hit)), λ _. (refl, overtaken z s r id me at begun border k.is_pass k.own (λ e. miss (sym same ∙ e)))) in (
         late,
         keeps,
         tt,
@@ -430,7 +438,7 @@ module _ (z : Sizes) where
       let told : Aborts begun border
       (step slots word_at (active_word begun.number) (sequence_unit * begun.number) none) me n
       (late, me.1) =
-      ((λ hit. absurd (miss hit)), λ _. refl) in (
+      ((λ hit. absurd (miss hit)), λ _. (refl, overtaken z s r id me at begun border k.is_pass k.own (λ e. miss (sym same ∙ e)))) in (
         late,
         keeps,
         tt,
@@ -457,7 +465,7 @@ has_decided n slots word_at new begun border last m m' told =
     (λ hit. subst (λ (b : Bool). HasDecidedOwn b begun border last m m')
     (sym (eq-eqb n (active_word begun.number) hit)) (told.0 hit))
     (λ miss. subst (λ (b : Bool). HasDecidedOwn b begun border last m m')
-    (sym (ne_eqb n (active_word begun.number) miss)) (told.1 miss))
+    (sym (ne_eqb n (active_word begun.number) miss)) (told.1 miss).0)
 
 pub has_aborted : (n slots word_at new : ℕ) (begun : Begun) (border : Border) (m m' : MyTree)
     → Aborts begun border (step slots word_at (active_word begun.number) new none) m n m'
@@ -467,4 +475,18 @@ has_aborted n slots word_at new begun border m m' told =
     (λ hit. subst (λ (b : Bool). HasAborted b begun border m m')
     (sym (eq-eqb n (active_word begun.number) hit)) (told.0 hit))
     (λ miss. subst (λ (b : Bool). HasAborted b begun border m m')
-    (sym (ne_eqb n (active_word begun.number) miss)) (told.1 miss))
+    (sym (ne_eqb n (active_word begun.number) miss)) (told.1 miss).0)
+
+-- Neither is lost where the pass is the only one.
+pub lost_deciding : (n slots word_at new : ℕ) (begun : Begun) (border : Border) (last : Note)
+    (m m' : MyTree)
+    → DecidesOwn begun border last (step slots word_at (active_word begun.number) new none) m n m'
+    → eqb n (active_word begun.number) ≡ false → IsOvertaken m
+lost_deciding n slots word_at new begun border last m m' told lost =
+    (told.1 (λ hit. let e : true ≡ false = sym (eq-eqb n (active_word begun.number) hit) ∙ lost in absurd cc)).1
+
+pub lost_aborting : (n slots word_at new : ℕ) (begun : Begun) (border : Border) (m m' : MyTree)
+    → Aborts begun border (step slots word_at (active_word begun.number) new none) m n m'
+    → eqb n (active_word begun.number) ≡ false → IsOvertaken m
+lost_aborting n slots word_at new begun border m m' told lost =
+    (told.1 (λ hit. let e : true ≡ false = sym (eq-eqb n (active_word begun.number) hit) ∙ lost in absurd cc)).1

@@ -12,7 +12,7 @@ use Rattle.ca_rows.specs.declared.sizes.Sizes.{Sizes}
 use Rattle.ca_rows.specs.declared.view.View.{View}
 use Rattle.ca_runs.specs.Runs.{range_of}
 use Rattle.ca_runs.proofs.Keeping.{of_run}
-use Rattle.ca_node.specs.LoneStays.{none_kept, none_by_marking, none_by_quiet}
+use Rattle.ca_node.specs.LoneStays.{none_kept, none_by_marking, none_by_quiet, quiet_active}
 use Rattle.ca_node.specs.Endings.{active_word, over_up_to, without}
 use Rattle.ca_node.specs.Laws.{noted_more}
 use Rattle.ca_node.specs.Links.{IsIn, IsActive, HasBegun, IsLinked, IsOfOwnRun, IsNoted}
@@ -162,7 +162,8 @@ module _ (z : Sizes) (s : State (Unit {0}) (View TreeView)) (r : R z s) (id : 鈩
     }
     end_step = ends_step z s r id me at pass begun.number word' end u' is_pinned is_pass
         (none_kept me.0.upper.ranges.own Quiet (none_by_marking me.0.upper.ranges.own begun border own) (none_by_quiet Quiet refl)) refl refl
-        (ap (位 b. (without b me.0.upper.inventory, me.0.upper.splits, me.0.upper.renewal.count)) top_is) own_notes own_knows own_ranging (位 _. refl)
+        (ap (位 b. (without b me.0.upper.inventory, me.0.upper.splits, me.0.upper.renewal.count)) top_is) own_notes own_knows own_ranging (位 _. refl) refl
+        (quiet_active s.words words' me.0.upper.number me.0.upper.ranges.own)
         (位 j y ne here row o. inl (run_before z s r pass word' is_pass few j y here (other_number j y ne here) row o))
         (位 j y ne here. ranging_then z s r pass begun.number word' end j y.upper
         (at_map upper_of s.views j y here) (other_number j y ne here))

@@ -15,7 +15,7 @@ use Rattle.ca_rows.specs.declared.view.View.{View}
 use Rattle.ca_runs.specs.Runs.{Ends}
 use Rattle.ca_runs.proofs.Marking.{with_at, with_here, with_else}
 use Rattle.ca_runs.proofs.Turning.{begins, ends_one}
-use Rattle.ca_node.specs.LoneStays.{none_kept, none_by_unmarked, none_by_quiet}
+use Rattle.ca_node.specs.LoneStays.{none_kept, none_by_unmarked, none_by_quiet, quiet_active, unmarked_active}
 use Rattle.ca_node.specs.Endings.{active_word, over_up_to}
 use Rattle.ca_node.specs.Laws.{noted_alike}
 use Rattle.ca_node.specs.Layout.{sequence_unit}
@@ -134,6 +134,7 @@ module _ (z : Sizes) (s : State (Unit {0}) (View TreeView)) (r : R z s) (id : 鈩
       views = set s.views id (record me.0 { upper = opened begun me.0.upper });
     }
     open_step = turn_step z s r pass word' k.is_pass sequence.0 rises none_marked fresh id me.0 at refl u' me.0.most (位 _. refl) refl
+        (unmarked_active s.words words' me.0.upper.number me.0.upper.ranges.own begun) refl
         (none_kept me.0.upper.ranges.own (Unmarked begun) (none_by_quiet me.0.upper.ranges.own k.quiet) (none_by_unmarked (Unmarked begun) begun refl)) refl refl
         (with_at f.ranged.ends pass its) (位 p ne. with_else f.ranged.ends pass its p ne)
         (begins (scene_of s.words role) (scene_of words' role) f.ranged.ends pass f.ranged.runs
@@ -220,7 +221,7 @@ module _ (z : Sizes) (s : State (Unit {0}) (View TreeView)) (r : R z s) (id : 鈩
       views = set s.views id (relinked me me.0.claims (given_up begun.number me.0.upper)).0;
     }
     leave_step = turn_step z s r pass idle k.is_pass most falls_not unmarked none_new id me.0 at refl given
-        (max me.0.most (held_count me.0.claims)) (位 _. refl) refl
+        (max me.0.most (held_count me.0.claims)) (位 _. refl) refl (quiet_active s.words left me.0.upper.number me.0.upper.ranges.own) refl
         (none_kept me.0.upper.ranges.own Quiet (none_by_unmarked me.0.upper.ranges.own begun k.own) (none_by_quiet Quiet refl)) refl refl f.ranged.ends (位 p ne. refl)
         (ends_one (scene_of s.words role) (scene_of left role) f.ranged.ends pass f.ranged.runs
         (turns z s r pass idle k.is_pass most falls_not unmarked none_new) ended)

@@ -11,7 +11,7 @@ use Rattle.ca_rows.specs.Rule.{upper_of}
 use Rattle.ca_rows.specs.Words.{result_of}
 use Rattle.ca_rows.specs.declared.sizes.Sizes.{Sizes}
 use Rattle.ca_rows.specs.declared.view.View.{View}
-use Rattle.ca_node.specs.LoneStays.{none_kept, none_by_marking, none_by_quiet, lone_same}
+use Rattle.ca_node.specs.LoneStays.{none_kept, none_by_marking, none_by_quiet, quiet_active, lone_same}
 use Rattle.ca_node.specs.Endings.{over_up_to}
 use Rattle.ca_node.specs.Laws.{noted_more, noted_alike, numbered, relisted, seat_changed, starts_whole}
 use Rattle.ca_node.specs.Layout.{sequence_unit}
@@ -107,8 +107,9 @@ module _ (z : Sizes) (s : State (Unit {0}) (View TreeView)) (r : R z s) (id : 鈩
         let k = relisted z r.made s.words role us (set us id u') f.history id u (numbered us id u u' first (位 _. refl)) (knows_upper z s r id me.0 at) in
         looked z s r word_at id me.0 u' at (位 row m. inl (noted_still row m))
         (seat_changed z r.made s.words us id u u' f first (位 _. refl) (位 _. refl)
-        (位 _ _ l. lone_same s.words role u.ranges.own Quiet u.ways u.ways u.ranges.joins.begun u.ranges.joins.begun (位 w i. inl i)
-        (none_kept u.ranges.own Quiet (none_by_marking u.ranges.own begun border own) (none_by_quiet Quiet refl)) (inl refl) l) record {
+        (位 _ _ l. lone_same s.words role u.number u.ranges.own Quiet u.ways u.ways u.ranges.joins.begun u.ranges.joins.begun (位 w i. inl i)
+        (none_kept u.ranges.own Quiet (none_by_marking u.ranges.own begun border own) (none_by_quiet Quiet refl))
+        (quiet_active s.words s.words u.number u.ranges.own) (inl refl) l) record {
           made_before = k.made_before;
           alone = k.alone;
           seen_first = subst (StartsWith f.history) (whole z s r id me at) (starts_whole f.history);

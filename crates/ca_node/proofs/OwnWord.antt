@@ -17,7 +17,8 @@ use Rattle.ca_rows.specs.declared.view.View.{View}
 use Rattle.ca_rows.proofs.OwnWords.{own_is, own_same, announced_else, result_else}
 use Rattle.ca_rows.proofs.Rules.{all_seats}
 use Rattle.ca_runs.specs.Runs.{Ends, AreRuns}
-use Rattle.ca_node.specs.LoneStays.{KeepsOwn, lone_still}
+use Rattle.ca_node.specs.LoneStays.{KeepsOwn, KeepsActive, lone_still}
+use Rattle.ca_node.specs.Lone.{IsLone}
 use Rattle.ca_node.proofs.Lone.{lone_by_one}
 use Rattle.ca_node.specs.Inventory.{AreAtMost, IsInventory, OwnsTree, own_tree}
 use Rattle.ca_node.specs.Attempts.{join_of}
@@ -361,9 +362,10 @@ module _ (z : Sizes) (s : State (Unit {0}) (View TreeView)) (r : R z s) (pass wo
       → AreAtMost words' (length (change d.upper.inventory).rows) most)
       → KeepsOwn d.upper.ranges.own u'.ranges.own → u'.ways ≡ d.upper.ways
       → u'.ranges.joins.begun ≡ d.upper.ranges.joins.begun
-      → IsTree z r.made words' (set (map upper_of s.views) id u')
+      → KeepsActive s.words words' d.upper.number d.upper.ranges.own u'.ranges.own
+      → u'.number ≡ d.upper.number → IsTree z r.made words' (set (map upper_of s.views) id u')
   tree_with id d at is_pass u' shape' ends' runs' made_before own_knows own_ranging others change
-      listed same_tree no_more no_rows keeps_own same_ways same_begun = record {
+      listed same_tree no_more no_rows keeps_own same_ways same_begun keeps_active same_number = record {
         usable = f.usable;
         history = f.history;
         edits = f.edits;
@@ -388,12 +390,14 @@ module _ (z : Sizes) (s : State (Unit {0}) (View TreeView)) (r : R z s) (pass wo
         lone = lone_by_one z r.made s.words words' role role (map upper_of s.views) f.history
             f.each_seat id d.upper u'
             (at_map upper_of s.views id d at) is_pass
-            (λ few. lone_still s.words words' role role d.upper.ranges.own u'.ranges.own d.upper.ways
-            u'.ways d.upper.ranges.joins.begun u'.ranges.joins.begun
+            (λ few. subst (λ (p : ℕ). IsLone words' role p u'.ranges.own u'.ways
+            u'.ranges.joins.begun) (sym same_number)
+            (lone_still s.words words' role role d.upper.number d.upper.ranges.own u'.ranges.own
+            d.upper.ways u'.ways d.upper.ranges.joins.begun u'.ranges.joins.begun
             (λ route p key is. inr (p, key, is, join_then route p key is))
             (λ route p key is. (is, join_then route p key is))
-            (λ way i. inl (subst (IsIn way) same_ways i)) keeps_own same_begun
-            (f.lone id d.upper (at_map upper_of s.views id d at) few is_pass));
+            (λ way i. inl (subst (IsIn way) same_ways i)) keeps_own keeps_active
+            same_begun (f.lone id d.upper (at_map upper_of s.views id d at) few is_pass)));
         each_seat = all_seats (Knows z r.made words' role (set (map upper_of s.views) id u') f.history)
             (map upper_of s.views) id u' own_knows (λ j v ne here. let y =
             of_map upper_of s.views j v here in

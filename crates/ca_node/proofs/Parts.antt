@@ -213,7 +213,7 @@ part_left p s (Del k) m t h =
         by Greater is = refl
 
 -- What is less than a key that is within an upper edge is within it.
-less_within : (hi : Bound) (x k : List ℕ) → bytes_cmp x k ≡ Less → is_up_to hi k ≡ true
+pub less_within : (hi : Bound) (x k : List ℕ) → bytes_cmp x k ≡ Less → is_up_to hi k ≡ true
     → is_up_to hi x ≡ true
 less_within Unbounded x k less in_it = refl
 less_within (Included h) x k less in_it = by (bytes_cmp k h) refl in_it

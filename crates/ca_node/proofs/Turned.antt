@@ -17,7 +17,7 @@ use Rattle.ca_rows.specs.declared.view.View.{View}
 use Rattle.ca_rows.proofs.Relinking.{Stays, relinks}
 use Rattle.ca_runs.specs.Runs.{Ends, AreRuns}
 use Rattle.ca_runs.specs.Scenes.{Turns}
-use Rattle.ca_node.specs.LoneStays.{KeepsOwn}
+use Rattle.ca_node.specs.LoneStays.{KeepsOwn, KeepsActive}
 use Rattle.ca_node.specs.Endings.{active_word}
 use Rattle.ca_node.specs.Inventory.{IsInventory, own_tree}
 use Rattle.ca_node.specs.Laws.{tree_lends}
@@ -159,7 +159,9 @@ module _ (z : Sizes) (s : State (Unit {0}) (View TreeView)) (r : R z s) (pass wo
 
   -- The seat of that pass knows this of ranges then.
   module _ (id : ℕ) (d : View TreeView) (at : get_elem? s.views id ≡ some d) (mine : d.upper.number ≡ pass) (u' : TreeView) (most' : ℕ)
-      (same : 0 < u'.number → u'.number ≡ d.upper.number) (same_tree : own_tree u' ≡ own_tree d.upper)
+      (same : 0 < u'.number → u'.number ≡ d.upper.number) (same_number : u'.number ≡ d.upper.number)
+      (keeps_active : KeepsActive s.words (set s.words (own_word s.words pass + 1) word') d.upper.number d.upper.ranges.own u'.ranges.own)
+      (same_tree : own_tree u' ≡ own_tree d.upper)
       (keeps_own : KeepsOwn d.upper.ranges.own u'.ranges.own) (same_ways : u'.ways ≡ d.upper.ways)
       (same_begun : u'.ranges.joins.begun ≡ d.upper.ranges.joins.begun)
       (ends' : ℕ → Ends) (ends_else : (p : ℕ) → p ≢ pass → ends' p ≡ r.above.ranged.ends p)
@@ -185,7 +187,7 @@ module _ (z : Sizes) (s : State (Unit {0}) (View TreeView)) (r : R z s) (pass wo
               (f.ranged.each j y.upper (at_map upper_of s.views j y here))),
         ))
         (λ i. i) listed' same_tree (omega arith)
-        (λ _ most are. (are.0, λ none. are.1 (λ row l. none row (lent_then row l)))) keeps_own same_ways same_begun
+        (λ _ most are. (are.0, λ none. are.1 (λ row l. none row (lent_then row l)))) keeps_own same_ways same_begun keeps_active same_number
 
     abbrev d' : View TreeView
     d' = record d { upper = u'; most = most' }

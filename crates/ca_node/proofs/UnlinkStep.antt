@@ -39,7 +39,7 @@ use Rattle.ca_node.specs.Shape.{Role, Out, Route, place_of, IsShape}
 use Rattle.ca_node.specs.Told.{MyTree, given, taken_out}
 use Rattle.ca_node.specs.Tree.{IsTrue, IsTrueWay, Knows, IsTree}
 use Rattle.ca_node.specs.States.{IsAlone}
-use Rattle.ca_node.specs.TreeView.{Note, Way, Attempt, Inventory, Ranging, Quiet, Joining, TreeView, own_behind}
+use Rattle.ca_node.specs.TreeView.{Note, Way, Attempt, Inventory, Ranging, Quiet, Marking, Joining, TreeView, own_behind}
 use Rattle.ca_node.specs.Unlinks.{Unlinking, IsUnlinking, attempt_by, gone_by, unlinked_inventory, unlinked, one_unlinking_lost, IsUnlinked, UnlinksRoute, HasUnlinked}
 use Rattle.ca_node.proofs.Holding.{unclaimed_row}
 use Rattle.ca_node.proofs.Joined.{joined_keeps, states_keep, joining_keeps}
@@ -355,7 +355,7 @@ module _ (z : Sizes) (s : State (Unit {0}) (View TreeView)) (r : R z s) (id : �
       (further f.history d.upper.seen d.upper.since k.seen_first k.since_first)) x.way
       (is_there z s r id me at new x u hit) refl).1.is_out
 
-  lone_now : r.made ≤ 1 → IsLone words' role' (own_behind (attempt_by x) d.upper.ranges.own) [] []
+  lone_now : r.made ≤ 1 → IsLone words' role' d.upper.number (own_behind (attempt_by x) d.upper.ranges.own) [] []
   lone_now few = let l = f.lone id d.upper mine few u.is_pass in
       let own = l.secured x.way.row place (route_key x.way.its) x.attempt
       (is_there z s r id me at new x u hit) (secured_now z s r id me at new x u hit) in
@@ -374,6 +374,8 @@ module _ (z : Sizes) (s : State (Unit {0}) (View TreeView)) (r : R z s) (id : �
             (ap (own_behind (attempt_by x)) own ∙ behind_own (attempt_by x)) ∙ is in absurd cc;
         alive = λ way i. absurd (in_nothing way [] refl i);
         latest = λ y i. absurd (in_nothing y [] refl i);
+        active = λ range border is. let c : Quiet ≡ Marking range border = sym
+            (ap (own_behind (attempt_by x)) own ∙ behind_own (attempt_by x)) ∙ is in absurd cc;
       }
     where
       same_word : (c : ℕ) → get_or words' (row_words * c + 3) 0 ≡ get_or s.words

@@ -329,7 +329,8 @@ module _ (z : Sizes) (s : State (Unit {0}) (View TreeView)) (r : R z s) (id : �
       others_have [] serve once new_end u'
       (own_notes z s r id me at new x ex hit over free (r.above.history ++ own ∷ []) mark bounded has_now
       others_have [] serve once new_end u' refl refl (λ border i. inl i) (λ c o. o) refl)
-      (d.upper.renewal.count + 1) refl (inl (let one = u.one_comes in omega arith)) (same_kept d.upper.ranges.own) refl refl edits_now passes_now runs_now own_knows (ranging_now id d at)
+      (d.upper.renewal.count + 1) refl (inl (let one = u.one_comes in omega arith)) (same_kept d.upper.ranges.own)
+      (λ _ _ same. inl same) refl refl refl edits_now passes_now runs_now own_knows (ranging_now id d at)
       (λ j v ne here. let y = of_map upper_of s.views j v here in (
         others_know j v ne here,
         subst (λ (w : TreeView). IsRanging z words' role'

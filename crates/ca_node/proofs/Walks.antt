@@ -17,6 +17,7 @@ use Rattle.ca_node.specs.declared.link.Link.{Link}
 use Rattle.ca_node.specs.declared.link.Link.TheVariants as link
 use Rattle.ca_node.specs.Inventory.{HasFewRows, IsListed}
 use Rattle.ca_node.specs.Links.{IsIn}
+use Rattle.ca_node.specs.Lone.{IsBehindOwn}
 use Rattle.ca_node.specs.Place.{Span, all_keys, left_of, right_of, HasKey, Place, IsLinkOf}
 use Rattle.ca_node.specs.Row.{level, route_key}
 use Rattle.ca_node.specs.Notes.{IsBaseNote}
@@ -257,6 +258,11 @@ passed_on m m' m'' more next way ways loads e d =
       loads = k;
     })) n))
 
+-- What a pass that is the only one knows of a base that it comes to it knew on its way there.
+behind_passed : (u : TreeView) (more : History) (ways : List Way) (loads : ℕ) (note : Note)
+    → IsBehindOwn (passed u more ways loads) note → IsBehindOwn u note
+behind_passed u more ways loads note b = record { latest = b.latest; next = b.next }
+
 -- A link was loaded of which the seat knows where it leads.
 module _ (z : Sizes) (s : Spot) (m m' m'' : MyTree) (some_rows : 0 < z.rows)
     (sizes : m'.0.sizes ≡ z) (more : History) (ways : List Way) (loads : ℕ)
@@ -316,6 +322,10 @@ module _ (z : Sizes) (s : Spot) (m m' m'' : MyTree) (some_rows : 0 < z.rows)
             (λ (x : MyTree). HasFewRows x.0.upper) now (led.few_rows rows_too
             (subst (λ (y : Sizes). IsAlone y m'.0.upper) (sym sizes) (subst
             (λ (x : MyTree). IsAlone z x.0.upper) (sym now) alone)));
+        behind = λ alone. behind_passed m.0.upper more ways loads led.note
+            (subst (λ (x : MyTree). IsBehindOwn x.0.upper led.note) now (led.behind rows_too
+            (subst (λ (y : Sizes). IsAlone y m'.0.upper) (sym sizes) (subst
+            (λ (x : MyTree). IsAlone z x.0.upper) (sym now) alone))));
         alike = λ old i. led.alike old
             (subst (λ (x : MyTree). IsIn old x.0.upper.notes) (sym now) i);
       }
@@ -565,6 +575,7 @@ module _ (z : Sizes) (s : Spot) (m : MyTree) (cursor : Cursor) (m' : MyTree) whe
     listed = at.listed;
     shallow = at.shallow;
     few_rows = at.few_rows;
+    behind = at.behind;
     alike = at.alike;
   }
 

@@ -39,9 +39,10 @@ pub record IsInventory (words : List ℕ) (role : ℕ → Role) (i : Inventory) 
 abbrev pub own_tree : TreeView → Inventory × ℕ × ℕ
 own_tree u = (u.inventory, u.splits, u.renewal.count)
 
--- No more rows are linked than one at first, two more by each split of the seat and one more by each update, and one that is lent to an operation.
+-- No more rows are linked than one at first, two more by each split of the seat and one more by each update, and one that is lent to an operation; and there
+-- are no more bases than one at first, and one more by each split.
 abbrev pub HasFewRows : TreeView → Type 0
-HasFewRows u = length u.inventory.rows ≤ 2 + 2 * u.splits + u.renewal.count
+HasFewRows u = (length u.inventory.rows ≤ 2 + 2 * u.splits + u.renewal.count) × (length u.inventory.bases ≤ u.splits + 1)
 
 -- The seat knows the row to be linked, as it is listed, or is no pass's.
 abbrev pub HasListed : TreeView → ℕ → Type 0

@@ -21,7 +21,7 @@ use Rattle.ca_node.specs.Joining.{IsJoining}
 use Rattle.ca_node.specs.JoinsStay.{joining_same, nothing_joining, joined_same}
 use Rattle.ca_node.specs.Links.{root, IsIn, IsUnder, IsActive, IsLinked, by_route, by_range, IsLent, IsOfOwnRun, IsNoted, by_note, by_item, by_way, by_link, by_link_item, by_border, by_run, by_run_item, by_shown, by_shown_item}
 use Rattle.ca_node.specs.Lone.{IsLone}
-use Rattle.ca_node.specs.LoneStays.{same_kept, left_kept, lone_still, lone_same, no_route_first}
+use Rattle.ca_node.specs.LoneStays.{same_kept, left_kept, same_active, left_active, lone_still, lone_same, no_route_first}
 use Rattle.ca_node.specs.Place.{Place, IsLinkOf, root_place}
 use Rattle.ca_node.specs.Ranging.{IsSoFar, IsRanging, AreRanged}
 use Rattle.ca_node.specs.RangesStay.{own_note, own_run_back, begun_on, decided_back, ranging_stays}
@@ -332,9 +332,10 @@ module _ (z : Sizes) (made : ℕ) (uppers : List TreeView) (words others : List 
     shape = shape_now;
     ranged = ranged_now;
     joined = joined_same z words others f.role (λ route place key is. join_now route place key is 3 (omega arith)) child_now f.joined;
-    lone = λ j u at few lo. lone_still words others f.role f.role u.ranges.own u.ranges.own u.ways u.ways u.ranges.joins.begun u.ranges.joins.begun
+    lone = λ j u at few lo. lone_still words others f.role f.role u.number u.ranges.own u.ranges.own u.ways u.ways u.ranges.joins.begun u.ranges.joins.begun
         (λ route place key is. inr (place, key, is, join_now route place key is 3 (omega arith)))
-        (λ route place key is. (is, join_now route place key is 3 (omega arith))) (λ way i. inl i) (same_kept u.ranges.own) refl (f.lone j u at few lo);
+        (λ route place key is. (is, join_now route place key is 3 (omega arith))) (λ way i. inl i) (same_kept u.ranges.own)
+        (same_active words others u.number u.ranges.own (λ number now. (active u.number number).1 now)) refl (f.lone j u at few lo);
     each_seat = λ j u at. let k = f.each_seat j u at in record {
       made_before = k.made_before;
       alone = k.alone;
@@ -416,7 +417,8 @@ relisted z made words role uppers uppers' history j u n k = record {
 -- One seat's view is another.
 pub seat_changed : (z : Sizes) (made : ℕ) (words : List ℕ) (uppers : List TreeView) (id : ℕ) (u u' : TreeView) (f : IsTree z made words uppers)
     → get_elem? uppers id ≡ some u → (0 < u'.number → u'.number ≡ u.number) → (0 < u'.number → own_tree u' ≡ own_tree u)
-    → (made ≤ 1 → 0 < u'.number → IsLone words f.role u.ranges.own u.ways u.ranges.joins.begun → IsLone words f.role u'.ranges.own u'.ways u'.ranges.joins.begun)
+    → (made ≤ 1 → 0 < u'.number → IsLone words f.role u'.number u.ranges.own u.ways u.ranges.joins.begun
+    → IsLone words f.role u'.number u'.ranges.own u'.ways u'.ranges.joins.begun)
     → Knows z made words f.role (set uppers id u') f.history id u'
     → IsRanging z words f.role (f.ranged.ends u'.number) u'.since f.history u'.number u'.ranges → IsTree z made words (set uppers id u')
 seat_changed z made words uppers id u u' f at same has lone k ranging = record {
@@ -437,8 +439,9 @@ seat_changed z made words uppers id u u' f at same has lone k ranging = record {
         (λ j v n here. f.ranged.each j v here);
   };
   joined = f.joined;
-  lone = all_seats (λ j v. made ≤ 1 → 0 < v.number → IsLone words f.role v.ranges.own v.ways v.ranges.joins.begun) uppers id u'
-      (λ few lo. let n = same lo in lone few lo (f.lone id u at few (omega arith))) (λ j v n here. f.lone j v here);
+  lone = all_seats (λ j v. made ≤ 1 → 0 < v.number → IsLone words f.role v.number v.ranges.own v.ways v.ranges.joins.begun) uppers id u'
+      (λ few lo. let n = same lo in lone few lo (subst (λ (p : ℕ). IsLone words f.role p u.ranges.own u.ways u.ranges.joins.begun) (sym n)
+      (f.lone id u at few (omega arith)))) (λ j v n here. f.lone j v here);
   each_seat = all_seats (Knows z made words f.role (set uppers id u') f.history) uppers id u' k
       (λ j v n here. relisted z made words f.role uppers (set uppers id u') f.history j v (numbered uppers id u u' at same) (f.each_seat j v here));
   inventory = f.inventory;
@@ -485,8 +488,9 @@ tree_pinning = record {
   keeps_entering = λ z made uppers words i u f at. let k = relisted z made words f.role uppers (set uppers i (pinned u)) f.history i u
       (numbered uppers i u (pinned u) at (λ _. refl)) (f.each_seat i u at) in
       seat_changed z made words uppers i u (pinned u) f at (λ _. refl) (λ _. refl)
-      (λ _ _ l. lone_same words f.role u.ranges.own (left_over u.ranges.own) u.ways [] u.ranges.joins.begun []
-      (λ way i. absurd (in_nothing way [] refl i)) (left_kept u.ranges.own) (inr refl) l)
+      (λ _ _ l. lone_same words f.role u.number u.ranges.own (left_over u.ranges.own) u.ways [] u.ranges.joins.begun []
+      (λ way i. absurd (in_nothing way [] refl i)) (left_kept u.ranges.own)
+      (left_active words words u.number u.ranges.own u.ranges.own) (inr refl) l)
       record {
         made_before = k.made_before;
         alone = k.alone;
@@ -515,8 +519,9 @@ tree_pinning = record {
   keeps_leaving = λ z made uppers words i u f at. let k = relisted z made words f.role uppers (set uppers i (unpinned u)) f.history i u
       (numbered uppers i u (unpinned u) at (λ _. refl)) (f.each_seat i u at) in
       seat_changed z made words uppers i u (unpinned u) f at (λ _. refl) (λ _. refl)
-      (λ _ _ l. lone_same words f.role u.ranges.own (left_over u.ranges.own) u.ways [] u.ranges.joins.begun []
-      (λ way i. absurd (in_nothing way [] refl i)) (left_kept u.ranges.own) (inr refl) l)
+      (λ _ _ l. lone_same words f.role u.number u.ranges.own (left_over u.ranges.own) u.ways [] u.ranges.joins.begun []
+      (λ way i. absurd (in_nothing way [] refl i)) (left_kept u.ranges.own)
+      (left_active words words u.number u.ranges.own u.ranges.own) (inr refl) l)
       record {
         made_before = k.made_before;
         alone = k.alone;
@@ -621,7 +626,8 @@ tree_making = record {
     joined = f.joined;
     lone = λ j u here few lo. let first : made ≡ 0 = omega arith in ⊎_elim
         (λ (was : get_elem? uppers j ≡ some u). let low = (f.each_seat j u was).made_before in absurd (omega arith))
-        (λ (t : (j ≡ length uppers) × (blank (made + 1) ≡ u)). subst (λ (y : TreeView). IsLone words f.role y.ranges.own y.ways y.ranges.joins.begun) t.1 record {
+        (λ (t : (j ≡ length uppers) × (blank (made + 1) ≡ u)).
+        subst (λ (y : TreeView). IsLone words f.role y.number y.ranges.own y.ways y.ranges.joins.begun) t.1 record {
           prepared = λ route place key attempt e now. absurd (no_route_first z words f.role (after f.history []) f.inventory f.shape f.listed
               (f.at_first first) route place key e);
           secured = λ route place key attempt e now. absurd (no_route_first z words f.role (after f.history []) f.inventory f.shape f.listed
@@ -629,6 +635,7 @@ tree_making = record {
           still = λ x is. let c : Quiet ≡ Joining x = is in absurd cc;
           alive = λ way i. absurd (in_nothing way [] refl i);
           latest = λ x i. absurd (in_nothing x [] refl i);
+          active = λ range border is. let c : Quiet ≡ Marking range border = is in absurd cc;
         })
         (at_place uppers (blank (made + 1)) u j here);
     each_seat = λ j u here. ⊎_elim

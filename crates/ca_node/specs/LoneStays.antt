@@ -1,18 +1,18 @@
 -- What holds of a pass that is the only one stays so.
-use Rattle.std.proofs.Common.{◌≡◌, ◌≢◌, ◌⊎◌, ℕ, zero, suc, ◌/◌, ◌%◌, List, [], ◌∷◌, refl, sym, ◌∙◌, ap, subst, ⊎_elim, arith}
+use Rattle.std.proofs.Common.{◌≡◌, ◌≢◌, ◌⊎◌, ℕ, zero, suc, ◌/◌, ◌%◌, List, [], ◌∷◌, refl, sym, ◌∙◌, ap, subst, inl, inr, ⊎_elim, arith}
 use mathlib.Core.Option.{some, some-injective, some-ne-none}
 use lib.ListN.{get_elem?}
 use Rattle.ca_model.specs.StoreMap.{StoreMap}
 use Rattle.ca_rows.specs.declared.sizes.Sizes.{Sizes}
 use Rattle.ca_node.specs.Attempts.{join_of}
 use Rattle.ca_node.specs.Inventory.{IsInventory}
-use Rattle.ca_node.specs.Links.{IsIn}
+use Rattle.ca_node.specs.Links.{IsIn, IsActive}
 use Rattle.ca_node.specs.Lone.{attempt_of, IsAlive, IsOfTree, IsLone}
 use Rattle.ca_node.specs.Place.{Place, root_place}
 use Rattle.ca_node.specs.Reached.{placed_linked}
 use Rattle.ca_node.specs.Row.{route_key}
 use Rattle.ca_node.specs.Shape.{Role, Base, Route, place_of, IsShape}
-use Rattle.ca_node.specs.TreeView.{Way, Attempt, Inventory, Ranging, Quiet, Unmarked, Marking, Left, Joining, Secured, first_inventory, left_over}
+use Rattle.ca_node.specs.TreeView.{Way, Border, Begun, Attempt, Inventory, Ranging, Quiet, Unmarked, Marking, Left, Joining, Secured, first_inventory, left_over}
 
 -- An attempt that is the seat's own was so, and one that was is so still, as far as it was.
 abbrev pub KeepsOwn : Ranging → Ranging → Type 0
@@ -55,14 +55,58 @@ left_kept Left x = ((λ e. e), (λ e. e), (λ e. e))
 left_kept (Joining y) x = ((λ e. e), (λ e. e), (λ e. e))
 left_kept (Secured y) x = ((λ e. e), (λ e. e), (λ e. e))
 
+-- A range that marked something is one that was active, and is so then if it was; or it is active then.
+abbrev pub KeepsActive : List ℕ → List ℕ → ℕ → Ranging → Ranging → Type 0
+KeepsActive words others pass own own' = (range : Begun) (border : Border) → own' ≡ Marking range border
+    → ((own ≡ Marking range border) × (IsActive words pass range.number → IsActive others pass range.number)) ⊎ IsActive others pass range.number
+
+-- None marked anything then.
+pub quiet_active : (words others : List ℕ) (pass : ℕ) (own : Ranging) → KeepsActive words others pass own Quiet
+quiet_active words others pass own range border is = absurd cc
+
+pub unmarked_active : (words others : List ℕ) (pass : ℕ) (own : Ranging) (begun : Begun) → KeepsActive words others pass own (Unmarked begun)
+unmarked_active words others pass own begun range border is = absurd cc
+
+pub left_active : (words others : List ℕ) (pass : ℕ) (own before : Ranging) → KeepsActive words others pass own (left_over before)
+left_active words others pass own Quiet range border is = absurd cc
+left_active words others pass own (Unmarked begun) range border is = absurd cc
+left_active words others pass own (Marking begun to) range border is = absurd cc
+left_active words others pass own Left range border is = absurd cc
+left_active words others pass own (Joining x) range border is = absurd cc
+left_active words others pass own (Secured x) range border is = absurd cc
+
+-- The same range marked it, and what was active is so then.
+pub same_active : (words others : List ℕ) (pass : ℕ) (own : Ranging) → ((number : ℕ) → IsActive words pass number → IsActive others pass number)
+    → KeepsActive words others pass own own
+same_active words others pass own on range border is = inl (is, on range.number)
+
+-- A range that marked something then is one that did, or is active.
+abbrev pub MarksActive : List ℕ → ℕ → Ranging → Ranging → Type 0
+MarksActive words pass own own' = (range : Begun) (border : Border) → own' ≡ Marking range border
+    → (own ≡ Marking range border) ⊎ IsActive words pass range.number
+
+-- So it is where what was active is so then.
+pub marks_active : (words others : List ℕ) (pass : ℕ) (own own' : Ranging) → ((number : ℕ) → IsActive words pass number → IsActive others pass number)
+    → MarksActive words pass own own' → KeepsActive words others pass own own'
+marks_active words others pass own own' on marks range border is = ⊎_elim (λ (was : own ≡ Marking range border). inl (was, on range.number))
+    (λ (now : IsActive words pass range.number). inr (on range.number now)) (marks range border is)
+
+-- By what was known of it.
+pub active_then : (words others : List ℕ) (pass : ℕ) (own own' : Ranging) → KeepsActive words others pass own own'
+    → ((range : Begun) (border : Border) → own ≡ Marking range border → IsActive words pass range.number)
+    → (range : Begun) (border : Border) → own' ≡ Marking range border → IsActive others pass range.number
+active_then words others pass own own' keeps was range border is = ⊎_elim
+    (λ (t : (own ≡ Marking range border) × (IsActive words pass range.number → IsActive others pass range.number)). t.1 (was range border t.0))
+    (λ (now : IsActive others pass range.number). now) (keeps range border is)
+
 -- A table and roles in which each route is idle, or one that was there, with the same join word, where each route that hung hangs.
-pub lone_still : (words others : List ℕ) (role role' : ℕ → Role) (own own' : Ranging) (ways ways' : List Way) (begun begun' : List Attempt)
+pub lone_still : (words others : List ℕ) (role role' : ℕ → Role) (pass : ℕ) (own own' : Ranging) (ways ways' : List Way) (begun begun' : List Attempt)
     → ((route : ℕ) (place : Place) (key : List ℕ) → role' route ≡ Route place key → (join_of others route % 4 ≡ 0)
     ⊎ ((p : Place) × (k : List ℕ) × (role route ≡ Route p k) × (join_of others route ≡ join_of words route)))
     → ((route : ℕ) (place : Place) (key : List ℕ) → role route ≡ Route place key → (role' route ≡ Route place key) × (join_of others route ≡ join_of words route))
-    → ((way : Way) → IsIn way ways' → IsIn way ways ⊎ IsAlive role' way) → KeepsOwn own own' → begun' ≡ begun
-    → IsLone words role own ways begun → IsLone others role' own' ways' begun'
-lone_still words others role role' own own' ways ways' begun begun' back on more keeps same l = record {
+    → ((way : Way) → IsIn way ways' → IsIn way ways ⊎ IsAlive role' way) → KeepsOwn own own' → KeepsActive words others pass own own'
+    → begun' ≡ begun → IsLone words role pass own ways begun → IsLone others role' pass own' ways' begun'
+lone_still words others role role' pass own own' ways ways' begun begun' back on more keeps keeps_active same l = record {
   prepared = λ route place key attempt e now. ⊎_elim
       (λ (zero : join_of others route % 4 ≡ 0). absurd (omega (arith, zero, now)))
       (λ (t : (p : Place) × (k : List ℕ) × (role route ≡ Route p k) × (join_of others route ≡ join_of words route)).
@@ -77,13 +121,15 @@ lone_still words others role role' own own' ways ways' begun begun' back on more
     (t.0.0, t.0.1, o.0),
     subst (λ (y : ℕ × List Attempt). IsIn (attempt_of x.route (y.0 / 4)) y.1) (λ k. (sym o.1 k, sym same k)) t.1,
   );
+  active = active_then words others pass own own' keeps_active l.active;
 }
 
 -- The same table and roles, where the seat knows the same attempts, or none.
-pub lone_same : (words : List ℕ) (role : ℕ → Role) (own own' : Ranging) (ways ways' : List Way) (begun begun' : List Attempt)
+pub lone_same : (words : List ℕ) (role : ℕ → Role) (pass : ℕ) (own own' : Ranging) (ways ways' : List Way) (begun begun' : List Attempt)
     → ((way : Way) → IsIn way ways' → IsIn way ways ⊎ IsAlive role way)
-    → KeepsOwn own own' → (begun' ≡ begun) ⊎ (begun' ≡ []) → IsLone words role own ways begun → IsLone words role own' ways' begun'
-lone_same words role own own' ways ways' begun begun' more keeps same l = record {
+    → KeepsOwn own own' → KeepsActive words words pass own own' → (begun' ≡ begun) ⊎ (begun' ≡ []) → IsLone words role pass own ways begun
+    → IsLone words role pass own' ways' begun'
+lone_same words role pass own own' ways ways' begun begun' more keeps keeps_active same l = record {
   prepared = λ route place key attempt e now. (keeps (attempt_of route attempt)).0 (l.prepared route place key attempt e now);
   secured = λ route place key attempt e now. (keeps (attempt_of route attempt)).1 (l.secured route place key attempt e now);
   still = λ x e. l.still x ((keeps x).2 e);
@@ -92,6 +138,7 @@ lone_same words role own own' ways ways' begun begun' more keeps same l = record
       (λ (e : begun' ≡ begun). subst (λ (ys : List Attempt). IsOfTree role x.route × IsIn (attempt_of x.route (join_of words x.route / 4)) ys) (sym e)
       (l.latest x (subst (λ (ys : List Attempt). IsIn x ys) e i)))
       (λ (e : begun' ≡ []). absurd (some-ne-none x (sym (subst (λ (ys : List Attempt). IsIn x ys) e i).1))) same;
+  active = active_then words words pass own own' keeps_active l.active;
 }
 
 -- A tree that has what each one has at first has no route.

@@ -11,6 +11,7 @@ use Rattle.ca_node.specs.Links.{IsIn}
 use Rattle.ca_node.specs.Notes.{IsBaseNote}
 use Rattle.ca_node.specs.Ranging.{IsRunShown, Reaches}
 use Rattle.ca_node.specs.Row.{IsMarkedBy}
+use Rattle.ca_node.specs.States.{IsAlone}
 use Rattle.ca_node.specs.Told.{MyTree, with_upper, IsKnown, status_word}
 use Rattle.ca_node.specs.TreeView.{Note, Over, Border, Begun, Ranging, Quiet, Unmarked, Marking, Left, Joining, Secured, KnownRanges, TreeView}
 
@@ -106,10 +107,14 @@ pub record IsOwnDecided (m m' : MyTree) (begun : Begun) (border : Border) (last 
 abbrev pub own_over : ℕ → TreeView → TreeView
 own_over number u = record u { ranges = record u.ranges { over = over_up_to u.number number ∷ u.ranges.over } }
 
+-- Another pass had ended the seat's range, which a pass that is alone never finds.
+abbrev pub IsOvertaken : MyTree → Type 0
+IsOvertaken m = 0 < m.0.sizes.rows → ¬ IsAlone m.0.sizes m.0.upper
+
 -- The word of the seat's range was exchanged, and it decided it; or another one had, and the seat learns that.
 abbrev pub DecidesOwn : Begun → Border → Note → Step (Unit {0}) → MyTree → ℕ → MyTree → Type 0
 DecidesOwn begun border last st m n m' = (n ≡ st.first → IsOwnDecided m m' begun border last)
-    × (n ≢ st.first → m' ≡ with_upper m (own_over begun.number m.0.upper))
+    × (n ≢ st.first → (m' ≡ with_upper m (own_over begun.number m.0.upper)) × IsOvertaken m)
 
 abbrev pub HasDecidedOwn : Bool → Begun → Border → Note → MyTree → MyTree → Type 0
 HasDecidedOwn true begun border last m m' = IsOwnDecided m m' begun border last
@@ -141,7 +146,7 @@ aborted number border u = record (given_up number u) { inventory = without borde
 
 abbrev pub Aborts : Begun → Border → Step (Unit {0}) → MyTree → ℕ → MyTree → Type 0
 Aborts begun border st m n m' = (n ≡ st.first → m' ≡ relinked m m.0.claims (aborted begun.number border.row m.0.upper))
-    × (n ≢ st.first → m' ≡ with_upper m (given_up begun.number m.0.upper))
+    × (n ≢ st.first → (m' ≡ with_upper m (given_up begun.number m.0.upper)) × IsOvertaken m)
 
 abbrev pub HasAborted : Bool → Begun → Border → MyTree → MyTree → Type 0
 HasAborted true begun border m m' = m' ≡ relinked m m.0.claims (aborted begun.number border.row m.0.upper)

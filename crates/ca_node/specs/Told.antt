@@ -18,6 +18,7 @@ use Rattle.ca_rows.specs.Told.{Mine, met_of, relinked}
 use Rattle.ca_node.specs.Joining.{IsRemembered}
 use Rattle.ca_node.specs.Inventory.{AreOnce, but, but_all, row_itself, row_of_base, HasFewRows, IsListed}
 use Rattle.ca_node.specs.Links.{IsIn}
+use Rattle.ca_node.specs.Lone.{IsBehindOwn}
 use Rattle.ca_node.specs.declared.link.Link.{Link}
 use Rattle.ca_node.specs.declared.link.Link.TheVariants as link
 use Rattle.ca_node.specs.declared.range_state.RangeState.{RangeState}
@@ -109,6 +110,7 @@ pub record IsLedToBase (walks : Bool) (link : ℕ) (m : MyTree) (n : ℕ) (m' : 
   pub listed : 0 < m.0.sizes.rows → IsAlone m.0.sizes m.0.upper → IsListed m.0.upper.inventory note
   pub shallow : 0 < m.0.sizes.rows → IsAlone m.0.sizes m.0.upper → note.place.level ≤ m.0.upper.splits
   pub few_rows : 0 < m.0.sizes.rows → IsAlone m.0.sizes m.0.upper → HasFewRows m.0.upper
+  pub behind : 0 < m.0.sizes.rows → IsAlone m.0.sizes m.0.upper → IsBehindOwn m.0.upper note
   pub alike : (old : Note) → IsIn old m.0.upper.notes → old.row ≡ note.row → old.its ≡ note.its
 
 -- The link was loaded: it names this route.

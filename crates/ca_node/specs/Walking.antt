@@ -1,5 +1,5 @@
 -- Walks from the root link to a base.
-use Rattle.std.specs.Prelude.{◌≡◌, ◌≢◌, ◌⊎◌, Bool, true, false, not, ℕ, ◌+◌, ◌-◌, ◌*◌, ◌<◌, ◌≤◌, List, ◌∷◌, ◌++◌, length, take, drop, Option, None, Some}
+use Rattle.std.specs.Prelude.{◌≡◌, ◌⊎◌, Bool, true, false, not, ℕ, ◌+◌, ◌-◌, ◌*◌, ◌<◌, ◌≤◌, List, ◌∷◌, ◌++◌, length, take, drop, Option, None, Some}
 use Rattle.std.specs.Int.{to_be_bytes, w64}
 use Rattle.std.specs.Ordering.{is_lt, is_gt}
 use Rattle.ca_model.specs.Edges.{Bound, Unbounded, Included, Excluded}
@@ -14,6 +14,7 @@ use Rattle.ca_node.specs.declared.link.Link.{Link}
 use Rattle.ca_node.specs.declared.link.Link.TheVariants as link
 use Rattle.ca_node.specs.Inventory.{HasFewRows, IsListed}
 use Rattle.ca_node.specs.Links.{IsIn}
+use Rattle.ca_node.specs.Lone.{IsBehindOwn}
 use Rattle.ca_node.specs.Layout.{root_word}
 use Rattle.ca_node.specs.Place.{Span, HasKey, Place, IsLinkOf}
 use Rattle.ca_node.specs.Row.{count, route_key}
@@ -157,6 +158,7 @@ pub record IsAtBase (z : Sizes) (spot : Spot) (m : MyTree) (cursor : Cursor) (m'
   pub listed : IsAlone z m.0.upper → IsListed m.0.upper.inventory note
   pub shallow : IsAlone z m.0.upper → note.place.level ≤ m.0.upper.splits
   pub few_rows : IsAlone z m.0.upper → HasFewRows m.0.upper
+  pub behind : IsAlone z m.0.upper → IsBehindOwn m.0.upper note
   pub alike : (old : Note) → IsIn old m.0.upper.notes → old.row ≡ note.row → old.its ≡ note.its
 
 -- The walk came to a base or to a route.
@@ -184,4 +186,5 @@ pub record IsWalked (z : Sizes) (spot : Spot) (m : MyTree) (cursor : Cursor) (m'
   pub listed : IsAlone z m.0.upper → IsListed m.0.upper.inventory note
   pub shallow : IsAlone z m.0.upper → note.place.level ≤ m.0.upper.splits
   pub few_rows : IsAlone z m.0.upper → HasFewRows m.0.upper
+  pub behind : IsAlone z m.0.upper → IsBehindOwn m.0.upper note
   pub alike : (old : Note) → IsIn old m.0.upper.notes → old.row ≡ note.row → old.its ≡ note.its

@@ -1,10 +1,11 @@
 //! Single steps on the word of the pass's own range.
-ghost use Rattle.std.specs.Prelude.{◌≡◌, ℕ, ◌<◌, ◌≤◌};
+ghost use Rattle.std.specs.Prelude.{◌≡◌, ℕ, ◌<◌, ◌≤◌, false};
 ghost use Rattle.ca_node.specs.OwnRanges.{IsOpening, opened, IsFoundSo, IsOwnEnding, HasDecidedOwn, given_up, IsLeaving, IsGivingUp, HasAborted};
+ghost use Rattle.ca_node.specs.States.{IsAlone};
 ghost use Rattle.ca_node.specs.Told.{status_of, with_upper};
 ghost use Rattle.ca_node.specs.TreePasses.{tree_of, IsOwner};
 ghost use Rattle.ca_rows.specs.Layout.{last_sequence, row_limit};
-ghost use Rattle.ca_rows.specs.Passes.{KeepsList, known, view};
+ghost use Rattle.ca_rows.specs.Passes.{KeepsList, sizes, known, view};
 ghost use Rattle.ca_rows.specs.Told.{relinked};
 
 use crate::layout::SEQUENCE;
@@ -52,7 +53,7 @@ pub fn leave_range<K: Owning>(space: &TreeSpace, pass: &mut TreePass, number: u6
 }
 
 /// One exchange of how far the pass's own range is, which `K` names: it is decided, with a base that it marked as the last one of its run, which is shown.
-/// False exactly where another pass had decided it; then `load_own_status` tells with which base.
+/// False exactly where another pass had decided it, and so never for a pass that is alone; then `load_own_status` tells with which base.
 pub fn decide_own<K: Owning>(space: &TreeSpace, pass: &mut TreePass, number: u64, last: u32) -> bool
     requires owner { IsOwner space.now pass.old }
     requires ending { IsOwnEnding (known pass.old) K.begun K.border K.last }
@@ -60,6 +61,7 @@ pub fn decide_own<K: Owning>(space: &TreeSpace, pass: &mut TreePass, number: u64
     requires last { (K.last.row ≡ last) × (last < row_limit) }
     ensures frame { KeepsList pass.old pass.new }
     ensures done { HasDecidedOwn result K.begun K.border K.last (known pass.old) (known pass.new) }
+    ensures several { result ≡ false → ¬ IsAlone (sizes space.now) (tree_of pass.old) }
 {
     let word = status_word_of(space, pass.number());
     let active = SEQUENCE * number + ROW_LIMIT;
@@ -67,14 +69,15 @@ pub fn decide_own<K: Owning>(space: &TreeSpace, pass: &mut TreePass, number: u64
     space.swap::<DecideOwn<K>>(pass, word, active, decided)
 }
 
-/// One exchange by which the pass gives its own range up, for which it had marked a base. False exactly where another pass had decided it; either way it is
-/// over.
+/// One exchange by which the pass gives its own range up, for which it had marked a base. False exactly where another pass had decided it, and so never for a
+/// pass that is alone; either way it is over.
 pub fn abort_own<K: Owning>(space: &TreeSpace, pass: &mut TreePass, number: u64) -> bool
     requires owner { IsOwner space.now pass.old }
     requires giving { IsGivingUp (known pass.old) K.begun K.border }
     requires number { (K.begun.number ≡ number) × (number ≤ last_sequence) }
     ensures frame { KeepsList pass.old pass.new }
     ensures done { HasAborted result K.begun K.border (known pass.old) (known pass.new) }
+    ensures several { result ≡ false → ¬ IsAlone (sizes space.now) (tree_of pass.old) }
 {
     let word = status_word_of(space, pass.number());
     let idle = SEQUENCE * number;

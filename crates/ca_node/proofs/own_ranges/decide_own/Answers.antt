@@ -1,4 +1,4 @@
-use Rattle.std.proofs.Common.{◌≡◌, ℕ, ◌+◌, Bool, eqb, sym, ap, ◌∙◌, subst, arith}
+use Rattle.std.proofs.Common.{◌≡◌, ℕ, ◌<◌, ◌+◌, Bool, eqb, sym, ap, ◌∙◌, subst, arith}
 use mathlib.Core.Option.{none}
 use prog.Atomic.{either}
 use Rattle.atomic_table.specs.Table.{step, Allows}
@@ -6,9 +6,11 @@ use Rattle.ca_rows.specs.Calls.{Relinks}
 use Rattle.ca_node.specs.Endings.{active_word, decided_word}
 use Rattle.ca_node.specs.May.{MaySwap}
 use Rattle.ca_node.specs.OwnRanges.{DecidesOwn, HasDecidedOwn}
+use Rattle.ca_node.specs.States.{IsAlone}
 use Rattle.ca_node.specs.Told.{status_word}
+use Rattle.ca_rows.specs.declared.sizes.Sizes.{Sizes}
 use Rattle.ca_node.proofs.Looking.{R}
-use Rattle.ca_node.proofs.OwnDeciding.{decides_own, has_decided}
+use Rattle.ca_node.proofs.OwnDeciding.{lost_deciding, decides_own, has_decided}
 use Rattle.ca_node.proofs.own_ranges.decide_own.Goals as goal
 
 pub swap-requires-clause-rule : goal.swap-requires-clause-rule
@@ -43,3 +45,15 @@ returns-clause-done g c = let told = c.swap.ensures.told in
     (step c.args.space.now.table.shared.table_id.slots c.status_word_of-word.result w
     (active_word c.args.number + 16777216 + c.args.last) none)
     c.args.pass.now.seat.me told.0 c.swap.new.pass.seat.me) (sym same) told.1))
+
+pub returns-clause-several : goal.returns-clause-several
+returns-clause-several g c lost = let told = c.swap.ensures.told in let m = c.args.pass.now.seat.me in
+    let same = ap (λ (n : ℕ). active_word n) c.requires.number.0 in let own = c.requires.owner.reading.own.1 in
+    subst (λ (y : Sizes). ¬ IsAlone y m.0.upper) own
+    (lost_deciding told.0 c.args.space.now.table.shared.table_id.slots c.status_word_of-word.result
+    (active_word c.args.number + 16777216 + c.args.last) g.K.Owning.begun g.K.Owning.border g.K.Owning.last m c.swap.new.pass.seat.me
+    (subst (λ (w : ℕ). DecidesOwn g.K.Owning.begun g.K.Owning.border g.K.Owning.last
+    (step c.args.space.now.table.shared.table_id.slots c.status_word_of-word.result w (active_word c.args.number + 16777216 + c.args.last) none)
+    m told.0 c.swap.new.pass.seat.me) (sym same) told.1)
+    (ap (λ (w : ℕ). eqb told.0 w) same ∙ (sym told.2 ∙ lost))
+    (subst (λ (y : Sizes). 0 < y.rows) (sym own) c.args.space.now.few.0))
