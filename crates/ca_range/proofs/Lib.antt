@@ -15,6 +15,12 @@ pub mod JoinsEnded
 pub mod JoinsFinished
 pub mod Learning
 pub mod Loaded
+pub mod LoneEnds
+pub mod LoneMarked
+pub mod LoneMarks
+pub mod LoneSnaps
+pub mod LoneSteps
+pub mod LoneStops
 pub mod NextGathered
 pub mod NextNumbers
 pub mod Noting

@@ -205,7 +205,7 @@ module _ {R : Type 0} (space : Space R TreeView) (p0 p1 p2 p3 p4 : Pass R TreeVi
     (writes : StillKeepsList p1 p2) (only : p2.seat.me ≡ (record p1.seat.me.0 { claims = p2.seat.me.0.claims }, p1.seat.me.1)) (keeps : KeepsList p2 p3)
     (is : p3.seat.me ≡ with_upper p2.seat.me (opened begun p2.seat.me.0.upper)) (frame : StaysPinned space p3 p4)
     (done : HasPutFirst won rows p3.seat.me p4.seat.me) where
-  upper_now : p3.seat.me.0.upper ≡ opened begun p0.seat.me.0.upper
+  pub upper_now : p3.seat.me.0.upper ≡ opened begun p0.seat.me.0.upper
   upper_now = ap (λ (x : MyTree). x.0.upper) is ∙ (ap (λ (u : TreeView). opened begun u) writes.same.4
       ∙ ap (λ (x : MyTree). opened begun x.0.upper) reads.still)
 

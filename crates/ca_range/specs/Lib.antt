@@ -9,6 +9,7 @@ pub mod Farther
 pub mod Filling
 pub mod Gathering
 pub mod Loading
+pub mod Lonely
 pub mod Looking
 pub mod Marked
 pub mod Meeting

@@ -1,13 +1,16 @@
 //! The next base of a range is marked, where no other range has it.
-ghost use Rattle.std.specs.Prelude.{◌≡◌, ◌<◌, ◌≤◌};
+ghost use Rattle.std.specs.Prelude.{◌≡◌, ◌<◌, ◌≤◌, []};
 ghost use Rattle.ca_base.specs.Putting.{first_note};
 ghost use Rattle.ca_base.specs.Readiness.{IsReady, StaysReady};
+ghost use Rattle.ca_node.specs.States.{IsAlone};
+ghost use Rattle.ca_node.specs.Told.{IsKnown};
 ghost use Rattle.ca_node.specs.TreePasses.{tree_of};
 ghost use Rattle.ca_node.specs.TreeView.{Quiet};
 ghost use Rattle.ca_range.specs.Ahead.{IsAtLast};
 ghost use Rattle.ca_range.specs.Filling.{GoesTo, HasStepped, IsCopyOf, step_lost};
 ghost use Rattle.ca_range.specs.Farther.{reach};
 ghost use Rattle.ca_range.specs.Loading.{StepsBy};
+ghost use Rattle.ca_range.specs.Lonely.{IsFreeOfOthers, LearnsAlone};
 ghost use Rattle.ca_range.specs.Marked.{IsNextTo, second_note};
 ghost use Rattle.ca_range.specs.Meeting.{AreMet};
 ghost use Rattle.ca_base.specs.Spending.{IsSpentOn};
@@ -55,6 +58,8 @@ pub fn range_in_use(
     ensures met { AreMet account.new.met.numbers (tree_of pass.new).ranges.unfinished }
     ensures in_use { HasFoundUse space.now cursor.base result pass.old pass.new }
     ensures counted { IsSpentOn account.old.spent account.new.spent (known pass.old) (known pass.new) }
+    ensures alone { IsAlone (sizes space.now) (tree_of pass.old) → IsKnown (sizes space.now) (tree_of pass.old) → (tree_of pass.old).ranges.unfinished ≡ []
+        → IsFreeOfOthers result × LearnsAlone (tree_of pass.old) (tree_of pass.new) }
 {
     let Some(range) = range_of(space, pass, cursor.base) else {
         return match end_join(space, pass, cursor, &mut account.spent) {

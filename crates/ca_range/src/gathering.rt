@@ -1,13 +1,16 @@
 //! The bases of a pass's own range are gathered, one behind the other.
-ghost use Rattle.std.specs.Prelude.{◌≡◌, ◌+◌};
+ghost use Rattle.std.specs.Prelude.{◌≡◌, ◌+◌, ℕ, vec_len};
 ghost use Rattle.ca_adapt.specs.Tuned.{IsTuned};
 ghost use Rattle.ca_base.specs.Readiness.{IsReady};
 ghost use Rattle.ca_model.specs.Function.{MayBeAskedForAll};
+ghost use Rattle.ca_node.specs.States.{IsAlone};
+ghost use Rattle.ca_node.specs.Told.{MyTree};
 ghost use Rattle.ca_node.specs.TreePasses.{tree_of};
 ghost use Rattle.ca_node.specs.TreeView.{Quiet};
 ghost use Rattle.ca_range.specs.Farther.{reach};
 ghost use Rattle.ca_range.specs.Gathering.{EndsUnspent, HasEnded, IsFurther, IsGathering, IsOver};
 ghost use Rattle.ca_range.specs.Loading.{EndsBy, GathersBy};
+ghost use Rattle.ca_range.specs.Lonely.{ComesAlone, EndsAlone, GathersAlone};
 ghost use Rattle.ca_range.specs.Meeting.{AreMet};
 ghost use Rattle.ca_range.specs.Snapping.{GoesOn};
 ghost use Rattle.ca_range.specs.Snapshots.{IsInBudget};
@@ -52,6 +55,8 @@ pub fn gather<F: Fn(&[u8]) -> bool>(
     ensures ended { HasEnded F.Fn search.now.sought.now (sizes space.now) search.now.budget account.new.spent result (known pass.old) (known pass.new) }
     ensures in_budget { IsInBudget search.now.budget account.new.spent result }
     ensures loads { EndsBy (sizes space.now) (tree_of pass.old) (tree_of pass.new) }
+    ensures alone { (kept : ℕ) (m : MyTree) → IsAlone (sizes space.now) (tree_of pass.old) → GathersAlone kept (vec_len pass.old.kept.rows) m (known pass.old)
+        → EndsAlone (sizes space.now) result kept (vec_len pass.new.kept.rows) m (known pass.new) }
 {
     let mut last = first;
     while turns(&account.spent) < u64::from(search.budget) {
@@ -85,6 +90,8 @@ pub fn go_further<F: Fn(&[u8]) -> bool>(
     ensures quiet { IsOver result (tree_of pass.new) }
     ensures unspent { EndsUnspent result account.old.spent account.new.spent }
     ensures loads { GathersBy (sizes space.now) ((sizes space.now).levels + 1) result (tree_of pass.old) (tree_of pass.new) }
+    ensures alone { (kept : ℕ) (m : MyTree) → IsAlone (sizes space.now) (tree_of pass.old) → GathersAlone kept (vec_len pass.old.kept.rows) m (known pass.old)
+        → ComesAlone (sizes space.now) result kept (vec_len pass.new.kept.rows) m (known pass.new) }
 {
     let mut key = Code::new();
     match look(

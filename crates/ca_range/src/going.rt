@@ -1,16 +1,18 @@
 //! The pass's own range goes on to the next base.
-ghost use Rattle.std.specs.Prelude.{◌≡◌, ◌↔◌, ◌<◌, ℕ, IsTrue};
+ghost use Rattle.std.specs.Prelude.{◌≡◌, ◌↔◌, ◌<◌, ℕ, IsTrue, vec_len};
 ghost use Rattle.ca_adapt.specs.Tuned.{IsTuned};
 ghost use Rattle.ca_base.specs.Finding.{IsBaseShown};
 ghost use Rattle.ca_base.specs.Putting.{first_note};
 ghost use Rattle.ca_base.specs.Readiness.{IsReady};
 ghost use Rattle.ca_model.specs.declared.outcome.Spent.{Spent};
-ghost use Rattle.ca_node.specs.Told.{IsSettled};
+ghost use Rattle.ca_node.specs.States.{IsAlone};
+ghost use Rattle.ca_node.specs.Told.{MyTree, IsSettled};
 ghost use Rattle.ca_node.specs.TreePasses.{tree_of};
 ghost use Rattle.ca_node.specs.TreeView.{Note};
 ghost use Rattle.ca_range.specs.Farther.{reach};
 ghost use Rattle.ca_range.specs.Gathering.{HasNoRun, IsFurther, IsGatheredNext, IsOver, refused_by};
 ghost use Rattle.ca_range.specs.Loading.{GathersBy};
+ghost use Rattle.ca_range.specs.Lonely.{ComesAlone, GathersNext};
 ghost use Rattle.ca_range.specs.Marked.{IsBehindRow, IsOwnLast};
 ghost use Rattle.ca_range.specs.Meeting.{AreMet};
 ghost use Rattle.ca_range.specs.Snapping.{GoesOn};
@@ -52,6 +54,8 @@ pub(crate) fn go_to<F: Fn(&[u8]) -> bool>(
     ensures quiet { IsOver result (tree_of pass.new) }
     ensures no_run { HasNoRun result }
     ensures loads { GathersBy (sizes space.now) 0 result (tree_of pass.old) (tree_of pass.new) }
+    ensures alone { (kept : ℕ) (m : MyTree) → IsAlone (sizes space.now) (tree_of pass.old) → GathersNext kept (vec_len pass.old.kept.rows) m (known pass.old)
+        → ComesAlone (sizes space.now) result kept (vec_len pass.new.kept.rows) m (known pass.new) }
 {
     match use_of(space, pass, next, account) {
         Use::Free => mark_on(space, pass, from, next, search, account),
@@ -90,6 +94,8 @@ fn follow<F: Fn(&[u8]) -> bool>(
     ensures quiet { IsOver result (tree_of pass.new) }
     ensures no_run { HasNoRun result }
     ensures loads { (tree_of pass.new).loads ≡ (tree_of pass.old).loads }
+    ensures alone { (kept : ℕ) (m : MyTree) → IsAlone (sizes space.now) (tree_of pass.old) → GathersNext kept (vec_len pass.old.kept.rows) m (known pass.old)
+        → ComesAlone (sizes space.now) result kept (vec_len pass.new.kept.rows) m (known pass.new) }
 {
     let _sought = sought;
     let range = Range {
@@ -153,6 +159,8 @@ fn mark_on<F: Fn(&[u8]) -> bool>(
     ensures quiet { IsOver result (tree_of pass.new) }
     ensures no_run { HasNoRun result }
     ensures loads { (tree_of pass.new).loads ≡ (tree_of pass.old).loads }
+    ensures alone { (kept : ℕ) (m : MyTree) → IsAlone (sizes space.now) (tree_of pass.old) → GathersNext kept (vec_len pass.old.kept.rows) m (known pass.old)
+        → ComesAlone (sizes space.now) result kept (vec_len pass.new.kept.rows) m (known pass.new) }
 {
     let range = Range {
         owner: pass.number(),

@@ -5,10 +5,11 @@ ghost use Rattle.ca_base.specs.Putting.{first_note};
 ghost use Rattle.ca_model.specs.Edges.{bound_of};
 ghost use Rattle.ca_model.specs.Function.{MayBeAskedForAll};
 ghost use Rattle.ca_node.specs.Place.{Span};
-ghost use Rattle.ca_node.specs.States.{HasState};
+ghost use Rattle.ca_node.specs.States.{HasState, IsAlone};
 ghost use Rattle.ca_node.specs.Told.{with_upper};
 ghost use Rattle.ca_node.specs.TreePasses.{tree_of};
 ghost use Rattle.ca_node.specs.Walking.{IsSought};
+ghost use Rattle.ca_range.specs.Lonely.{WalksAlone};
 ghost use Rattle.ca_range.specs.Looking.{BeginsFor, HasAdded, HasCountedAll, HasLooked, HoldsEdge, IsFirst, IsGoneTo};
 ghost use Rattle.ca_range.specs.Staying.{OnlySteps};
 ghost use Rattle.ca_rows.specs.Passes.{OnlyReads, IsReading, KeepsList, sizes, known};
@@ -44,6 +45,7 @@ pub(crate) fn walk_to_first(space: &TreeSpace, pass: &mut TreePass, lo: Edge<'_>
     ensures holds { HoldsEdge (bound_of lo.entry) (tree_of pass.new).last.place.span }
     ensures first { IsFirst (sizes space.now) (bound_of lo.entry) (tree_of pass.new) result }
     ensures has { HasState (sizes space.now) (tree_of pass.new) (first_note (tree_of pass.new).notes) }
+    ensures alone { IsAlone (sizes space.now) (tree_of pass.old) → WalksAlone (tree_of pass.old) (tree_of pass.new) }
 {
     walk(space, pass, spot_of(lo))
 }

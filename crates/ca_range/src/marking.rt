@@ -1,12 +1,14 @@
 //! A base is marked as the next one of a range.
-ghost use Rattle.std.specs.Prelude.{◌<◌, ◌≤◌, [], ◌∷◌};
+ghost use Rattle.std.specs.Prelude.{◌≡◌, ◌<◌, ◌≤◌, [], ◌∷◌, vec_len};
 ghost use Rattle.ca_base.specs.Counting.{HasFound};
 ghost use Rattle.ca_base.specs.Finding.{IsAtCursor, IsBaseShown};
 ghost use Rattle.ca_base.specs.Readiness.{IsReady, StaysReady, shown_last};
 ghost use Rattle.ca_base.specs.Taking.{AreHeld};
 ghost use Rattle.ca_node.specs.Copies.{IsCopy, IsNextCopy};
+ghost use Rattle.ca_node.specs.States.{IsAlone};
 ghost use Rattle.ca_node.specs.Told.{IsSettled};
 ghost use Rattle.ca_node.specs.TreePasses.{tree_of};
+ghost use Rattle.ca_range.specs.Lonely.{IsThere, MarksAlone};
 ghost use Rattle.ca_range.specs.Marked.{HasMarked, HasPut, IsNextTo, second_note};
 ghost use Rattle.ca_base.specs.Spending.{IsSpentOn};
 ghost use Rattle.ca_rows.specs.Passes.{IsOn, sizes, known, view};
@@ -37,6 +39,8 @@ pub(crate) fn mark_base(
     ensures marked { HasMarked (sizes space.now) (shown_last pass.old) mark.now result (tree_of pass.old) (tree_of pass.new) }
     ensures counted { IsSpentOn spent.old spent.new (known pass.old) (known pass.new) }
     ensures found { HasFound result (known pass.old) (known pass.new) }
+    ensures alone { IsAlone (sizes space.now) (tree_of pass.old) → IsThere (tree_of pass.old) (shown_last pass.old)
+        → MarksAlone result (vec_len pass.old.kept.rows) (vec_len pass.new.kept.rows) (known pass.old) (known pass.new) }
 {
     let row = take(space, pass, BASE_FORM, spent)?;
     write_copy(space, pass, row, next.base, mark);
@@ -63,6 +67,8 @@ fn put_copy<K: Marking>(
     ensures done { HasPut K.copy row result (tree_of pass.old) (tree_of pass.new) }
     ensures counted { IsSpentOn spent.old spent.new (known pass.old) (known pass.new) }
     ensures found { HasFound result (known pass.old) (known pass.new) }
+    ensures alone { IsAlone (sizes space.now) (tree_of pass.old) → IsThere (tree_of pass.old) K.copy.old → (shown_last pass.old ≡ K.copy.old)
+        → MarksAlone result (vec_len pass.old.kept.rows) (vec_len pass.new.kept.rows) (known pass.old) (known pass.new) }
 {
     let base = next.base;
     if !mark_next::<K>(space, pass, next.link, base, row) {

@@ -1,5 +1,5 @@
 //! The pass's own range begins, with the first base of a snapshot.
-ghost use Rattle.std.specs.Prelude.{◌≡◌, ◌≢◌, ◌+◌, ◌/◌, ◌<◌, ◌≤◌, ℕ, [], ◌∷◌, false, slice_index};
+ghost use Rattle.std.specs.Prelude.{◌≡◌, ◌≢◌, ◌+◌, ◌/◌, ◌<◌, ◌≤◌, ℕ, [], ◌∷◌, false, slice_index, vec_len};
 ghost use Rattle.ca_adapt.specs.Allowed.{IsAllowed};
 ghost use Rattle.ca_adapt.specs.Tuned.{IsTuned};
 ghost use Rattle.ca_base.specs.Counting.{losses, HasMet};
@@ -9,11 +9,14 @@ ghost use Rattle.ca_base.specs.Readiness.{IsReady};
 ghost use Rattle.ca_base.specs.Taking.{AreHeld};
 ghost use Rattle.ca_model.specs.Edges.{bound_of, IsProperBound};
 ghost use Rattle.ca_node.specs.Layout.{sequence_unit};
+ghost use Rattle.ca_node.specs.Inventory.{IsListed};
 ghost use Rattle.ca_node.specs.OwnRanges.{opened};
+ghost use Rattle.ca_node.specs.States.{IsAlone};
 ghost use Rattle.ca_node.specs.Told.{IsSettled, status_of, with_upper};
 ghost use Rattle.ca_node.specs.TreePasses.{tree_of, IsOwner};
 ghost use Rattle.ca_node.specs.TreeView.{Note, Quiet};
 ghost use Rattle.ca_range.specs.Gathering.{EndsInBudget, HasBegun, IsOver};
+ghost use Rattle.ca_range.specs.Lonely.{ComesAlone, IsThere, PutsAlone};
 ghost use Rattle.ca_range.specs.Looking.{IsFirst, IsNotEnough};
 ghost use Rattle.ca_range.specs.Meeting.{AreMet};
 ghost use Rattle.ca_range.specs.Opening.{begun_at, IsKeptWord, HasNumbered, HasPutFirst, HasWrittenFirst, IsFirstReady, IsNumberOf};
@@ -73,6 +76,9 @@ pub(crate) fn begin_range<F: Fn(&[u8]) -> bool>(
     ensures in_budget { EndsInBudget search.now.budget account.new.spent result }
     ensures loads { (tree_of pass.new).loads ≡ (tree_of pass.old).loads }
     ensures counted { IsSpentOn account.old.spent account.new.spent (known pass.old) (known pass.new) }
+    ensures alone { IsAlone (sizes space.now) (tree_of pass.old) → (tree_of pass.old).ranges.unfinished ≡ []
+        → IsListed (tree_of pass.old).inventory (first_note (tree_of pass.old).notes)
+        → ComesAlone (sizes space.now) result (vec_len pass.old.kept.rows) (vec_len pass.new.kept.rows) (known pass.old) (known pass.new) }
 {
     let Some(number) = next_number(space, pass) else {
         return Further::Ended(Snapped::Worn(Counter::Sequence));
@@ -140,6 +146,9 @@ fn begin_with<F: Fn(&[u8]) -> bool>(
     ensures in_budget { EndsInBudget search.now.budget account.new.spent result }
     ensures loads { (tree_of pass.new).loads ≡ (tree_of pass.old).loads }
     ensures begun { HasBegun F.Fn search.now.sought.now (sizes space.now) search.now.budget account.new.spent result (known pass.old) (known pass.new) }
+    ensures alone { IsAlone (sizes space.now) (tree_of pass.old) → (tree_of pass.old).ranges.unfinished ≡ []
+        → IsListed (tree_of pass.old).inventory (first_note (tree_of pass.old).notes)
+        → ComesAlone (sizes space.now) result (vec_len pass.old.kept.rows) (vec_len pass.new.kept.rows) (known pass.old) (known pass.new) }
 {
     let mark = first_mark(space, pass, first.base, rows.own, search.tuning);
     write_first(space, pass, first.base, rows, &mark, search.sought.hi);
@@ -232,6 +241,8 @@ fn put_first(
     ensures counted { IsSpentOn spent.old spent.new (known pass.old) (known pass.new) }
     ensures met { HasMet 0 0 (known pass.old) (known pass.new) }
     ensures lost { result ≡ false → losses (known pass.old) < losses (known pass.new) }
+    ensures alone { IsAlone (sizes space.now) (tree_of pass.old) → IsThere (tree_of pass.old) (first_note (tree_of pass.old).notes)
+        → PutsAlone result (vec_len pass.old.kept.rows) (vec_len pass.new.kept.rows) (known pass.old) (known pass.new) }
 {
     let base = first.base;
     if !mark_first::<Brand>(space, pass, first.link, base, rows.copy) {

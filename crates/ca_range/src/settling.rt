@@ -1,12 +1,15 @@
 //! A pass's own range ends: it is decided, or given up.
-ghost use Rattle.std.specs.Prelude.{◌≡◌, ◌<◌, ◌≤◌};
+ghost use Rattle.std.specs.Prelude.{◌≡◌, ◌<◌, ◌≤◌, vec_len};
 ghost use Rattle.ca_base.specs.Counting.{losses, HasMet};
+ghost use Rattle.ca_base.specs.Crowded.{StaysCrowded};
 ghost use Rattle.ca_base.specs.Readiness.{IsReady};
 ghost use Rattle.ca_node.specs.OwnRanges.{IsKnownEnded};
+ghost use Rattle.ca_node.specs.States.{IsAlone};
 ghost use Rattle.ca_node.specs.Told.{IsKnown};
 ghost use Rattle.ca_node.specs.TreePasses.{tree_of, IsOwner};
 ghost use Rattle.ca_node.specs.TreeView.{Begun, Border, Marking, Quiet};
 ghost use Rattle.ca_range.specs.Gathering.{HasLoadedRun, HasSettled, IsBetween, IsEnough, IsMarking};
+ghost use Rattle.ca_range.specs.Lonely.{IsOverAlone};
 ghost use Rattle.ca_range.specs.Snapping.{StaysPinned};
 ghost use Rattle.ca_range.specs.Snapshots.{OnlyRanges};
 ghost use Rattle.ca_rows.specs.Passes.{KeepsList, sizes, known};
@@ -30,6 +33,9 @@ pub fn give_up(space: &TreeSpace, pass: &mut TreePass, own: Own)
     ensures still { (losses (known pass.new) ≡ losses (known pass.old)) × ((tree_of pass.new).turns ≡ (tree_of pass.old).turns) }
     ensures met { HasMet 0 0 (known pass.old) (known pass.new) }
     ensures loads { (tree_of pass.new).loads ≡ (tree_of pass.old).loads }
+    ensures crowded { StaysCrowded (known pass.old) (known pass.new) }
+    ensures alone { IsAlone (sizes space.now) (tree_of pass.old)
+        → IsOverAlone (vec_len pass.old.kept.rows) (vec_len pass.new.kept.rows) (tree_of pass.old) (tree_of pass.new) }
 {
     abort_own::<Brand>(space, pass, own.number);
     retire_border(space, pass, own.border);
@@ -54,6 +60,8 @@ pub(crate) fn decide_run<F: Fn(&[u8]) -> bool>(
     ensures still { (losses (known pass.new) ≡ losses (known pass.old)) × ((tree_of pass.new).turns ≡ (tree_of pass.old).turns) }
     ensures ended { HasSettled F.Fn sought.now (sizes space.now) result (known pass.old) (known pass.new) }
     ensures loads { (tree_of pass.new).loads ≡ (tree_of pass.old).loads }
+    ensures alone { IsAlone (sizes space.now) (tree_of pass.old)
+        → IsOverAlone (vec_len pass.old.kept.rows) (vec_len pass.new.kept.rows) (tree_of pass.old) (tree_of pass.new) }
 {
     let last = from.left.base;
     if !decide_own::<Brand>(space, pass, from.own.number, last) {

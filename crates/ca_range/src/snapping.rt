@@ -1,16 +1,20 @@
 //! Snapshots of what is within two edges.
-ghost use Rattle.std.specs.Prelude.{◌≡◌, ◌+◌, ◌<◌, ◌≤◌};
+ghost use Rattle.std.specs.Prelude.{◌≡◌, ◌+◌, ◌<◌, ◌≤◌, [], vec_len};
 ghost use Rattle.ca_adapt.specs.Tuned.{IsTuned};
 ghost use Rattle.ca_base.specs.Putting.{first_note};
 ghost use Rattle.ca_base.specs.Readiness.{IsReady, StaysReady};
 ghost use Rattle.ca_model.specs.Edges.{bound_of, IsProperBound};
 ghost use Rattle.ca_model.specs.Function.{MayBeAskedForAll};
+ghost use Rattle.ca_node.specs.Inventory.{HasFewRows};
+ghost use Rattle.ca_node.specs.States.{IsAlone};
+ghost use Rattle.ca_node.specs.Told.{IsKnown};
 ghost use Rattle.ca_node.specs.TreePasses.{tree_of};
 ghost use Rattle.ca_node.specs.TreeView.{Quiet};
 ghost use Rattle.ca_range.specs.Ahead.{IsAtLast};
 ghost use Rattle.ca_range.specs.Filling.{IsInUse, turns_of};
 ghost use Rattle.ca_range.specs.Gathering.{EndsInBudget, HasBegun, IsOver};
 ghost use Rattle.ca_range.specs.Loading.{EndsBy, begin_loads, snapshot_loads};
+ghost use Rattle.ca_range.specs.Lonely.{ComesAlone, SnapsAlone};
 ghost use Rattle.ca_range.specs.Meeting.{AreMet};
 ghost use Rattle.ca_range.specs.Snapping.{IsRefused, StaysPinned, snapped_so};
 ghost use Rattle.ca_range.specs.Snapshots.{HasSnapped, IsInBudget, OnlyRanges};
@@ -54,6 +58,8 @@ pub fn snapshot<F: Fn(&[u8]) -> bool>(
     ensures in_budget { IsInBudget budget account.new.spent result }
     ensures loads { (tree_of pass.new).loads ≤ (tree_of pass.old).loads + snapshot_loads (sizes space.now) }
     ensures counted { IsSpentOn account.old.spent account.new.spent (known pass.old) (known pass.new) }
+    ensures alone { IsAlone (sizes space.now) (tree_of pass.old) → IsKnown (sizes space.now) (tree_of pass.old) → (tree_of pass.old).ranges.unfinished ≡ []
+        → SnapsAlone (sizes space.now) result (vec_len pass.old.kept.rows) (vec_len pass.new.kept.rows) (known pass.old) (known pass.new) }
 {
     let search = Search {
         sought,
@@ -89,6 +95,8 @@ pub fn begin_snapshot<F: Fn(&[u8]) -> bool>(
     ensures in_budget { EndsInBudget search.now.budget account.new.spent result }
     ensures loads { (tree_of pass.new).loads ≤ (tree_of pass.old).loads + begin_loads (sizes space.now) result }
     ensures counted { IsSpentOn account.old.spent account.new.spent (known pass.old) (known pass.new) }
+    ensures alone { IsAlone (sizes space.now) (tree_of pass.old) → (tree_of pass.old).ranges.unfinished ≡ [] → HasFewRows (tree_of pass.old)
+        × ComesAlone (sizes space.now) result (vec_len pass.old.kept.rows) (vec_len pass.new.kept.rows) (known pass.old) (known pass.new) }
 {
     let first = walk_to_first(space, pass, search.sought.lo);
     let mut key = Code::new();

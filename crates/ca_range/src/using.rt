@@ -1,9 +1,12 @@
 //! Which range has the next base of the pass's own range.
-ghost use Rattle.std.specs.Prelude.{◌≡◌, ◌≤◌};
+ghost use Rattle.std.specs.Prelude.{◌≡◌, ◌≤◌, []};
 ghost use Rattle.ca_base.specs.Readiness.{IsReady};
 ghost use Rattle.ca_node.specs.LoneStays.{HasNone};
+ghost use Rattle.ca_node.specs.States.{IsAlone};
+ghost use Rattle.ca_node.specs.Told.{IsKnown};
 ghost use Rattle.ca_node.specs.TreePasses.{tree_of};
 ghost use Rattle.ca_range.specs.Ahead.{IsAtLast};
+ghost use Rattle.ca_range.specs.Lonely.{IsUsedAlone, LearnsAlone};
 ghost use Rattle.ca_range.specs.Meeting.{AreMet};
 ghost use Rattle.ca_base.specs.Spending.{IsSpentOn};
 ghost use Rattle.ca_range.specs.Using.{IsUsedBy};
@@ -47,6 +50,8 @@ pub(crate) fn use_of(
     ensures met { AreMet account.new.met.numbers (tree_of pass.new).ranges.unfinished }
     ensures used { IsUsedBy space.now cursor.base result pass.old pass.new }
     ensures counted { IsSpentOn account.old.spent account.new.spent (known pass.old) (known pass.new) }
+    ensures alone { IsAlone (sizes space.now) (tree_of pass.old) → IsKnown (sizes space.now) (tree_of pass.old) → (tree_of pass.old).ranges.unfinished ≡ []
+        → IsUsedAlone result × LearnsAlone (tree_of pass.old) (tree_of pass.new) }
 {
     let Some(range) = range_of(space, pass, cursor.base) else {
         return match end_join(space, pass, cursor, &mut account.spent) {

@@ -1,8 +1,11 @@
-use Rattle.std.proofs.Common.{sym, refl, subst, arith}
+use Rattle.std.proofs.Common.{vec_len, ◌+◌, sym, refl, subst, arith}
 use Rattle.ca_base.proofs.Counts.{met_both}
+use Rattle.ca_range.specs.Farther.{reach}
 use Rattle.ca_range.specs.Meeting.{AreMet}
+use Rattle.ca_range.specs.declared.sought.Snapped.TheVariants as snapped
 use Rattle.ca_range.proofs.GoingOn.{in_budget}
 use Rattle.ca_range.proofs.Loaded.{ends_after, ends_by, goes_both as walks_both, goes_once, goes_same}
+use Rattle.ca_range.proofs.LoneSteps.{ended_alone, lone_on}
 use Rattle.ca_range.proofs.OwnSteps.{ended_on, goes_both, goes_none, goes_over, number_on, ready_on}
 use Rattle.ca_range.proofs.Ranking.{far_inside}
 use Rattle.ca_range.proofs.SnapshotSteps.{more_turns}
@@ -18,6 +21,7 @@ loop-pass-init g c = record {
   pool = (omega arith, omega arith);
   loads = let z = c.args.space.now.table.shared.key in let u = c.args.pass.now.seat.me.0.upper in
       goes_same z u u (omega arith) (far_inside z u c.args.first.left c.requires.gathering.gone.at) refl;
+  alone = λ kept m alone h. h;
 }
 
 pub loop-pass-preserved : goal.loop-pass-preserved
@@ -32,6 +36,8 @@ loop-pass-preserved g c = let inv = c.loop-pass.invariant in let e = c.go_furthe
       loads = let z = c.args.space.now.table.shared.key in let v = q.seat.me.0.upper in
           walks_both z c.args.pass.now.seat.me.0.upper p.seat.me.0.upper v inv.loads
           (goes_once z p.seat.me.0.upper v on.1 (far_inside z v c.in-On.next.left on.0.gone.at) c.in-On.ensures.loads);
+      alone = λ kept m alone h. c.in-On.ensures.alone kept m
+          (lone_on c.args.space.now.table.shared.key c.args.pass.now.seat.me.0.upper p.seat.me.0.upper inv.goes.steps alone) (inv.alone kept m alone h);
     }
 
 pub loop-pass-smaller : goal.loop-pass-smaller
@@ -69,3 +75,15 @@ pub returns-clause-loads : goal.returns-clause-loads
 returns-clause-loads g c = let z = c.args.space.now.table.shared.key in let v = c.loop-pass.pass.seat.me.0.upper in
     let w = c.give_up.new.pass.seat.me.0.upper in let goes = c.loop-pass.invariant.loads in let same = c.give_up.ensures.loads in
     ends_after z c.args.pass.now.seat.me.0.upper v w goes (ends_by z v w goes.2 (omega arith))
+
+pub returns-in-Ended-clause-alone : goal.returns-in-Ended-clause-alone
+returns-in-Ended-clause-alone g c = λ kept m alone h. let inv = c.loop-pass.invariant in c.in-Ended.ensures.alone kept m
+    (lone_on c.args.space.now.table.shared.key c.args.pass.now.seat.me.0.upper c.loop-pass.pass.seat.me.0.upper inv.goes.steps alone) (inv.alone kept m alone h)
+
+pub returns-clause-alone : goal.returns-clause-alone
+returns-clause-alone g c = λ kept m alone h. let inv = c.loop-pass.invariant in let z = c.args.space.now.table.shared.key in
+    let p = c.loop-pass.pass in let q = c.give_up.new.pass in let e = c.give_up.ensures in let now = inv.alone kept m alone h in
+    let k = inv.gathering.between.marking in
+    ended_alone z snapped.Busy kept (vec_len p.kept.rows) (vec_len q.kept.rows) (reach p.seat.me.0.upper + 1) k.begun k.border m p.seat.me q.seat.me
+    now.spends now.marked now.lent k.is (e.alone (lone_on z c.args.pass.now.seat.me.0.upper p.seat.me.0.upper inv.goes.steps alone)) e.still.0 e.still.1
+    e.unfinished (λ e. absurd cc) (λ e. absurd cc)

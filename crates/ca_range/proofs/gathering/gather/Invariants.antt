@@ -1,9 +1,12 @@
-use Rattle.std.proofs.Common.{◌≡◌, ◌+◌, ◌-◌}
+use Rattle.std.proofs.Common.{◌≡◌, ◌+◌, ◌-◌, ℕ, vec_len}
 use Rattle.ca_base.specs.Counting.{HasMet}
 use Rattle.ca_base.specs.Readiness.{IsReady}
+use Rattle.ca_node.specs.States.{IsAlone}
+use Rattle.ca_node.specs.Told.{MyTree}
 use Rattle.ca_range.specs.Farther.{reach, room}
 use Rattle.ca_range.specs.Gathering.{IsGathering}
 use Rattle.ca_range.specs.Loading.{GoesBy}
+use Rattle.ca_range.specs.Lonely.{GathersAlone}
 use Rattle.ca_range.specs.Meeting.{AreMet}
 use Rattle.ca_range.specs.Snapping.{GoesOn}
 use Rattle.ca_range.proofs.gathering.gather.Given as goal
@@ -17,6 +20,9 @@ invariant-loop-pass g l = record {
   gathering : IsGathering g.F.Fn l.search.sought.now l.space.table.shared.key l.pass.seat.me.0.upper l.last;
   pool : HasMet 0 0 l.fn.pass.seat.me l.pass.seat.me;
   loads : GoesBy l.space.table.shared.key l.fn.pass.seat.me.0.upper l.pass.seat.me.0.upper;
+  alone : (kept : ℕ) (m : MyTree) → IsAlone l.space.table.shared.key l.fn.pass.seat.me.0.upper
+      → GathersAlone kept (vec_len l.fn.pass.kept.rows) m l.fn.pass.seat.me
+      → GathersAlone kept (vec_len l.pass.kept.rows) m l.pass.seat.me;
 }
 
 abbrev pub decreases-loop-pass : goal.decreases-loop-pass

@@ -1,13 +1,20 @@
-use Rattle.std.proofs.Common.{◌<◌, sym, refl, ap, ◌∙◌, subst, arith}
+use Rattle.std.proofs.Common.{◌<◌, ◌+◌, vec_len, sym, refl, ap, ◌∙◌, subst, arith}
 use Rattle.ca_base.specs.Counting.{losses}
 use Rattle.ca_base.proofs.Counts.{met_both}
 use Rattle.ca_base.specs.Putting.{first_note}
 use Rattle.ca_model.specs.Edges.{Excluded}
+use Rattle.ca_node.specs.Links.{IsIn}
+use Rattle.ca_node.specs.States.{IsAlone}
 use Rattle.ca_node.specs.Told.{MyTree}
 use Rattle.ca_range.specs.Farther.{reach}
 use Rattle.ca_range.specs.Gathering.{IsEnough, IsGathering}
+use Rattle.ca_range.specs.Lonely.{GathersNext}
 use Rattle.ca_range.specs.Looking.{HasAdded}
 use Rattle.ca_range.specs.Meeting.{AreMet}
+use Rattle.ca_range.specs.declared.sought.Snapped.TheVariants as snapped
+use Rattle.ca_rows.specs.declared.kept.KeptRows.{KeptRows}
+use Rattle.ca_range.proofs.LoneMarked.{walked_on}
+use Rattle.ca_range.proofs.LoneSteps.{ended_alone, gathers_read, lone_on}
 use Rattle.ca_range.proofs.Filled.{raised_met}
 use Rattle.ca_range.proofs.GoingOn.{further_on, goes_steps, no_run_unspent, walked_raised}
 use Rattle.ca_range.proofs.Loaded.{ends_by, gathers_walked}
@@ -15,7 +22,7 @@ use Rattle.ca_range.proofs.NextGathered.{gathered_next}
 use Rattle.ca_range.proofs.OwnSteps.{goes_both, goes_reads, goes_then, met_reads, settled_on}
 use Rattle.ca_range.proofs.Ranking.{far_inside}
 use Rattle.ca_range.proofs.Readied.{ready_reads, ready_still}
-use Rattle.ca_range.proofs.SnapshotSteps.{no_less, no_less_both, read_less}
+use Rattle.ca_range.proofs.SnapshotSteps.{no_less, no_less_both, ranges_by_steps, read_less}
 use Rattle.ca_range.proofs.Spends.{on_still}
 use Rattle.ca_range.proofs.Stepping.{steps_by_walk}
 use Rattle.ca_range.proofs.gathering.go_further.Goals as goal
@@ -45,6 +52,13 @@ returns-in-Done g c = let p = c.args.pass.now in let q = c.look.new.pass in let 
       unspent = refl;
       loads = let u = p.seat.me.0.upper in let read = ap (λ (x : MyTree). x.0.upper.loads) c.look.ensures.frame.still in let same = e.loads in
           ends_by z u r.seat.me.0.upper (far_inside z u c.args.from.left c.requires.gathering.gone.at) (omega arith);
+      alone = λ kept m alone h. let k = c.requires.gathering.between.marking in
+          let now = gathers_read kept (vec_len p.kept.rows) (vec_len q.kept.rows) m p.seat.me q.seat.me
+          (ap (λ (x : KeptRows). vec_len x.rows) c.look.ensures.frame.kept) c.look.ensures.frame.still h in
+          ended_alone z (snapped.Run c.decide_run-run.result) kept (vec_len q.kept.rows) (vec_len r.kept.rows) (reach q.seat.me.0.upper + 1) k.begun k.border m
+          q.seat.me r.seat.me now.spends now.marked now.lent (ap (λ (x : MyTree). x.0.upper.ranges.own) c.look.ensures.frame.still ∙ k.is)
+          (e.alone (subst (λ (x : MyTree). IsAlone z x.0.upper) (sym c.look.ensures.frame.still) alone)) e.still.0 e.still.1 e.unfinished
+          (λ e. absurd cc) (λ e. absurd cc);
     }
 
 pub go_to-requires-clause-ready : goal.go_to-requires-clause-ready
@@ -99,4 +113,13 @@ returns-in-On g c = let few = c.requires.tuned.allowed.most_leaf in let leaf = c
           let now = ap (λ (x : MyTree). x.0.upper.loads) w.now in let few = w.few in
           gathers_walked z c.go_to.result u v t.seat.me.0.upper (let more : reach u < reach v = omega arith in more)
           (far_inside z v c.walk-next.result next.0.gone.at) (omega arith) c.go_to.ensures.loads;
+      alone = λ kept m alone h. let only = subst (λ (x : MyTree). IsAlone z x.0.upper) (sym still) alone in
+          c.go_to.ensures.alone kept m (lone_on z q.seat.me.0.upper r.seat.me.0.upper (ranges_by_steps q.seat.me.0.upper r.seat.me.0.upper
+          (steps_by_walk _ q.seat.me r.seat.me c.walk-next.result w)) only)
+          (subst (λ (x : KeptRows). GathersNext kept (vec_len x.rows) m r.seat.me) (sym c.walk-next.ensures.frame.kept)
+          (walked_on z _ kept (vec_len q.kept.rows) m q.seat.me r.seat.me c.walk-next.result w only
+          (subst (λ (x : MyTree). IsIn (first_note x.0.upper.notes) x.0.upper.notes) (sym still) c.requires.gathering.gone.at.shown.noted)
+          (let more : reach q.seat.me.0.upper < reach r.seat.me.0.upper = omega arith in more)
+          (gathers_read kept (vec_len p.kept.rows) (vec_len q.kept.rows) m p.seat.me q.seat.me
+          (ap (λ (x : KeptRows). vec_len x.rows) c.look.ensures.frame.kept) still h)));
     }

@@ -1,4 +1,4 @@
-use Rattle.std.proofs.Common.{◌≡◌, ◌<◌, ◌≤◌, ℕ, List, true, false, inr, sym, ap, ◌∙◌, subst, arith}
+use Rattle.std.proofs.Common.{◌≡◌, ◌<◌, ◌≤◌, ℕ, List, vec_len, true, false, inr, sym, ap, ◌∙◌, subst, arith}
 use Rattle.ca_base.specs.Putting.{first_note}
 use Rattle.ca_base.proofs.Counts.{met_both}
 use Rattle.ca_node.specs.Links.{IsIn}
@@ -7,8 +7,11 @@ use Rattle.ca_node.specs.Told.{MyTree}
 use Rattle.ca_node.specs.TreeView.{Note, TreeView}
 use Rattle.ca_range.specs.Farther.{reach}
 use Rattle.ca_range.specs.Gathering.{IsGathering, IsMarking}
+use Rattle.ca_range.specs.Lonely.{GathersAlone}
 use Rattle.ca_range.specs.Marked.{second_note}
+use Rattle.ca_rows.specs.declared.kept.KeptRows.{KeptRows}
 use Rattle.ca_range.proofs.Filled.{last_shown}
+use Rattle.ca_range.proofs.LoneSteps.{behind_row, followed}
 use Rattle.ca_range.proofs.NextGathered.{gathered_so}
 use Rattle.ca_range.proofs.OwnSteps.{goes_reads, goes_then, met_reads}
 use Rattle.ca_range.proofs.Readied.{ready_reads}
@@ -87,3 +90,18 @@ returns-clause-loads g c = c.give_up.ensures.loads ∙ ap (λ (x : MyTree). x.0.
 
 pub returns-then-is_behind-clause-loads : goal.returns-then-is_behind-clause-loads
 returns-then-is_behind-clause-loads g c = ap (λ (x : MyTree). x.0.upper.loads) c.is_behind.ensures.frame.still
+
+pub returns-then-is_behind-clause-alone : goal.returns-then-is_behind-clause-alone
+returns-then-is_behind-clause-alone g c = λ kept m alone next. subst
+    (λ (x : KeptRows × MyTree). GathersAlone kept (vec_len x.0.rows) m x.1)
+    (λ i. (sym c.is_behind.ensures.frame.kept i, sym c.is_behind.ensures.frame.still i))
+    (followed kept (vec_len c.args.pass.now.kept.rows) m c.args.pass.now.seat.me next)
+
+pub returns-clause-alone : goal.returns-clause-alone
+returns-clause-alone g c = λ kept m alone next. let u = c.args.pass.now.seat.me.0.upper in let k = c.requires.next in
+    let mine = c.number.ensures ∙ c.requires.number in let first = last_shown c.args.space.now.table.shared.key u c.args.next k.gone.at in
+    let is = behind_row u c.args.from.own.number c.args.from.left.base c.args.from.own.border k.between.marking.begun k.between.marking.border
+    k.between.marking.is k.between.marking.number_is next.behind k.key k.left_marked k.left_bound k.left_shown.here k.left_shown.noted k.ends k.has
+    c.requires.own in
+    let no : false ≡ true = sym c.if-is_behind.false ∙ (c.is_behind.ensures.behind (first_note u.notes) first).1
+    ((is.0.0, is.0.1 ∙ sym mine, is.0.2), is.1, is.2) in absurd cc

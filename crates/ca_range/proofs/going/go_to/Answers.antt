@@ -1,9 +1,9 @@
-use Rattle.std.proofs.Common.{◌<◌, List, sym, ap, ◌∙◌, subst, arith}
+use Rattle.std.proofs.Common.{◌<◌, ℕ, List, vec_len, sym, ap, ◌∙◌, subst, arith}
 use Rattle.ca_base.specs.Putting.{first_note}
 use Rattle.ca_base.proofs.Counts.{met_both}
 use Rattle.ca_node.specs.Links.{IsIn}
 use Rattle.ca_node.specs.LoneStays.{none_by_marking}
-use Rattle.ca_node.specs.Told.{IsSettled}
+use Rattle.ca_node.specs.Told.{MyTree, IsSettled}
 use Rattle.ca_node.specs.TreeView.{Note, TreeView, Unfinished}
 use Rattle.ca_range.specs.Farther.{reach}
 use Rattle.ca_range.specs.Filling.{IsInUse}
@@ -18,6 +18,8 @@ use Rattle.ca_range.proofs.NextGathered.{marking_on, next_on}
 use Rattle.ca_range.proofs.OwnSteps.{ended_on, goes_both, goes_over, number_on, ready_on}
 use Rattle.ca_range.proofs.Readied.{ready_after, ready_still}
 use Rattle.ca_range.proofs.SnapshotSteps.{gone_ends, more_turns, no_less, no_less_both, ranges_by_steps}
+use Rattle.ca_rows.specs.declared.kept.KeptRows.{KeptRows}
+use Rattle.ca_range.proofs.LoneSteps.{next_learns}
 use Rattle.ca_range.proofs.Loaded.{ends_after, ends_by, gathers_none, goes_same}
 use Rattle.ca_range.proofs.Ranking.{far_inside}
 use Rattle.ca_range.proofs.going.go_to.Goals as goal
@@ -225,3 +227,27 @@ pub returns-in-Gone-clause-loads : goal.returns-in-Gone-clause-loads
 returns-in-Gone-clause-loads g c = let z = c.args.space.now.table.shared.key in let u = c.args.pass.now.seat.me.0.upper in
     let both = c.in-Gone.ensures.used.loads in let same = c.give_up-in-Gone.ensures.loads in
     ends_by z u c.give_up-in-Gone.new.pass.seat.me.0.upper (far_inside z u c.args.next c.requires.next.gone.at) (omega arith)
+
+pub returns-in-Free-clause-alone : goal.returns-in-Free-clause-alone
+returns-in-Free-clause-alone g c = λ kept m alone next. let e = c.in-Free.ensures.used.0 in let p = c.args.pass.now in let q = c.use_of.new.pass in
+    let number = ap (λ (u : TreeView). u.number) e.steps.only in
+    c.mark_on.ensures.alone kept m (alone.0, subst (λ (n : ℕ). 0 < n) (sym number) alone.1)
+    (next_learns kept (vec_len p.kept.rows) (vec_len q.kept.rows) m p.seat.me q.seat.me
+    (let same = ap (λ (x : KeptRows). vec_len x.rows) e.frame.kept in omega arith)
+    (let lost = ap (λ (x : MyTree). x.0.lost) e.raised in let link = e.steps.lost_is in omega arith)
+    (c.in-Free.ensures.alone alone c.requires.next.known next.spends.unmet).1 e.all.notes (ap (λ (u : TreeView). u.ranges.own) e.steps.only) number next)
+
+pub returns-in-Own-clause-alone : goal.returns-in-Own-clause-alone
+returns-in-Own-clause-alone g c = λ kept m alone next. let e = c.in-Own.ensures.used.0 in let p = c.args.pass.now in let q = c.use_of.new.pass in
+    let number = ap (λ (u : TreeView). u.number) e.steps.only in
+    c.follow.ensures.alone kept m (alone.0, subst (λ (n : ℕ). 0 < n) (sym number) alone.1)
+    (next_learns kept (vec_len p.kept.rows) (vec_len q.kept.rows) m p.seat.me q.seat.me
+    (let same = ap (λ (x : KeptRows). vec_len x.rows) e.frame.kept in omega arith)
+    (let lost = ap (λ (x : MyTree). x.0.lost) e.raised in let link = e.steps.lost_is in omega arith)
+    (c.in-Own.ensures.alone alone c.requires.next.known next.spends.unmet).1 e.all.notes (ap (λ (u : TreeView). u.ranges.own) e.steps.only) number next)
+
+pub returns-in-Other-clause-alone : goal.returns-in-Other-clause-alone
+returns-in-Other-clause-alone g c = λ kept m alone next. absurd (c.in-Other.ensures.alone alone c.requires.next.known next.spends.unmet).0
+
+pub returns-in-Gone-clause-alone : goal.returns-in-Gone-clause-alone
+returns-in-Gone-clause-alone g c = λ kept m alone next. absurd (c.in-Gone.ensures.alone alone c.requires.next.known next.spends.unmet).0

@@ -1,18 +1,25 @@
-use Rattle.std.proofs.Common.{◌≤◌, ◌<◌, ℕ, sym, ap, ◌∙◌, subst, arith}
+use Rattle.std.proofs.Common.{◌≤◌, ◌<◌, ℕ, vec_len, Result, sym, ap, ◌∙◌, subst, arith}
 use Rattle.ca_base.specs.Finding.{IsAtCursor, IsBaseShown}
 use Rattle.ca_base.specs.Putting.{first_note}
 use Rattle.ca_base.proofs.Counts.{met_both}
+use Rattle.ca_base.specs.declared.stop.Stop.{Stop}
 use Rattle.ca_node.specs.Row.{mark_bound}
+use Rattle.ca_node.specs.States.{IsAlone}
 use Rattle.ca_node.specs.Told.{MyTree, IsSettled}
 use Rattle.ca_node.specs.TreeView.{TreeView}
 use Rattle.ca_range.specs.Farther.{reach}
 use Rattle.ca_range.specs.Gathering.{HasEnded, HasNoRun, IsGatheredNext, IsMarking}
+use Rattle.ca_range.specs.Lonely.{EndsAlone, MarksAlone}
 use Rattle.ca_range.specs.Marked.{IsNextTo, second_note}
 use Rattle.ca_range.specs.Meeting.{AreMet}
 use Rattle.ca_range.specs.Snapshots.{OnlyRanges}
 use Rattle.ca_range.specs.declared.account.Range.{Range}
 use Rattle.ca_range.specs.declared.gathering.Further.TheVariants as further
 use Rattle.ca_range.specs.declared.sought.Snapped.{Snapped}
+use Rattle.ca_rows.specs.declared.kept.KeptRows.{KeptRows}
+use Rattle.ca_range.proofs.LoneMarked.{marked_on}
+use Rattle.ca_range.proofs.LoneStops.{stopped_alone, stopped_lone}
+use Rattle.ca_range.proofs.LoneSteps.{next_read}
 use Rattle.ca_range.proofs.Filled.{far_copy, last_shown}
 use Rattle.ca_range.proofs.GoingOn.{no_run_stopped, stays_pinned, stopped_ends, stopped_marking, stopped_ranges, stopped_unfinished}
 use Rattle.ca_range.proofs.NextGathered.{gathered_on, is_next}
@@ -148,3 +155,29 @@ returns-in-Ok-clause-loads g c = ap (λ (u : TreeView). u.loads) c.in-Ok.ensures
 pub returns-in-Err-clause-loads : goal.returns-in-Err-clause-loads
 returns-in-Err-clause-loads g c = c.give_up.ensures.loads ∙ (ap (λ (u : TreeView). u.loads) c.in-Err.ensures.marked
     ∙ (stopped_loads c.in-Err.why c.mark_for-mark.new.pass.seat.me.0.upper ∙ ap (λ (x : MyTree). x.0.upper.loads) c.mark_for-mark.ensures.frame.still))
+
+pub returns-in-Ok-clause-alone : goal.returns-in-Ok-clause-alone
+returns-in-Ok-clause-alone g c = λ kept m alone next. let z = c.args.space.now.table.shared.key in let q = c.mark_for-mark.new.pass in
+    let r = c.mark_base.new.pass in let still = c.mark_for-mark.ensures.frame.still in
+    let now = next_read kept (vec_len c.args.pass.now.kept.rows) (vec_len q.kept.rows) m c.args.pass.now.seat.me q.seat.me
+    (ap (λ (x : KeptRows). vec_len x.rows) c.mark_for-mark.ensures.frame.kept) still next in
+    marked_on z c.mark_for-mark.result c.in-Ok.base kept (vec_len q.kept.rows) (vec_len r.kept.rows) m q.seat.me r.seat.me c.in-Ok.ensures.marked
+    (subst (λ (x : Result ℕ Stop). MarksAlone x (vec_len q.kept.rows) (vec_len r.kept.rows) q.seat.me r.seat.me) c.in-Ok.is
+    (c.mark_base.ensures.alone (subst (λ (x : MyTree). IsAlone z x.0.upper) (sym still) alone) now.listed.base)) now
+
+pub returns-in-Err-clause-alone : goal.returns-in-Err-clause-alone
+returns-in-Err-clause-alone g c = λ kept m alone next. let z = c.args.space.now.table.shared.key in let q = c.mark_for-mark.new.pass in
+    let r = c.mark_base.new.pass in let p = c.give_up.new.pass in let still = c.mark_for-mark.ensures.frame.still in let e = c.give_up.ensures in
+    let now = next_read kept (vec_len c.args.pass.now.kept.rows) (vec_len q.kept.rows) m c.args.pass.now.seat.me q.seat.me
+    (ap (λ (x : KeptRows). vec_len x.rows) c.mark_for-mark.ensures.frame.kept) still next in
+    let only = subst (λ (x : MyTree). IsAlone z x.0.upper) (sym still) alone in
+    let is = sym (c.requires.ready.own.1) in
+    subst (λ (x : Snapped). EndsAlone z x kept (vec_len p.kept.rows) m p.seat.me) (sym c.refusal.ensures)
+    (stopped_alone z c.in-Err.why kept (vec_len q.kept.rows) (vec_len r.kept.rows) p.kept c.requires.next.between.marking.begun
+    c.requires.next.between.marking.border m q.seat.me r.seat.me p.seat.me
+    (ap (λ (x : MyTree). x.0.upper.ranges.own) still ∙ c.requires.next.between.marking.is)
+    (subst (λ (x : Result ℕ Stop). MarksAlone x (vec_len q.kept.rows) (vec_len r.kept.rows) q.seat.me r.seat.me) c.in-Err.is
+    (c.mark_base.ensures.alone only now.listed.base)) c.in-Err.ensures.found c.in-Err.ensures.marked now
+    (e.alone (subst (λ (u : TreeView). IsAlone z u) (sym c.in-Err.ensures.marked) (stopped_lone z c.in-Err.why q.seat.me.0.upper only)))
+    e.crowded e.still e.unfinished
+    (e.frame.pin.0 ∙ (c.mark_base.ensures.frame.pin.0 ∙ (ap (λ (x : MyTree). x.0.sizes) still ∙ c.requires.ready.own.1))) e.frame.none)

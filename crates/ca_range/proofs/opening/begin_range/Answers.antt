@@ -1,11 +1,21 @@
-use Rattle.std.proofs.Common.{◌≡◌, ◌<◌, ◌∙◌, inl, refl, sym, ap, subst, arith}
+use Rattle.std.proofs.Common.{◌≡◌, ◌<◌, [], ◌∷◌, vec_len, ◌∙◌, inl, refl, sym, ap, subst, arith}
 use mathlib.Core.Option.{some}
 use Rattle.ca_base.specs.Counting.{HasMet, HasStoppedBy, losses}
 use Rattle.ca_base.specs.Putting.{first_note}
 use Rattle.ca_base.specs.declared.stop.Stop.{Stop}
 use Rattle.ca_model.specs.Edges.{bound_of}
+use Rattle.ca_model.specs.declared.outcome.Counter.TheVariants as counter
+use Rattle.ca_node.specs.Inventory.{IsListed}
+use Rattle.ca_node.specs.Layout.{base_form, border_form}
+use Rattle.ca_node.specs.States.{IsAlone}
 use Rattle.ca_node.specs.Told.{MyTree, IsSettled}
 use Rattle.ca_node.specs.TreeView.{Note, TreeView}
+use Rattle.ca_range.specs.Gathering.{refused_by}
+use Rattle.ca_range.specs.Lonely.{EndsAlone}
+use Rattle.ca_range.specs.declared.sought.Snapped.TheVariants as snapped
+use Rattle.ca_rows.specs.declared.kept.KeptRows.{KeptRows}
+use Rattle.ca_range.proofs.LoneSnaps.{none_begun, took_fewer}
+use Rattle.ca_range.proofs.LoneSteps.{comes_from, nothing_ended}
 use Rattle.ca_range.specs.Looking.{IsFirst, IsNotEnough}
 use Rattle.ca_range.proofs.NextNumbers.{numbered_first, taken_goes, taken_met, taken_spent, upper_taken}
 use Rattle.ca_range.proofs.GoingOn.{begun_after}
@@ -111,3 +121,61 @@ pub returns-in-Err-Worn-clause-loads : goal.returns-in-Err-Worn-clause-loads
 returns-in-Err-Worn-clause-loads g c = let n = c.in-Some.ensures.numbered in
     ap (λ (u : TreeView). u.loads) (upper_taken c.args.space.now c.args.pass.now c.next_number.new.pass
     c.take_two.new.pass n.0 c.next_number.ensures.frame n.1 c.take_two.ensures.frame)
+
+pub returns-in_default-clause-alone : goal.returns-in_default-clause-alone
+returns-in_default-clause-alone g c = λ alone unmet listed. let n = c.in_default.ensures.numbered in let z = c.args.space.now.table.shared.key in
+    nothing_ended z (snapped.Worn counter.Sequence) (vec_len c.args.pass.now.kept.rows) (vec_len c.next_number.new.pass.kept.rows) c.args.pass.now.seat.me
+    c.next_number.new.pass.seat.me (let same = ap (λ (x : KeptRows). vec_len x.rows) c.next_number.ensures.frame.kept in omega arith) (ap losses n)
+    (ap (λ (x : MyTree). x.0.upper.turns) n) (ap (λ (x : MyTree). x.0.upper.inventory) n)
+    (ap (λ (x : MyTree). x.0.upper.ranges.unfinished) n ∙ unmet) (λ e. absurd cc) (λ e. absurd cc)
+
+pub returns-in-Ok-clause-alone : goal.returns-in-Ok-clause-alone
+returns-in-Ok-clause-alone g c = λ alone unmet listed. let n = c.in-Some.ensures.numbered in let z = c.args.space.now.table.shared.key in
+    let p = c.args.pass.now in let q = c.take_two.new.pass in let r = c.begin_with.new.pass in
+    let upper = upper_taken c.args.space.now c.args.pass.now c.next_number.new.pass
+    c.take_two.new.pass n.0 c.next_number.ensures.frame n.1 c.take_two.ensures.frame in
+    comes_from z c.begin_with.result (vec_len p.kept.rows) (vec_len q.kept.rows) (vec_len r.kept.rows) p.seat.me q.seat.me r.seat.me
+    (let fewer = took_fewer c.next_number.new.pass.seat.me.0.pin.told (base_form ∷ border_form ∷ []) c.next_number.new.pass.kept q.kept c.in-Ok.ensures.back in
+    let same = ap (λ (x : KeptRows). vec_len x.rows) c.next_number.ensures.frame.kept in omega arith)
+    (c.in-Ok.ensures.found.1 ∙ ap losses n.1) (ap (λ (u : TreeView). u.turns) upper) (ap (λ (u : TreeView). u.inventory) upper)
+    (c.begin_with.ensures.alone (subst (λ (u : TreeView). IsAlone z u) (sym upper) alone) (ap (λ (u : TreeView). u.ranges.unfinished) upper ∙ unmet)
+    (subst (λ (u : TreeView). IsListed u.inventory (first_note u.notes)) (sym upper) listed))
+
+pub returns-in-Err-Lost-clause-alone : goal.returns-in-Err-Lost-clause-alone
+returns-in-Err-Lost-clause-alone g c = λ alone unmet listed. let n = c.in-Some.ensures.numbered in let z = c.args.space.now.table.shared.key in
+    let p = c.args.pass.now in let k = c.next_number.new.pass in let q = c.take_two.new.pass in
+    subst (λ (a : KeptRows). EndsAlone z (snapped.Again) (vec_len a.rows) (vec_len q.kept.rows) p.seat.me q.seat.me)
+    c.next_number.ensures.frame.kept
+    (subst (λ (w : Stop). EndsAlone z (refused_by w) (vec_len k.kept.rows) (vec_len q.kept.rows) p.seat.me q.seat.me) c.in-Err-Lost.field-0-is
+    (none_begun z _ (base_form ∷ border_form ∷ []) k.kept q.kept p.seat.me k.seat.me q.seat.me
+    (ap (λ (x : MyTree). x.0.sizes) n.1 ∙ c.requires.ready.own.1)
+    (c.take_two.ensures.frame.same.2 ∙ (ap (λ (x : MyTree). x.0.sizes) n.1 ∙ c.requires.ready.own.1)) c.args.space.now.few.0
+    (subst (λ (x : MyTree). IsAlone z x.0.upper) (sym n.1) alone) (ap losses n.1) (ap (λ (x : MyTree). x.0.upper.turns) n.1)
+    (ap (λ (x : MyTree). x.0.upper.inventory) n.1) unmet (ap (λ (x : MyTree). x.0.upper.ranges.unfinished) n.1) c.take_two.ensures.frame.same.4
+    c.take_two.ensures.only c.in-Err-Lost.ensures.found c.in-Err-Lost.ensures.crowded c.in-Err-Lost.ensures.back c.in-Err-Lost.ensures.taken))
+
+pub returns-in-Err-Empty-clause-alone : goal.returns-in-Err-Empty-clause-alone
+returns-in-Err-Empty-clause-alone g c = λ alone unmet listed. let n = c.in-Some.ensures.numbered in let z = c.args.space.now.table.shared.key in
+    let p = c.args.pass.now in let k = c.next_number.new.pass in let q = c.take_two.new.pass in
+    subst (λ (a : KeptRows). EndsAlone z (snapped.NoRow) (vec_len a.rows) (vec_len q.kept.rows) p.seat.me q.seat.me)
+    c.next_number.ensures.frame.kept
+    (subst (λ (w : Stop). EndsAlone z (refused_by w) (vec_len k.kept.rows) (vec_len q.kept.rows) p.seat.me q.seat.me) c.in-Err-Empty.field-0-is
+    (none_begun z _ (base_form ∷ border_form ∷ []) k.kept q.kept p.seat.me k.seat.me q.seat.me
+    (ap (λ (x : MyTree). x.0.sizes) n.1 ∙ c.requires.ready.own.1)
+    (c.take_two.ensures.frame.same.2 ∙ (ap (λ (x : MyTree). x.0.sizes) n.1 ∙ c.requires.ready.own.1)) c.args.space.now.few.0
+    (subst (λ (x : MyTree). IsAlone z x.0.upper) (sym n.1) alone) (ap losses n.1) (ap (λ (x : MyTree). x.0.upper.turns) n.1)
+    (ap (λ (x : MyTree). x.0.upper.inventory) n.1) unmet (ap (λ (x : MyTree). x.0.upper.ranges.unfinished) n.1) c.take_two.ensures.frame.same.4
+    c.take_two.ensures.only c.in-Err-Empty.ensures.found c.in-Err-Empty.ensures.crowded c.in-Err-Empty.ensures.back c.in-Err-Empty.ensures.taken))
+
+pub returns-in-Err-Worn-clause-alone : goal.returns-in-Err-Worn-clause-alone
+returns-in-Err-Worn-clause-alone g c = λ alone unmet listed. let n = c.in-Some.ensures.numbered in let z = c.args.space.now.table.shared.key in
+    let p = c.args.pass.now in let k = c.next_number.new.pass in let q = c.take_two.new.pass in
+    subst (λ (a : KeptRows). EndsAlone z (snapped.Worn counter.PoolTag) (vec_len a.rows) (vec_len q.kept.rows) p.seat.me q.seat.me)
+    c.next_number.ensures.frame.kept
+    (subst (λ (w : Stop). EndsAlone z (refused_by w) (vec_len k.kept.rows) (vec_len q.kept.rows) p.seat.me q.seat.me) c.in-Err-Worn.field-0-is
+    (none_begun z _ (base_form ∷ border_form ∷ []) k.kept q.kept p.seat.me k.seat.me q.seat.me
+    (ap (λ (x : MyTree). x.0.sizes) n.1 ∙ c.requires.ready.own.1)
+    (c.take_two.ensures.frame.same.2 ∙ (ap (λ (x : MyTree). x.0.sizes) n.1 ∙ c.requires.ready.own.1)) c.args.space.now.few.0
+    (subst (λ (x : MyTree). IsAlone z x.0.upper) (sym n.1) alone) (ap losses n.1) (ap (λ (x : MyTree). x.0.upper.turns) n.1)
+    (ap (λ (x : MyTree). x.0.upper.inventory) n.1) unmet (ap (λ (x : MyTree). x.0.upper.ranges.unfinished) n.1) c.take_two.ensures.frame.same.4
+    c.take_two.ensures.only c.in-Err-Worn.ensures.found c.in-Err-Worn.ensures.crowded c.in-Err-Worn.ensures.back c.in-Err-Worn.ensures.taken))

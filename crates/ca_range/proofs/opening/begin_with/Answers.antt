@@ -1,13 +1,20 @@
-use Rattle.std.proofs.Common.{◌≤◌, ◌<◌, ℕ, true, false, inl, sym, refl, ap, ◌∙◌, subst, arith}
+use Rattle.std.proofs.Common.{◌≡◌, ◌≤◌, ◌<◌, ℕ, true, false, vec_len, inl, sym, refl, ap, ◌∙◌, subst, arith}
 use Rattle.ca_base.specs.Counting.{losses}
 use Rattle.ca_base.specs.Putting.{first_note}
 use Rattle.ca_base.proofs.Counts.{met_both}
 use Rattle.ca_model.specs.Edges.{bound_of}
+use Rattle.ca_node.specs.Inventory.{IsListed}
+use Rattle.ca_node.specs.States.{IsAlone}
 use Rattle.ca_node.specs.Told.{MyTree, IsSettled}
 use Rattle.ca_node.specs.TreeView.{TreeView, Turns}
 use Rattle.ca_range.specs.Looking.{IsFirst, IsNotEnough}
 use Rattle.ca_range.specs.Opening.{begun_at}
-use Rattle.ca_range.proofs.OwnFirst.{first_begun, first_goes, first_ready, loads_now, lost_now, met_now, turns_now}
+use Rattle.ca_range.specs.Lonely.{IsThere}
+use Rattle.ca_range.specs.declared.gathering.Further.TheVariants as further
+use Rattle.ca_rows.specs.declared.kept.KeptRows.{KeptRows}
+use Rattle.ca_range.proofs.LoneMarked.{put_on}
+use Rattle.ca_range.proofs.LoneSteps.{comes_from}
+use Rattle.ca_range.proofs.OwnFirst.{first_begun, first_goes, first_ready, loads_now, lost_now, met_now, turns_now, upper_now}
 use Rattle.ca_range.proofs.SnapshotSteps.{crossed_turns, more_turns, no_less, no_less_both}
 use Rattle.ca_range.proofs.opening.begin_with.Goals as goal
 
@@ -90,3 +97,34 @@ returns-clause-loads g c = loads_now c.args.space.now c.args.pass.now c.first_ma
     c.put_first.new.pass true c.args.rows (begun_at c.args.rows.own (bound_of c.args.search.now.sought.now.lo)) c.first_mark-mark.ensures.frame
     c.write_first.ensures.frame c.write_first.ensures.written.only c.open_own.ensures.frame c.open_own.ensures.opened c.put_first.ensures.frame
     c.if-not-put_first.ensures.done
+
+pub returns-then-not-put_first-clause-alone : goal.returns-then-not-put_first-clause-alone
+returns-then-not-put_first-clause-alone g c = λ alone unmet listed. let d = c.if-not-put_first.ensures.done in
+    let begun = begun_at c.args.rows.own (bound_of c.args.search.now.sought.now.lo) in
+    let upper = upper_now c.args.space.now c.args.pass.now c.first_mark-mark.new.pass c.write_first.new.pass c.open_own.new.pass
+    c.put_first.new.pass false c.args.rows begun c.first_mark-mark.ensures.frame
+    c.write_first.ensures.frame c.write_first.ensures.written.only c.open_own.ensures.frame c.open_own.ensures.opened c.put_first.ensures.frame d in
+    let won = (c.put_first.ensures.alone (subst (λ (u : TreeView). IsAlone c.args.space.now.table.shared.key u) (sym upper) alone)
+    (subst (λ (u : TreeView). IsThere u (first_note u.notes)) (sym upper) listed.base)).won_it in
+    let no : false ≡ true = sym c.if-not-put_first.true ∙ won in absurd cc
+
+pub returns-clause-alone : goal.returns-clause-alone
+returns-clause-alone g c = λ alone unmet listed. let d = c.if-not-put_first.ensures.done in let z = c.args.space.now.table.shared.key in
+    let begun = begun_at c.args.rows.own (bound_of c.args.search.now.sought.now.lo) in let m = c.args.pass.now.seat.me in
+    let k = c.open_own.new.pass.seat.me in let l = c.put_first.new.pass.seat.me in
+    let upper = upper_now c.args.space.now c.args.pass.now c.first_mark-mark.new.pass c.write_first.new.pass c.open_own.new.pass
+    c.put_first.new.pass true c.args.rows begun c.first_mark-mark.ensures.frame
+    c.write_first.ensures.frame c.write_first.ensures.written.only c.open_own.ensures.frame c.open_own.ensures.opened c.put_first.ensures.frame d in
+    let lost = lost_now c.args.space.now c.args.pass.now c.first_mark-mark.new.pass c.write_first.new.pass c.open_own.new.pass
+    c.put_first.new.pass true c.args.rows begun c.first_mark-mark.ensures.frame
+    c.write_first.ensures.frame c.write_first.ensures.written.only c.open_own.ensures.frame c.open_own.ensures.opened c.put_first.ensures.frame d in
+    let put = c.put_first.ensures.alone (subst (λ (u : TreeView). IsAlone z u) (sym upper) alone)
+    (subst (λ (u : TreeView). IsThere u (first_note u.notes)) (sym upper) listed.base) in
+    let kept = c.open_own.ensures.frame.kept ∙ (c.write_first.ensures.frame.kept ∙ c.first_mark-mark.ensures.frame.kept) in
+    comes_from z (further.On (record { own = c.args.rows.own; left = record c.args.first { base = c.args.rows.copy }; counted = 0 }))
+    (vec_len c.args.pass.now.kept.rows) (vec_len c.open_own.new.pass.kept.rows) (vec_len c.put_first.new.pass.kept.rows) m k l
+    (let same = ap (λ (x : KeptRows). vec_len x.rows) kept in omega arith) lost (ap (λ (u : TreeView). u.turns) upper)
+    (ap (λ (u : TreeView). u.inventory) upper)
+    (put_on c.args.rows (vec_len c.open_own.new.pass.kept.rows) (vec_len c.put_first.new.pass.kept.rows) k l d
+    (subst (λ (u : TreeView). IsListed u.inventory (first_note u.notes)) (sym upper) listed)
+    (ap (λ (u : TreeView). u.ranges.unfinished) upper ∙ unmet) put.unlost put.keeps)

@@ -1,14 +1,17 @@
-use Rattle.std.proofs.Common.{◌<◌, ℕ, true, refl, sym, ap, ◌∙◌, subst, arith}
-use Rattle.ca_base.specs.Counting.{losses}
+use Rattle.std.proofs.Common.{◌<◌, ℕ, true, [], ◌∷◌, refl, sym, ap, ◌∙◌, subst, arith}
+use Rattle.ca_base.specs.Counting.{losses, KeepsMore}
 use Rattle.ca_base.specs.Putting.{first_note}
 use Rattle.ca_base.proofs.Counts.{met_both}
 use Rattle.ca_node.specs.Endings.{over_up_to}
+use Rattle.ca_node.specs.Layout.{border_form}
 use Rattle.ca_node.specs.OwnRanges.{IsKnownEnded}
 use Rattle.ca_node.specs.Told.{MyTree}
 use Rattle.ca_node.specs.TreeView.{Ranging, TreeView}
 use Rattle.ca_node.proofs.Tallies.{tallied_still}
 use Rattle.ca_range.specs.Clearing.{none_spent}
 use Rattle.ca_range.specs.Snapshots.{HasRun, OnlyRanges}
+use Rattle.ca_rows.specs.declared.kept.KeptRows.{KeptRows}
+use Rattle.ca_range.proofs.LoneEnds.{over_alone}
 use Rattle.ca_range.proofs.OwnDecided.{decided_run, rows_of}
 use Rattle.ca_range.proofs.OwnEnds.{begun_of, border_of, border_still, decided_so, ended_met, is_under_way, lent_still}
 use Rattle.ca_range.proofs.OwnSteps.{over_between, over_goes, over_met, over_ready, pinned_both, settled_on}
@@ -86,6 +89,7 @@ returns-then-not-decide_own g c = let p = c.args.pass.now in let q = c.decide_ow
       loads = e.loads ∙ ap (λ (x : MyTree). x.0.upper.loads) d;
       ended = settled_on g.F.Fn c.args.sought.now z c.take_run.result p.seat.me q.seat.me r.seat.me
           (over_met c.args.space.now p q _ c.requires.ready c.decide_own.ensures.frame d) e.ended;
+      alone = λ alone. absurd (c.decide_own.ensures.several c.if-not-decide_own.true alone);
     }
 
 pub retire_border-requires-clause-own : goal.retire_border-requires-clause-own
@@ -145,4 +149,10 @@ returns g c = let z = c.args.space.now.table.shared.key in let m = c.args.pass.n
             (decided_run g.F.Fn c.args.sought.now z m k c.args.from.now c.args.whole c.requires.enough c.requires.ready.own.1 c.requires.leaf
             c.if-not-decide_own.ensures.done),
       );
+      alone = λ alone. let marking = c.requires.enough.0.between.marking in
+          let here = ap (λ (r : Ranging). (border_of r).row) marking.is ∙ marking.row_is in
+          over_alone z z.rows (begun_of own) (border_of own) m k n (is_under_way own marking.begun marking.border marking.is) border_form
+          c.args.pass.now.kept c.retire_border.new.pass.kept (ap (λ (x : MyTree). x.0.upper.inventory) c.if-not-decide_own.ensures.done.now) same
+          (subst (λ (x : ℕ × KeptRows). KeepsMore border_form (x.0 ∷ []) x.1.rows.items c.retire_border.new.pass.kept.rows.items)
+          (λ i. (sym here i, c.decide_own.ensures.frame.kept i)) c.retire_border.ensures.kept);
     }

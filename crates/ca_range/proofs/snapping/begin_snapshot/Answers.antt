@@ -1,9 +1,11 @@
-use Rattle.std.proofs.Common.{Option, List, false, ◌+◌, ◌≤◌, sym, ap, subst, ◌∙◌, arith}
-use Rattle.ca_base.specs.Counting.{HasMet}
+use Rattle.std.proofs.Common.{◌≡◌, ◌<◌, ℕ, Option, List, false, vec_len, ◌+◌, ◌≤◌, sym, ap, subst, ◌∙◌, arith}
+use Rattle.ca_base.specs.Counting.{HasMet, losses}
 use Rattle.ca_base.specs.Putting.{first_note}
 use Rattle.ca_model.specs.Edges.{bound_of}
-use Rattle.ca_node.specs.Told.{MyTree, IsSettled}
-use Rattle.ca_node.specs.TreeView.{Note}
+use Rattle.ca_node.specs.Inventory.{IsListed}
+use Rattle.ca_node.specs.States.{IsAlone}
+use Rattle.ca_node.specs.Told.{MyTree, IsKnown, IsSettled}
+use Rattle.ca_node.specs.TreeView.{Inventory, Note, TreeView}
 use Rattle.ca_range.specs.Attempts.{CountsJoin}
 use Rattle.ca_range.specs.Clearing.{HasGone}
 use Rattle.ca_range.specs.Filling.{IsUseOf}
@@ -16,6 +18,9 @@ use Rattle.ca_range.specs.declared.account.Range.{Range}
 use Rattle.ca_range.specs.declared.gathering.Further.TheVariants as further
 use Rattle.ca_range.specs.declared.looking.Looked.TheVariants as looked
 use Rattle.ca_range.specs.declared.sought.Snapped.{Snapped}
+use Rattle.ca_range.specs.declared.sought.Snapped.TheVariants as snapped
+use Rattle.ca_rows.specs.declared.kept.KeptRows.{KeptRows}
+use Rattle.ca_range.proofs.LoneSteps.{comes_from, nothing_ended}
 use Rattle.ca_range.proofs.Filled.{last_shown, raised_met}
 use Rattle.ca_range.proofs.FirstBases.{first_still}
 use Rattle.ca_range.proofs.FirstRuns.{first_run}
@@ -204,3 +209,73 @@ returns-in-Ok-Some-clause-frame g c = let space = c.args.space.now in let z = sp
     (goes_reads space a q r ready c.look.ensures.frame).frame)
     (goes_steps space a b r t (ready_reads space q r ready c.look.ensures.frame) learns.frame learns.raised learns.no_join learns.steps
     c.range_in_use.ensures.counted).frame) (stays_pinned space t c.help_first.new.pass c.help_first.ensures.frame)
+
+pub returns-in-Done-clause-alone : goal.returns-in-Done-clause-alone
+returns-in-Done-clause-alone g c = λ alone unmet. let z = c.args.space.now.table.shared.key in let p = c.args.pass.now in
+    let q = c.walk_to_first-first.new.pass in let r = c.look.new.pass in let e = c.walk_to_first-first.ensures in
+    let still = c.look.ensures.frame.still in let w = e.alone alone in
+    let lost = (let pool = ap (λ (x : MyTree). x.0.lost) e.raised in let link = e.steps.lost_is in let read = ap losses still in
+    let same : losses r.seat.me ≡ losses p.seat.me = omega arith in same) in
+    let turns = ap (λ (x : MyTree). x.0.upper.turns) still ∙ e.turns in let tree = ap (λ (x : MyTree). x.0.upper.inventory) still ∙ w.tree in
+    let none = ap (λ (x : MyTree). x.0.upper.ranges.unfinished) still ∙ (e.unfinished ∙ unmet) in
+    let kept = c.look.ensures.frame.kept ∙ e.frame.kept in
+    let number = ap (λ (x : MyTree). x.0.upper.number) still ∙ ap (λ (u : TreeView). u.number) e.steps.only in
+    let only : IsAlone z r.seat.me.0.upper = (alone.0, subst (λ (n : ℕ). 0 < n) (sym number) alone.1) in
+    let known = subst (λ (x : MyTree). IsKnown z x.0.upper) (sym still) e.first.known in (
+      w.few,
+      nothing_ended z (snapped.Run (record { last = c.walk_to_first-first.result.base; chained = false; whole = c.in-Done.whole })) (vec_len p.kept.rows)
+          (vec_len r.kept.rows) p.seat.me r.seat.me (let same = ap (λ (x : KeptRows). vec_len x.rows) kept in omega arith) lost turns tree none
+          (λ e. absurd cc) (λ e. absurd cc),
+    )
+
+pub returns-in-Ok-Some-clause-alone : goal.returns-in-Ok-Some-clause-alone
+returns-in-Ok-Some-clause-alone g c = λ alone unmet. let z = c.args.space.now.table.shared.key in let p = c.args.pass.now in
+    let q = c.walk_to_first-first.new.pass in let r = c.look.new.pass in let e = c.walk_to_first-first.ensures in
+    let still = c.look.ensures.frame.still in let w = e.alone alone in
+    let lost = (let pool = ap (λ (x : MyTree). x.0.lost) e.raised in let link = e.steps.lost_is in let read = ap losses still in
+    let same : losses r.seat.me ≡ losses p.seat.me = omega arith in same) in
+    let turns = ap (λ (x : MyTree). x.0.upper.turns) still ∙ e.turns in let tree = ap (λ (x : MyTree). x.0.upper.inventory) still ∙ w.tree in
+    let none = ap (λ (x : MyTree). x.0.upper.ranges.unfinished) still ∙ (e.unfinished ∙ unmet) in
+    let kept = c.look.ensures.frame.kept ∙ e.frame.kept in
+    let number = ap (λ (x : MyTree). x.0.upper.number) still ∙ ap (λ (u : TreeView). u.number) e.steps.only in
+    let only : IsAlone z r.seat.me.0.upper = (alone.0, subst (λ (n : ℕ). 0 < n) (sym number) alone.1) in
+    let known = subst (λ (x : MyTree). IsKnown z x.0.upper) (sym still) e.first.known in
+    let no = sym c.in-Ok-Some.is ∙ (c.range_in_use.ensures.alone only known none).0 in absurd cc
+
+pub returns-in-Err-clause-alone : goal.returns-in-Err-clause-alone
+returns-in-Err-clause-alone g c = λ alone unmet. let z = c.args.space.now.table.shared.key in let p = c.args.pass.now in
+    let q = c.walk_to_first-first.new.pass in let r = c.look.new.pass in let e = c.walk_to_first-first.ensures in
+    let still = c.look.ensures.frame.still in let w = e.alone alone in
+    let lost = (let pool = ap (λ (x : MyTree). x.0.lost) e.raised in let link = e.steps.lost_is in let read = ap losses still in
+    let same : losses r.seat.me ≡ losses p.seat.me = omega arith in same) in
+    let turns = ap (λ (x : MyTree). x.0.upper.turns) still ∙ e.turns in let tree = ap (λ (x : MyTree). x.0.upper.inventory) still ∙ w.tree in
+    let none = ap (λ (x : MyTree). x.0.upper.ranges.unfinished) still ∙ (e.unfinished ∙ unmet) in
+    let kept = c.look.ensures.frame.kept ∙ e.frame.kept in
+    let number = ap (λ (x : MyTree). x.0.upper.number) still ∙ ap (λ (u : TreeView). u.number) e.steps.only in
+    let only : IsAlone z r.seat.me.0.upper = (alone.0, subst (λ (n : ℕ). 0 < n) (sym number) alone.1) in
+    let known = subst (λ (x : MyTree). IsKnown z x.0.upper) (sym still) e.first.known in
+    let no = sym c.in-Err.is ∙ (c.range_in_use.ensures.alone only known none).0 in absurd cc
+
+pub returns-clause-alone : goal.returns-clause-alone
+returns-clause-alone g c = λ alone unmet. let z = c.args.space.now.table.shared.key in let p = c.args.pass.now in
+    let q = c.walk_to_first-first.new.pass in let r = c.look.new.pass in let e = c.walk_to_first-first.ensures in
+    let still = c.look.ensures.frame.still in let w = e.alone alone in
+    let lost = (let pool = ap (λ (x : MyTree). x.0.lost) e.raised in let link = e.steps.lost_is in let read = ap losses still in
+    let same : losses r.seat.me ≡ losses p.seat.me = omega arith in same) in
+    let turns = ap (λ (x : MyTree). x.0.upper.turns) still ∙ e.turns in let tree = ap (λ (x : MyTree). x.0.upper.inventory) still ∙ w.tree in
+    let none = ap (λ (x : MyTree). x.0.upper.ranges.unfinished) still ∙ (e.unfinished ∙ unmet) in
+    let kept = c.look.ensures.frame.kept ∙ e.frame.kept in
+    let number = ap (λ (x : MyTree). x.0.upper.number) still ∙ ap (λ (u : TreeView). u.number) e.steps.only in
+    let only : IsAlone z r.seat.me.0.upper = (alone.0, subst (λ (n : ℕ). 0 < n) (sym number) alone.1) in
+    let known = subst (λ (x : MyTree). IsKnown z x.0.upper) (sym still) e.first.known in
+    let t = c.range_in_use.new.pass in let b = c.begin_range.new.pass in let learns = c.in-Ok-None.ensures.in_use.0 in
+    let found = (c.range_in_use.ensures.alone only known none).1 in
+    let number' = ap (λ (u : TreeView). u.number) learns.steps.only in
+    let notes = learns.all.notes ∙ ap (λ (x : MyTree). x.0.upper.notes) still in
+    let kept' = ap (λ (x : KeptRows). vec_len x.rows) (learns.frame.kept ∙ kept) in (
+      w.few,
+      comes_from z c.begin_range.result (vec_len p.kept.rows) (vec_len t.kept.rows) (vec_len b.kept.rows) p.seat.me t.seat.me b.seat.me (omega arith)
+          (let pool = ap (λ (x : MyTree). x.0.lost) learns.raised in let link = learns.steps.lost_is in omega arith) (found.turns ∙ turns) (found.tree ∙ tree)
+          (c.begin_range.ensures.alone (only.0, subst (λ (n : ℕ). 0 < n) (sym number') only.1) found.unmet
+          (subst (λ (x : Inventory × List Note). IsListed x.0 (first_note x.1)) (λ i. (sym (found.tree ∙ tree) i, sym notes i)) w.listed)),
+    )

@@ -1,4 +1,6 @@
-use Rattle.std.proofs.Common.{arith}
+use Rattle.std.proofs.Common.{vec_len, arith}
+use Rattle.ca_range.proofs.LoneSnaps.{snaps_alone}
+use Rattle.ca_range.proofs.LoneSteps.{lone_on}
 use Rattle.ca_range.proofs.OwnSteps.{number_on, pinned_both, ready_on, ready_stays, snapped_by}
 use Rattle.ca_range.proofs.SnapshotSteps.{more_turns, ranges_both}
 use Rattle.ca_range.proofs.Spends.{on_both}
@@ -53,3 +55,16 @@ returns-in-On-clause-loads g c = let z = c.args.space.now.table.shared.key in le
 pub returns-in-Ended-clause-loads : goal.returns-in-Ended-clause-loads
 returns-in-Ended-clause-loads g c = let z = c.args.space.now.table.shared.key in
     begins_most z c.begin_snapshot.result c.args.pass.now.seat.me.0.upper c.begin_snapshot.new.pass.seat.me.0.upper c.begin_snapshot.ensures.loads
+
+pub returns-in-On-clause-alone : goal.returns-in-On-clause-alone
+returns-in-On-clause-alone g c = λ alone known unmet. let z = c.args.space.now.table.shared.key in let p = c.args.pass.now in
+    let q = c.begin_snapshot.new.pass in let r = c.gather.new.pass in let first = c.in-On.ensures.alone alone unmet in let steps = c.begin_snapshot.ensures.steps in
+    snaps_alone z c.gather.result (vec_len p.kept.rows) (vec_len r.kept.rows) p.seat.me r.seat.me alone known
+    (ranges_both p.seat.me.0.upper q.seat.me.0.upper r.seat.me.0.upper steps c.gather.ensures.goes.steps) first.0
+    (c.gather.ensures.alone (vec_len p.kept.rows) p.seat.me (lone_on z p.seat.me.0.upper q.seat.me.0.upper steps alone) first.1)
+
+pub returns-in-Ended-clause-alone : goal.returns-in-Ended-clause-alone
+returns-in-Ended-clause-alone g c = λ alone known unmet. let p = c.args.pass.now in let q = c.begin_snapshot.new.pass in
+    let first = c.in-Ended.ensures.alone alone unmet in
+    snaps_alone c.args.space.now.table.shared.key c.in-Ended.snapped (vec_len p.kept.rows) (vec_len q.kept.rows) p.seat.me q.seat.me alone known
+    c.begin_snapshot.ensures.steps first.0 first.1
