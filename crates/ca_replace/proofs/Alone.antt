@@ -1,5 +1,5 @@
 -- Why a call of a pass that is alone is refused.
-use Rattle.std.proofs.Common.{◌≡◌, ◌⊎◌, ℕ, ◌+◌, ◌≤◌, List, length, Vec, Result, Ok, Err, IfErr, sym, subst, refl, ap, ⊎_elim, arith}
+use Rattle.std.proofs.Common.{◌≡◌, ℕ, ◌+◌, ◌≤◌, List, length, Vec, Result, Ok, Err, IfErr, sym, subst, refl, ap, ⊎_elim, arith}
 use Rattle.std.specs.Global.{Global}
 use Rattle.std.specs.declared.option.Option.{Option}
 use Rattle.std.specs.declared.option.Option.TheVariants.{None as Nothing, Some as Just}
@@ -12,6 +12,7 @@ use Rattle.ca_model.specs.declared.outcome.Spent.{Spent}
 use Rattle.ca_model.specs.History.{History}
 use Rattle.ca_base.specs.declared.stop.Stop.TheVariants as stop
 use Rattle.ca_base.specs.Counting.{losses}
+use Rattle.ca_node.specs.Inventory.{HasFewRows}
 use Rattle.ca_node.specs.States.{IsAlone}
 use Rattle.ca_node.specs.Told.{MyTree}
 use Rattle.ca_node.specs.TreeView.{Inventory, Note, TreeView}
@@ -34,7 +35,7 @@ use Rattle.ca_rows.specs.declared.view.Pin.{Pin}
 use Rattle.ca_rows.specs.Reclaiming.{IsLag}
 
 -- No other pass lags where there is none.
-never_lags : (passes number : ℕ) (lag : Option ℕ) (pin : Pin) → passes ≡ 1 → number ≡ 1 → IsLag passes number lag pin → lag ≡ Nothing
+pub never_lags : (passes number : ℕ) (lag : Option ℕ) (pin : Pin) → passes ≡ 1 → number ≡ 1 → IsLag passes number lag pin → lag ≡ Nothing
 never_lags passes number Nothing pin one first h = refl
 never_lags passes number (Just j) pin one first h = absurd (h.2 (omega (arith, h.0, h.1)))
 
@@ -129,21 +130,21 @@ two_more z adds u v h = ⊎_elim (λ (same : IsSameTree u v). let e = ap (λ (i 
 pub refill_crowded : (z : Sizes) (number budget begun kept now : ℕ) (adds : Option (List ℕ)) (spent : Spent) (why : Cause) (u : TreeView) (m n l : MyTree)
     (kept' : Vec Kept Global) → z.passes ≡ 1 → number ≡ 1 → begun ≡ kept → IsRefill z.passes number budget begun spent why n l kept'
     → HasCrowded {T = Unit {0}} (Err (halt.Stopped stop.Empty)) z.rows kept now m n → losses n ≡ losses m
-    → HasWaited z adds m.0.upper n.0.upper → HasWaited z adds u n.0.upper → IsCrowdedCause z u why
-refill_crowded z number budget begun kept now adds spent (cause.Busy s) u m n l kept' one first same h crowd lost last all = tt
-refill_crowded z number budget begun kept now adds spent (cause.Full full) u m n l kept' one first same h crowd lost last all =
+    → HasWaited z adds m.0.upper n.0.upper → HasWaited z adds u n.0.upper → HasFewRows u → IsCrowdedCause z 11 u why
+refill_crowded z number budget begun kept now adds spent (cause.Busy s) u m n l kept' one first same h crowd lost last all tree = tt
+refill_crowded z number budget begun kept now adds spent (cause.Full full) u m n l kept' one first same h crowd lost last all tree =
     let none = never_lags z.passes number full.lag l.0.pin one first h.3 in
     let zero : begun ≡ 0 = ⊎_elim (λ e. e) (λ some. absurd (some none)) h.1 in let cut = one_split z adds m.0.upper n.0.upper last in
-    let grown = two_more z adds u n.0.upper all in let few = crowd.0 in let rows = crowd.1 in omega arith
-refill_crowded z number budget begun kept now adds spent (cause.Deep level) u m n l kept' one first same h crowd lost last all = tt
-refill_crowded z number budget begun kept now adds spent (cause.Worn counter) u m n l kept' one first same h crowd lost last all = tt
+    let grown = two_more z adds u n.0.upper all in let few = crowd.0 in let rows = crowd.1 in (omega arith, tree)
+refill_crowded z number budget begun kept now adds spent (cause.Deep level) u m n l kept' one first same h crowd lost last all tree = tt
+refill_crowded z number budget begun kept now adds spent (cause.Worn counter) u m n l kept' one first same h crowd lost last all tree = tt
 
 -- A call that is refused by what its last attempt came to, which found the rows that it wanted, isn't refused for want of one.
-pub refused_uncrowded : {T : Type 0} (z : Sizes) (u : TreeView) (tried : Result T Halt) (r : Result T Cause) (spent : Spent) (levels : ℕ)
-    → r ≡ refused_as tried spent levels → IfErr r (λ why. IsCrowdedCause z u why)
-refused_uncrowded {T} z u tried r spent levels is = subst (λ (x : Result T Cause). IfErr x (λ why. IsCrowdedCause z u why)) (sym is) (by tried)
+pub refused_uncrowded : {T : Type 0} (z : Sizes) (more : ℕ) (u : TreeView) (tried : Result T Halt) (r : Result T Cause) (spent : Spent) (levels : ℕ)
+    → r ≡ refused_as tried spent levels → IfErr r (λ why. IsCrowdedCause z more u why)
+refused_uncrowded {T} z more u tried r spent levels is = subst (λ (x : Result T Cause). IfErr x (λ why. IsCrowdedCause z more u why)) (sym is) (by tried)
   where
-    by : (tried : Result T Halt) → IfErr (refused_as tried spent levels) (λ why. IsCrowdedCause z u why)
+    by : (tried : Result T Halt) → IfErr (refused_as tried spent levels) (λ why. IsCrowdedCause z more u why)
     by (Ok x) = tt
     by (Err (halt.Stopped (stop.Lost e))) = tt
     by (Err (halt.Stopped stop.Empty)) = tt
@@ -153,10 +154,11 @@ refused_uncrowded {T} z u tried r spent levels is = subst (λ (x : Result T Caus
     by (Err halt.Helped) = tt
 
 -- So it is of the call, by what it comes to.
-pub crowded_call : {T : Type 0} (z : Sizes) (u : TreeView) (why : Cause) (o : Outcome T) → o ≡ outcome_by why → IsCrowdedCause z u why → IsCrowdedCall z u o
-crowded_call {T} z u why o is h = subst (λ (x : Outcome T). IsCrowdedCall z u x) (sym is) (by why h)
+pub crowded_call : {T : Type 0} (z : Sizes) (more : ℕ) (u : TreeView) (why : Cause) (o : Outcome T) → o ≡ outcome_by why → IsCrowdedCause z more u why
+    → IsCrowdedCall z more u o
+crowded_call {T} z more u why o is h = subst (λ (x : Outcome T). IsCrowdedCall z more u x) (sym is) (by why h)
   where
-    by : (why : Cause) → IsCrowdedCause z u why → IsCrowdedCall {T = T} z u (outcome_by why)
+    by : (why : Cause) → IsCrowdedCause z more u why → IsCrowdedCall {T = T} z more u (outcome_by why)
     by (cause.Busy spent) h = tt
     by (cause.Full full) h = h
     by (cause.Deep level) h = tt

@@ -1,5 +1,5 @@
 -- What an attempt comes to behind the look that it begins with.
-use Rattle.std.proofs.Common.{◌+◌, ◌≡◌, ◌<◌, ℕ, Bool, true, false, List, [], Result, Ok, Err, sym, refl, ap, ◌∙◌, subst, ◌≤◌, arith, vec_len}
+use Rattle.std.proofs.Common.{◌+◌, ◌≡◌, ◌<◌, ℕ, Bool, true, false, List, [], Result, Ok, Err, IfErr, sym, refl, ap, ◌∙◌, subst, ◌≤◌, arith, vec_len}
 use Rattle.std.specs.declared.option.Option.{Option}
 use Rattle.ca_adapt.specs.declared.tuning.Tuning.{Tuning}
 use Rattle.ca_base.specs.Counting.{losses}
@@ -13,13 +13,14 @@ use Rattle.ca_replace.specs.declared.attempting.Halt.{Halt}
 use Rattle.ca_replace.specs.declared.attempting.Halt.TheVariants as halt
 use Rattle.ca_replace.specs.Adapting.{Goes, IfTrue, IsCauseMet}
 use Rattle.ca_replace.specs.Attempting.{IsIdle}
-use Rattle.ca_replace.specs.Crowding.{Crowds}
+use Rattle.ca_replace.specs.Crowding.{Crowds, HasFewAlone}
 use Rattle.ca_replace.specs.Cutting.{HasCut, HasCutBehind}
 use Rattle.ca_replace.specs.Growing.{HasGrown}
 use Rattle.ca_replace.specs.Looking.{HasLooked}
 use Rattle.ca_replace.specs.Turning.{IsTurn}
 use Rattle.ca_replace.specs.Winning.{HasWon}
 use Rattle.ca_replace.proofs.Counted.{none_paid, stopped_behind, paid_but}
+use Rattle.ca_replace.proofs.Crowding.{few_looked}
 use Rattle.ca_replace.proofs.Cutting.{entered_cut, looked_cut}
 use Rattle.ca_replace.proofs.Entries.{held_looked, held_upper}
 use Rattle.ca_replace.proofs.GoingOn.{adapts_after, entered_waits, gone_after, paid_behind, paid_looked}
@@ -120,6 +121,10 @@ module _ {R : Type 0} {space : Space R TreeView} {key : List ℕ} {cursor : Curs
   crowds_behind why new crowds alone = let did = crowds (alone_on z pass.seat.me.0.upper mid.seat.me.0.upper l.further.number alone) in
       let lost = l.quiet.lost in let cut = l.quiet.splits_are in
       let same = ap (λ (k : KeptRows). vec_len k.rows) l.kept in let few = did.0 in (omega arith, did.1)
+
+  pub few_behind : {T : Type 0} (r : Result T Halt) → IfErr r (λ _. HasFewAlone z pass.seat.me.0.upper)
+  few_behind (Ok x) = tt
+  few_behind (Err why) = few_looked z pass.seat.me mid.seat.me l.quiet l.further.number l.looking.few_rows
 
   pub crowds_tried : (r : Result (Unit {0}) Halt) (new : Pass R TreeView) → Crowds space r mid new → Crowds space r pass new
   crowds_tried (Ok x) new crowds alone = tt

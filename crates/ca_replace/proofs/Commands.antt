@@ -1,4 +1,4 @@
--- A command carries out one update at most.
+-- A command carries out one update at most; so a pass that is alone finds its space short of rows only behind many commands, or where it has few.
 use Rattle.std.proofs.Common.{◌≡◌, ◌⊎◌, ℕ, zero, suc, ◌+◌, ◌≤◌, List, Bool, true, false, ap, ◌∙◌, ⊎_elim, arith}
 use Rattle.std.specs.declared.option.Option.{Option}
 use Rattle.ca_adapt.specs.declared.tuning.Tuning.{Tuning}
@@ -10,10 +10,10 @@ use Rattle.ca_node.specs.TreeView.{Renewal, TreeView}
 use Rattle.ca_rows.specs.declared.sizes.Sizes.{Sizes}
 use Rattle.ca_replace.specs.declared.adapting.Last.{Last}
 use Rattle.ca_replace.specs.Adapting.{Leaves, LeavesInCall}
-use Rattle.ca_replace.specs.Levels.{Any, HasAnswered, HasBeenAnswered, HasCalled, HasPlayed, HasReadAndCalled, HasReadFor, HasTried, IsLastTry, IsTry, Refused, UpdatesByCommands}
+use Rattle.ca_replace.specs.Levels.{Any, FullComesLate, HasAnswered, HasBeenAnswered, HasCalled, HasPlayed, HasReadAndCalled, HasReadFor, HasTried, IsLastTry, IsTry, Refused, UpdatesByCommands}
 use Rattle.ca_replace.specs.Resting.{StoreView}
 use Rattle.ca_replace.specs.TreePromises.{MakesNoUpdate}
-use Rattle.ca_replace.proofs.Levels.{reads_none, reads_of, reads_on}
+use Rattle.ca_replace.proofs.Levels.{reads_none, reads_of, reads_on, splits_then}
 
 -- It carried out no update; any call carried out one at most.
 no_update : {T : Type 0} (edits : T → Bool) (z : Sizes) (tuning : Tuning) (last last' : Last) (o : Outcome T) (u v : TreeView)
@@ -97,6 +97,19 @@ pub update_by_commands : UpdatesByCommands
 update_by_commands zero s t h = let same = ap (λ (r : Renewal). r.count) h.unrenewed in omega arith
 update_by_commands (suc commands) s t h = let few = update_by_commands commands s h.1 h.3 in
     let one = counted_then h.1 h.2 t 1 (answered h.0 h.1 h.2 h.4) h.5.unrenewed in omega arith
+
+-- As a command is tried no more updates were carried out than by those before it.
+updates_then : (commands tries : ℕ) (s t v w : StoreView) (adds : Option (List ℕ)) → HasPlayed commands s t → HasTried tries adds t v
+    → HasReadFor adds v w → Updates commands s w
+updates_then commands tries s t v w adds before refused read = counted_then s t w commands (update_by_commands commands s t before)
+    ((reads_of adds v w read).unrenewed ∙ tried tries adds t v refused)
+
+-- The space has few rows, where it is short of them then.
+pub full_late : FullComesLate
+full_late commands tries s t v w adds one none unrenewed before refused read short =
+    let grew = splits_then commands tries s t v w adds one before refused read in let cuts = grew.1 in
+    let updates = updates_then commands tries s t v w adds before refused read in
+    let same = ap (λ (z : Sizes). z.rows) grew.0.sizes in let rows = short.0 in let linked = short.1.0 in let bases = short.1.1 in omega arith
 
 -- Commands that are followed by a read, or by one more.
 pub plays_read : (commands : ℕ) (s u t : StoreView) → HasPlayed commands s u → MakesNoUpdate u t → HasPlayed commands s t

@@ -1,5 +1,5 @@
 -- How few rows a pass that is alone keeps behind attempts that did not do their call, and how few rows there are where none was free.
-use Rattle.std.proofs.Common.{◌≡◌, ◌<◌, ◌≤◌, ℕ, ◌+◌, List, [], ◌∷◌, ◌++◌, take, drop, length, length-append, length-drop, vec_len, Result, Ok, Err, IfErr, refl, sym, ap, ◌∙◌, subst, ⊎_elim, arith}
+use Rattle.std.proofs.Common.{◌≡◌, ◌<◌, ◌≤◌, ℕ, ◌+◌, List, [], ◌∷◌, take, drop, length, length-append, length-drop, vec_len, Result, Ok, Err, IfErr, refl, sym, ap, ◌∙◌, subst, ⊎_elim, arith}
 use Rattle.std.proofs.lemmas.List.{length-take-le}
 use Rattle.ca_base.specs.declared.stop.Exchange.TheVariants as exchange
 use Rattle.ca_base.specs.declared.stop.Stop.{Stop}
@@ -12,14 +12,16 @@ use Rattle.ca_base.specs.Splitting.{HasSplit}
 use Rattle.ca_base.specs.Taking.{AreHeld}
 use Rattle.ca_base.proofs.Crowds.{crowd_counted}
 use Rattle.ca_model.specs.Event.{Event}
+use Rattle.ca_node.specs.Inventory.{HasFewRows}
 use Rattle.ca_node.specs.Layout.{base_form}
 use Rattle.ca_node.specs.States.{IsAlone}
 use Rattle.ca_node.specs.Told.{MyTree}
-use Rattle.ca_node.specs.TreeView.{TreeView}
+use Rattle.ca_node.specs.TreeView.{Inventory, Renewal, TreeView}
 use Rattle.ca_replace.specs.declared.attempting.Halt.{Halt}
 use Rattle.ca_replace.specs.declared.attempting.Halt.TheVariants as halt
-use Rattle.ca_replace.specs.Attempting.{come_to, HasNext, split_to, splits}
-use Rattle.ca_replace.specs.Crowding.{Crowds, CrowdsAt, HasCrowded, KeepsBySplits}
+use Rattle.ca_replace.specs.Attempting.{come_to, HasNext, IsQuiet, split_to, splits}
+use Rattle.ca_replace.specs.Crowding.{Crowds, CrowdsAt, HasCrowded, HasFewAlone, KeepsBySplits}
+use Rattle.ca_replace.proofs.Growing.{alone_on}
 use Rattle.ca_replace.proofs.Turns.{is_lone}
 use Rattle.ca_rows.specs.declared.kept.Kept.{Kept}
 use Rattle.ca_rows.specs.declared.kept.KeptRows.{KeptRows}
@@ -28,6 +30,18 @@ use Rattle.ca_rows.specs.declared.space.Pass.{Pass}
 use Rattle.ca_rows.specs.declared.space.Space.{Space}
 use Rattle.ca_rows.specs.Kept.{AreYoung, IsTakenOut}
 use Rattle.ca_rows.specs.Passes.{OnlyReads}
+
+-- A tree has few rows that has what one has that has few.
+pub few_as : (u v : TreeView) → v.splits ≡ u.splits → v.inventory ≡ u.inventory → v.renewal ≡ u.renewal → HasFewRows v → HasFewRows u
+few_as u v split has renewed few = subst
+    (λ (x : ℕ × Inventory × Renewal). HasFewRows (record u { splits = x.0; inventory = x.1; renewal = x.2 }))
+    (λ i. (split i, has i, renewed i)) few
+
+-- So it has before a look that shows it.
+pub few_looked : (z : Sizes) (m n : MyTree) → IsQuiet m n → n.0.upper.number ≡ m.0.upper.number → HasFewAlone z n.0.upper
+    → HasFewAlone z m.0.upper
+few_looked z m n q same few alone = few_as m.0.upper n.0.upper q.splits_are q.same_inventory q.idle.0
+    (few (alone_on z m.0.upper n.0.upper same alone))
 
 -- No more rows are kept than before some were taken.
 taken_fewer : (told like row : ℕ) (ks next : List Kept) → IsTakenOut told like row ks next → length next ≤ length ks
@@ -132,6 +146,15 @@ module _ {R : Type 0} (space : Space R TreeView) where
 pub next_keeps : {T : Type 0} (r : Result T Halt) (rows a b : ℕ) (m n : MyTree) → HasNext r → HasCrowded r rows a b m n → KeepsBySplits a b m n
 next_keeps (Ok x) rows a b m n next h = absurd next
 next_keeps (Err why) rows a b m n next h = h.0
+
+-- So it is of what they tell of how they began.
+pub stopped_few : {T : Type 0} (r : Result T Halt) (P : Type 0) → HasNext r → IfErr r (λ _. P) → P
+stopped_few (Ok x) P next h = absurd next
+stopped_few (Err why) P next h = h
+
+pub few_before : {T : Type 0} (r : Result T Halt) (P Q : Type 0) → (P → Q) → IfErr r (λ _. P) → IfErr r (λ _. Q)
+few_before (Ok x) P Q more h = tt
+few_before (Err why) P Q more h = more h
 
 -- The pass unpinned behind an attempt.
 crowds_left : (why : Halt) (rows c d : ℕ) (n p : MyTree) → d ≡ c → length p.0.upper.inventory.rows ≡ length n.0.upper.inventory.rows

@@ -37,13 +37,13 @@ use Rattle.ca_replace.specs.Within.{HasLearnt, below_event, spot_at}
 use Rattle.ca_replace.proofs.Runs.{by_last, filter_through, in_up_to}
 use Rattle.ca_rows.specs.declared.sizes.Sizes.{Sizes}
 
-is_less : (o : Ordering) → is_lt o ≡ true → o ≡ Less
+pub is_less : (o : Ordering) → is_lt o ≡ true → o ≡ Less
 is_less Less e = refl
 is_less Equal e = cc
 is_less Greater e = cc
 
 -- A key that isn't above another one is less than what that one is less than, and so is one that is less than another one, of what that one isn't above.
-not_above : (k c h : List ℕ) → not (is_gt (bytes_cmp k c)) ≡ true → bytes_cmp c h ≡ Less → bytes_cmp k h ≡ Less
+pub not_above : (k c h : List ℕ) → not (is_gt (bytes_cmp k c)) ≡ true → bytes_cmp c h ≡ Less → bytes_cmp k h ≡ Less
 not_above k c h low less = by (bytes_cmp k c) refl low
   where
     by : (o : Ordering) → bytes_cmp k c ≡ o → not (is_gt o) ≡ true → bytes_cmp k h ≡ Less
@@ -51,7 +51,7 @@ not_above k c h low less = by (bytes_cmp k c) refl low
     by Equal is low = nat_list_cmp_total.congr k c h is ∙ less
     by Greater is low = cc
 
-below_it : (k c h : List ℕ) → bytes_cmp k c ≡ Less → bytes_cmp c h ≢ Greater → bytes_cmp k h ≡ Less
+pub below_it : (k c h : List ℕ) → bytes_cmp k c ≡ Less → bytes_cmp c h ≢ Greater → bytes_cmp k h ≡ Less
 below_it k c h less low = by (bytes_cmp c h) refl
   where
     by : (o : Ordering) → bytes_cmp c h ≡ o → bytes_cmp k h ≡ Less

@@ -1,5 +1,5 @@
 -- A pass that is alone splits two bases a command at most, and so its tree grows no deeper.
-use Rattle.std.proofs.Common.{◌≡◌, ◌⊎◌, ℕ, zero, suc, ◌+◌, ◌≤◌, List, Bool, ap, refl, sym, subst, ◌∙◌, inl, ⊎_elim, arith}
+use Rattle.std.proofs.Common.{◌≡◌, ◌⊎◌, ℕ, zero, suc, ◌+◌, ◌*◌, ◌≤◌, List, Bool, ap, refl, sym, subst, ◌∙◌, inl, ⊎_elim, arith}
 use Rattle.std.specs.declared.option.Option.{Option}
 use Rattle.std.specs.declared.option.Option.TheVariants.{None, Some}
 use Rattle.ca_model.specs.declared.outcome.Changed.{Changed}
@@ -11,7 +11,7 @@ use Rattle.ca_rows.specs.declared.sizes.Sizes.{Sizes}
 use Rattle.ca_replace.specs.Alone.{HadNoRoom}
 use Rattle.ca_replace.specs.Called.{StaysStore}
 use Rattle.ca_replace.specs.Growing.{Grows, GrowsInCall, HasRoomFor, HasWaited, IsSameTree}
-use Rattle.ca_replace.specs.Levels.{Any, DeepComesLate, HasAnswered, HasBeenAnswered, HasCalled, HasReadAndCalled, HasReadFor, HasTried, IsLastTry, IsTry, Refused, SplitsByCommands}
+use Rattle.ca_replace.specs.Levels.{Any, DeepComesLate, HasAnswered, HasBeenAnswered, HasCalled, HasPlayed, HasReadAndCalled, HasReadFor, HasTried, IsLastTry, IsTry, Refused, SplitsByCommands}
 use Rattle.ca_replace.specs.Resting.{StoreView}
 use Rattle.ca_replace.specs.TreePromises.{MakesNoUpdate, OnlyLooks}
 use Rattle.ca_replace.proofs.Growing.{done, waited_on, waits}
@@ -264,3 +264,12 @@ pub deep_late : DeepComesLate
 deep_late commands tries s t v w adds one none before refused read full = let few = split_by_commands commands s t one before in
     let still = lone_then s t few.0 one in let last = come_read adds t v w still (tried tries adds t v still refused) read in
     let levels = deep_then adds t w last full in let most = few.1 in let same = ap (λ (z : Sizes). z.levels) few.0.sizes in omega arith
+
+-- As a command is tried its pass has split so many bases by those before it, and one more at most.
+pub splits_then : (commands tries : ℕ) (s t v w : StoreView) (adds : Option (List ℕ)) → s.z.passes ≡ 1 → HasPlayed commands s t
+    → HasTried tries adds t v → HasReadFor adds v w → Grew (2 * commands + 1) s w
+splits_then commands tries s t v w adds one before refused read = let few = split_by_commands commands s t one before in
+    let still = lone_then s t few.0 one in let last = come_read adds t v w still (tried tries adds t v still refused) read in (
+      stays_on s t w few.0 (come_same adds t w last),
+      let most = few.1 in let more = come_split adds t w last in omega arith,
+    )

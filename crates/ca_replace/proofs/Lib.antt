@@ -22,6 +22,8 @@ pub mod LastRuns
 pub mod Leaving
 pub mod Levels
 pub mod Loads
+pub mod LoneLooks
+pub mod LoneReads
 pub mod LooksLeft
 pub mod Marking
 pub mod Meeting
@@ -47,6 +49,7 @@ pub mod Tallies
 pub mod Telling
 pub mod Tuning
 pub mod Turns
+pub mod Vanishing
 pub mod Waiting
 pub mod Winning
 pub mod Runs

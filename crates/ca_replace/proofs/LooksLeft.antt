@@ -145,7 +145,7 @@ module _ (z : Sizes) (route : ℕ) (cursor : Cursor) (m m' : MyTree) (h : HasLoo
   abbrev mid : MyTree
   mid = h.mid
 
-  now : m' ≡ with_upper m (passed_on (walked m.0.upper h.walked.more h.walked.note h.walked.ways h.walked.loads))
+  pub now : m' ≡ with_upper m (passed_on (walked m.0.upper h.walked.more h.walked.note h.walked.ways h.walked.loads))
   now = h.counted ∙ ap (λ (x : MyTree). with_upper x (passed_on x.0.upper)) h.walked.now
 
   same_lost : losses m' ≡ losses m
@@ -154,7 +154,7 @@ module _ (z : Sizes) (route : ℕ) (cursor : Cursor) (m m' : MyTree) (h : HasLoo
   pub one_passed_on : passes m' ≡ passes m + 1
   one_passed_on = ap (λ (x : MyTree). passes x) now
 
-  same_helped : helps m' ≡ helps m
+  pub same_helped : helps m' ≡ helps m
   same_helped = ap (λ (x : MyTree). helps x) now
 
   aside_left : (a b : Spent) → b.passed ≡ min (a.passed + 1) 4294967295 → (b.lost ≡ a.lost) × (b.helped ≡ a.helped)
@@ -186,19 +186,19 @@ module _ (z : Sizes) (route : ℕ) (cursor : Cursor) (m m' : MyTree) (h : HasLoo
       subst (λ (x : MyTree). IsReadable z x.0.upper cursor.base (first_note x.0.upper.notes)) (sym h.counted)
       (record { noted = r.noted; here = r.here; is_base = r.is_base; few = r.few; ordered = r.ordered })
 
-  here : first_note m'.0.upper.notes ≡ h.walked.note
+  pub here : first_note m'.0.upper.notes ≡ h.walked.note
   here = ap (λ (x : MyTree). first_note x.0.upper.notes) now
 
   same_ways : m'.0.upper.ways ≡ mid.0.upper.ways
   same_ways = ap (λ (x : MyTree). x.0.upper.ways) h.counted
 
   -- It is right below where the one before begins.
-  right_below : (bound : Bound) → IsLowRoute z m.0.upper.ways (Some route) bound → IsRightBelow bound (first_note m'.0.upper.notes)
+  pub right_below : (bound : Bound) → IsLowRoute z m.0.upper.ways (Some route) bound → IsRightBelow bound (first_note m'.0.upper.notes)
   right_below bound low = let shown = low_shown z m.0.upper route bound low in
       subst (λ (n : Note). IsRightBelow bound n) (sym here) (subst (λ (b : Bound). IsRightBelow b h.walked.note) (sym shown.2)
       (subst (λ (k : List ℕ). IsRightBelow (Included k) h.walked.note) (h.key_is shown.0 shown.1) h.walked.sought))
 
-  one_note : m'.0.upper.notes ≡ first_note m'.0.upper.notes ∷ m.0.upper.notes
+  pub one_note : m'.0.upper.notes ≡ first_note m'.0.upper.notes ∷ m.0.upper.notes
   one_note = ap (λ (x : MyTree). x.0.upper.notes) now
       ∙ sym (ap (λ (x : MyTree). first_note x.0.upper.notes ∷ m.0.upper.notes) now)
 

@@ -8,6 +8,7 @@ use Rattle.ca_model.specs.declared.outcome.Outcome.{Outcome}
 use Rattle.ca_model.specs.declared.outcome.Outcome.TheVariants as outcome
 use Rattle.ca_model.specs.History.{History, after}
 use Rattle.ca_model.specs.StoreMap.{IsFound}
+use Rattle.ca_node.specs.Inventory.{HasFewRows}
 use Rattle.ca_node.specs.Links.{IsIn}
 use Rattle.ca_node.specs.Place.{Place, HasKey, part}
 use Rattle.ca_node.specs.TreeView.{Inventory, TreeView}
@@ -46,20 +47,20 @@ HasLoneCause z adds u (outcome.Full full) = (full.kept ≡ 0) × (full.lag ≡ N
 HasLoneCause z adds u (outcome.Deep level) = HadNoRoom z adds u
 HasLoneCause z adds u (outcome.Worn counter) = Unit {0}
 
--- It is short of rows: there are as many as such a tree has of them, and eleven, at most.
-abbrev pub IsShortOfRows : Sizes → TreeView → Type 0
-IsShortOfRows z u = z.rows ≤ length u.inventory.rows + 11
+-- The space is short of rows: it has so many more than the tree of such a pass has, at most, and the tree has few.
+abbrev pub IsShortOfRows : Sizes → ℕ → TreeView → Type 0
+IsShortOfRows z more u = (z.rows ≤ length u.inventory.rows + more) × HasFewRows u
 
--- So it was as the call began that may edit, of such a pass, and is refused by this cause, where that is that no row was free.
-abbrev pub IsCrowdedCause : Sizes → TreeView → Cause → Type 0
-IsCrowdedCause z u (cause.Busy spent) = Unit {0}
-IsCrowdedCause z u (cause.Full full) = IsShortOfRows z u
-IsCrowdedCause z u (cause.Deep level) = Unit {0}
-IsCrowdedCause z u (cause.Worn counter) = Unit {0}
+-- So it was as a call of such a pass began that is refused by this cause, where that is that no row was free.
+abbrev pub IsCrowdedCause : Sizes → ℕ → TreeView → Cause → Type 0
+IsCrowdedCause z more u (cause.Busy spent) = Unit {0}
+IsCrowdedCause z more u (cause.Full full) = IsShortOfRows z more u
+IsCrowdedCause z more u (cause.Deep level) = Unit {0}
+IsCrowdedCause z more u (cause.Worn counter) = Unit {0}
 
-abbrev pub IsCrowdedCall : {T : Type 0} → Sizes → TreeView → Outcome T → Type 0
-IsCrowdedCall z u (outcome.Done x) = Unit {0}
-IsCrowdedCall z u (outcome.Busy spent) = Unit {0}
-IsCrowdedCall z u (outcome.Full full) = IsShortOfRows z u
-IsCrowdedCall z u (outcome.Deep level) = Unit {0}
-IsCrowdedCall z u (outcome.Worn counter) = Unit {0}
+abbrev pub IsCrowdedCall : {T : Type 0} → Sizes → ℕ → TreeView → Outcome T → Type 0
+IsCrowdedCall z more u (outcome.Done x) = Unit {0}
+IsCrowdedCall z more u (outcome.Busy spent) = Unit {0}
+IsCrowdedCall z more u (outcome.Full full) = IsShortOfRows z more u
+IsCrowdedCall z more u (outcome.Deep level) = Unit {0}
+IsCrowdedCall z more u (outcome.Worn counter) = Unit {0}

@@ -27,7 +27,7 @@ pub record HasTold {T : Type 0} (edits : T → Bool) (adds : Option (List ℕ)) 
   -- why it was refused, and how few rows its pass keeps and held
   pub caused : HasCause budget adds s t o
   pub alone : s.z.passes ≡ 1 → HasLoneCause s.z adds s.seat.me.0.upper o
-  pub crowded : s.z.passes ≡ 1 → IsCrowdedCall s.z s.seat.me.0.upper o
+  pub crowded : s.z.passes ≡ 1 → IsCrowdedCall s.z 11 s.seat.me.0.upper o
   pub sparing : IsSparing s t
   -- how often it pinned, and how often it looked at the others
   pub bounded : IsBounded (vec_len s.kept) s.seat.me t.seat.me

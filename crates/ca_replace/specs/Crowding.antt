@@ -2,18 +2,24 @@
 use Rattle.std.specs.Prelude.{ℕ, ◌+◌, ◌≤◌, length, Result, Ok, Err, vec_len}
 use Rattle.ca_base.specs.declared.stop.Stop.TheVariants as stop
 use Rattle.ca_base.specs.Counting.{losses}
+use Rattle.ca_node.specs.Inventory.{HasFewRows}
 use Rattle.ca_node.specs.States.{IsAlone}
 use Rattle.ca_node.specs.Told.{MyTree}
 use Rattle.ca_node.specs.TreeView.{TreeView}
 use Rattle.ca_replace.specs.declared.attempting.Halt.{Halt}
 use Rattle.ca_replace.specs.declared.attempting.Halt.TheVariants as halt
 use Rattle.ca_replace.specs.Attempting.{splits}
+use Rattle.ca_rows.specs.declared.sizes.Sizes.{Sizes}
 use Rattle.ca_rows.specs.declared.space.Pass.{Pass}
 use Rattle.ca_rows.specs.declared.space.Space.{Space}
 
 -- A seat that kept so many rows keeps so many now: one more at most for each exchange that it lost, and for each base that it split.
 abbrev pub KeepsBySplits : ℕ → ℕ → MyTree → MyTree → Type 0
 KeepsBySplits kept kept' m m' = kept' + (losses m + splits m) ≤ kept + (losses m' + splits m')
+
+-- Where the pass is alone its tree has few rows.
+abbrev pub HasFewAlone : Sizes → TreeView → Type 0
+HasFewAlone z u = IsAlone z u → HasFewRows u
 
 -- An attempt of a pass that keeps so many rows stopped so: where no row was free, all rows but eight at most are the tree's, or are kept.
 abbrev pub CrowdsAt : Halt → ℕ → ℕ → MyTree → Type 0

@@ -1,11 +1,11 @@
--- What commands of a pass that is alone make of its tree, and when one of them may be refused for want of levels.
-use Rattle.std.specs.Prelude.{◌≡◌, ◌⊎◌, ℕ, zero, suc, ◌+◌, ◌*◌, ◌≤◌, Bool, List}
+-- What commands of a pass that is alone make of its tree, and when one of them may be refused for want of levels, or of rows.
+use Rattle.std.specs.Prelude.{◌≡◌, ◌⊎◌, ℕ, zero, suc, ◌+◌, ◌*◌, ◌≤◌, Bool, List, length}
 use Rattle.std.specs.declared.option.Option.{Option}
 use Rattle.std.specs.declared.option.Option.TheVariants.{None, Some}
 use Rattle.ca_model.specs.declared.outcome.Changed.{Changed}
 use Rattle.ca_model.specs.declared.outcome.Outcome.{Outcome}
 use Rattle.ca_model.specs.Answer.{IsDone}
-use Rattle.ca_replace.specs.Alone.{HadNoRoom}
+use Rattle.ca_replace.specs.Alone.{HadNoRoom, IsShortOfRows}
 use Rattle.ca_replace.specs.Called.{HasTold, StaysStore}
 use Rattle.ca_replace.specs.Resting.{StoreView}
 use Rattle.ca_replace.specs.TreePromises.{MakesNoUpdate, OnlyLooks}
@@ -71,3 +71,10 @@ SplitsByCommands = (commands : ℕ) (s t : StoreView) → s.z.passes ≡ 1 → H
 abbrev pub DeepComesLate : Type 0
 DeepComesLate = (commands tries : ℕ) (s t v w : StoreView) (adds : Option (List ℕ)) → s.z.passes ≡ 1 → s.seat.me.0.upper.splits ≡ 0
     → HasPlayed commands s t → HasTried tries adds t v → HasReadFor adds v w → HadNoRoom w.z adds w.seat.me.0.upper → s.z.levels ≤ 2 * commands
+
+-- In a tree for one pass, which had split no base and carried out no update before these commands, the space is short of rows as the next one is tried, at
+-- whichever try, only where it has few, by how many commands these were. A read takes at most as many rows as there are bases, and eleven.
+abbrev pub FullComesLate : Type 0
+FullComesLate = (commands tries : ℕ) (s t v w : StoreView) (adds : Option (List ℕ)) → s.z.passes ≡ 1 → s.seat.me.0.upper.splits ≡ 0
+    → s.seat.me.0.upper.renewal.count ≡ 0 → HasPlayed commands s t → HasTried tries adds t v → HasReadFor adds v w
+    → IsShortOfRows w.z (length w.seat.me.0.upper.inventory.bases + 11) w.seat.me.0.upper → s.z.rows ≤ 8 * commands + 448

@@ -14,6 +14,7 @@ pub mod Growing
 pub mod Leaving
 pub mod Levels
 pub mod Loading
+pub mod LoneReads
 pub mod Looking
 pub mod Made
 pub mod Past

@@ -1,17 +1,20 @@
 -- What the store on the tree promises of its calls beyond what every store does.
-use Rattle.std.specs.Prelude.{◌≡◌, ℕ, true, vec_len}
+use Rattle.std.specs.Prelude.{◌≡◌, ℕ, ◌+◌, ◌*◌, ◌≤◌, true, vec_len}
 use Rattle.std.specs.declared.option.Option.TheVariants.{None, Some}
+use Rattle.ca_base.specs.Counting.{losses}
 use Rattle.ca_model.specs.declared.outcome.Outcome.{Outcome}
 use Rattle.ca_model.specs.Answer.{IfDone, IfRefused}
 use Rattle.ca_model.specs.Promises.{Promises}
 use Rattle.ca_model.specs.Runs.{IsOpen}
 use Rattle.ca_replace.specs.Adapting.{is_put}
-use Rattle.ca_replace.specs.Alone.{HasLoneCause}
+use Rattle.ca_replace.specs.Alone.{HasLoneCause, IsCrowdedCall, IsNeverBusy}
+use Rattle.ca_replace.specs.Attempting.{helps}
 use Rattle.ca_replace.specs.Bounded.{IsBounded, PinsNever, WalksOnce}
 use Rattle.ca_replace.specs.Called.{HasTold, StaysStore}
 use Rattle.ca_replace.specs.Causes.{IsSparing, IsUnspent, WasUnspent}
 use Rattle.ca_replace.specs.Growing.{IsUntouched}
 use Rattle.ca_replace.specs.Loading.{LoadsInRead}
+use Rattle.ca_replace.specs.LoneReads.{bases_at}
 use Rattle.ca_replace.specs.Ranging.{HasRangeCause}
 use Rattle.ca_node.specs.TreeView.{Note}
 use Rattle.ca_replace.specs.Resting.{StoreAndRun, StoreView, knows}
@@ -37,6 +40,12 @@ pub record HasRead {T : Type 0} (Needs : Note → Type 0) (budget : ℕ) (s t : 
   -- why it was refused
   pub caused : HasRangeCause Needs budget s t o
   pub alone : s.z.passes ≡ 1 → HasLoneCause s.z None s.seat.me.0.upper o
+  pub crowded : s.z.passes ≡ 1 → IsCrowdedCall s.z (bases_at s.seat.me + 11) s.seat.me.0.upper o
+  -- that such a pass lost and helped nothing, learnt of nothing, and is refused for turns by a budget of few turns for each base alone
+  pub unlost : s.z.passes ≡ 1 → losses t.seat.me ≡ losses s.seat.me
+  pub unhelped : s.z.passes ≡ 1 → helps t.seat.me ≡ helps s.seat.me
+  pub still : s.z.passes ≡ 1 → t.seat.me.0.upper.seen ≡ s.seat.me.0.upper.seen
+  pub never_busy : s.z.passes ≡ 1 → 4 * bases_at s.seat.me + 16 ≤ budget → IsNeverBusy o
   -- how often it pinned, and how often it looked at the others
   pub bounded : IsBounded (vec_len s.kept) s.seat.me t.seat.me
   -- how many links it loaded

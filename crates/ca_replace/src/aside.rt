@@ -1,9 +1,12 @@
 //! Looks from base to base to the left.
 ghost use Rattle.std.specs.Prelude.{◌≡◌, ◌+◌, ◌<◌, ◌≤◌, ℕ, min};
+ghost use Rattle.ca_node.specs.States.{IsAlone};
+ghost use Rattle.ca_node.specs.Told.{IsKnown};
 ghost use Rattle.ca_node.specs.TreePasses.{tree_of};
 ghost use Rattle.ca_replace.specs.Aside.{HasGoneLeft, HasLookedAside, HasLookedLeft, IsEndOfLooks, IsLeftEnd};
 ghost use Rattle.ca_replace.specs.Attempting.{total};
 ghost use Rattle.ca_replace.specs.Loading.{LoadsFew};
+ghost use Rattle.ca_replace.specs.LoneReads.{GoesLeftAlone};
 ghost use Rattle.ca_rows.specs.Passes.{IsReading, KeepsList, known, sizes};
 
 use crate::giving::{add, spent_in_all};
@@ -31,6 +34,8 @@ pub(crate) fn look_left(
     ensures gone { HasGoneLeft (sizes space.now) from (known pass.old) (known pass.new) }
     ensures ends { IsEndOfLooks budget spent.new result low.new.items (tree_of pass.new) }
     ensures loads { LoadsFew ((sizes space.now).levels + 1) 0 (tree_of pass.new).loads (known pass.old) (known pass.new) }
+    ensures alone { IsAlone (sizes space.now) (tree_of pass.old) → IsKnown (sizes space.now) (tree_of pass.old)
+        → GoesLeftAlone (sizes space.now) (known pass.old) (known pass.new) }
 {
     let mut route = from;
     loop {

@@ -1,12 +1,12 @@
 //! Attempts of a call that edits.
-ghost use Rattle.std.specs.Prelude.{◌≡◌, ◌≢◌, ◌<◌, ◌≤◌, ◌↔◌, ℕ, Bool, Err, List, None, Ok, OnOk, Some, [], false, length, map, true, IsTrue, ◌+◌};
+ghost use Rattle.std.specs.Prelude.{◌≡◌, ◌≢◌, ◌<◌, ◌≤◌, ◌↔◌, ℕ, Bool, Err, IfErr, List, None, Ok, OnOk, Some, [], false, length, map, true, IsTrue, ◌+◌};
 ghost use Rattle.std.specs.declared.option.Option.{Option};
 ghost use Rattle.ca_model.specs.Places.{IsPlace};
 ghost use Rattle.ca_model.specs.Event.{Event, Remove};
 ghost use Rattle.ca_node.specs.Row.{pair};
 ghost use Rattle.ca_replace.specs.declared.attempting.Halt.TheVariants.{Deep as IsDeep, Split as IsSplit};
 ghost use Rattle.ca_replace.specs.Causes.{IsFullSince};
-ghost use Rattle.ca_replace.specs.Crowding.{Crowds};
+ghost use Rattle.ca_replace.specs.Crowding.{Crowds, HasFewAlone};
 ghost use Rattle.ca_replace.specs.Cutting.{IsFullFor};
 ghost use Rattle.ca_replace.specs.Attempting.{BeginsAt, IsAsking, IsIdle, IsLooking, HasFetched, HasTriedSince, HasTriedTo, StaysAt, StaysFor, split_to};
 ghost use Rattle.ca_node.specs.Told.{IsKnown, IsSettled};
@@ -94,6 +94,7 @@ pub(crate) trait Attempt {
         ensures stays { StaysFor tree.now.space (about self.now) result pass.old pass.new course.new }
         ensures deep { result ≡ Err IsDeep → IsFullSince (sizes tree.now.space) (adds self.now) (tree_of pass.new) }
         ensures crowds { Crowds tree.now.space result pass.old pass.new }
+        ensures few_rows { IfErr result (λ _. HasFewAlone (sizes tree.now.space) (tree_of pass.old)) }
         ensures turn { TakesTurn (edits self.now) (adds self.now) tree.now course.old course.new ((sizes tree.now.space).levels + 1) result pass.old pass.new };
 }
 

@@ -9,7 +9,7 @@ ghost use Rattle.ca_replace.specs.Alone.{IsCrowdedCause};
 ghost use Rattle.ca_replace.specs.Bounded.{IsBounded, IsPaced};
 ghost use Rattle.ca_replace.specs.Loading.{LoadsInAttempts, LoadsInTurns};
 ghost use Rattle.ca_replace.specs.Causes.{EndsAtLag, HasPinned, IsCausedBy, IsFullSince, KeepsFew};
-ghost use Rattle.ca_replace.specs.Crowding.{Crowds};
+ghost use Rattle.ca_replace.specs.Crowding.{Crowds, HasFewAlone};
 ghost use Rattle.ca_replace.specs.Seen.{HasToldBy};
 ghost use Rattle.ca_base.specs.Progress.{IsRefused};
 ghost use Rattle.ca_model.specs.Known.{one_more};
@@ -118,7 +118,7 @@ fn attempts<A: Attempt>(
     ensures frame { StaysAtRest tree.now.space pass.old pass.new }
     ensures come { HasAttempted (λ answer. A.tells order.now.what.now answer left.new) result (tree_of pass.old) (tree_of pass.new) }
     ensures caused { IfErr result (λ why. IsCausedBy tree.now.space order.now.budget (A.adds order.now.what.now) why pass.old pass.new) }
-    ensures crowded { (sizes tree.now.space).passes ≡ 1 → IfErr result (λ why. IsCrowdedCause (sizes tree.now.space) (tree_of pass.old) why) }
+    ensures crowded { (sizes tree.now.space).passes ≡ 1 → IfErr result (λ why. IsCrowdedCause (sizes tree.now.space) 11 (tree_of pass.old) why) }
     ensures few { KeepsFew (known pass.old) (known pass.new) pass.new.kept.rows }
     ensures lags { EndsAtLag (known pass.old) (known pass.new) }
     ensures bounded { IsBounded (vec_len pass.old.kept.rows) (known pass.old) (known pass.new) }
@@ -183,6 +183,7 @@ fn turns<A: Attempt>(
     ensures paced { IsPaced (known pass.old) (known pass.new) }
     ensures loads { LoadsInTurns (A.edits order.now.what.now) (sizes tree.now.space) result (known pass.old) (known pass.new) }
     ensures crowds { Crowds tree.now.space result pass.old pass.new }
+    ensures few_rows { IfErr result (λ _. HasFewAlone (sizes tree.now.space) (tree_of pass.old)) }
     ensures lost { HasNext result → order.now.budget ≤ total course.new.spent }
     ensures turns { TakesTurns (A.edits order.now.what.now) (A.adds order.now.what.now) tree.now course.old course.new result pass.old pass.new }
 {

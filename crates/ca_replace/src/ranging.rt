@@ -5,7 +5,7 @@ ghost use Rattle.ca_base.specs.Readiness.{StaysReady};
 ghost use Rattle.ca_model.specs.Answer.{IfBusy, IfDone, IfRefused, IsNeverDeep};
 ghost use Rattle.ca_model.specs.Event.{Event};
 ghost use Rattle.ca_model.specs.Known.{one_more};
-ghost use Rattle.ca_node.specs.States.{IsAtPin};
+ghost use Rattle.ca_node.specs.States.{IsAlone, IsAtPin};
 ghost use Rattle.ca_node.specs.Told.{MyTree};
 ghost use Rattle.ca_node.specs.TreePasses.{tree_of};
 ghost use Rattle.ca_node.specs.TreeView.{Note, TreeView};
@@ -14,6 +14,7 @@ ghost use Rattle.ca_replace.specs.Attempting.{IsPaid, HasDoneSuch, total};
 ghost use Rattle.ca_replace.specs.Bounded.{IsBounded, IsPaced, PinsNow, looked_in, pinned_in};
 ghost use Rattle.ca_replace.specs.Causes.{EndsAtLag, HasPinned, IfCaused, IsUnspent, KeepsFew};
 ghost use Rattle.ca_replace.specs.Loading.{LoadsInLook, LoadsInRead};
+ghost use Rattle.ca_replace.specs.LoneReads.{LooksAlone, ReadsAlone, ReadsAloneTo, bases_at};
 ghost use Rattle.ca_replace.specs.Ranging.{GetsToWork, HasMissedBy, HasRanged, HasRangedTo, IsAtWork, IsRangeCausedBy, MayTryAgain, cause_of};
 ghost use Rattle.ca_replace.specs.Resting.{IsAtRest, StaysAtRest};
 ghost use Rattle.ca_replace.specs.declared.missing.Miss.TheVariants.{Again as IsAgain, NoRow as IsNoRow};
@@ -70,7 +71,9 @@ pub(crate) trait Look {
         ensures missed { HasMissedBy (needs self.now) budget spent.new result (known pass.old) (known pass.new) }
         ensures again { IfErr result (λ why. MayTryAgain (vanished self.now (sizes tree.now.space)) why (known pass.old) (known pass.new)) }
         ensures in_budget { IfOk result (λ _. total spent.new < budget) }
-        ensures loads { LoadsInLook (sizes tree.now.space) (known pass.old) (known pass.new) };
+        ensures loads { LoadsInLook (sizes tree.now.space) (known pass.old) (known pass.new) }
+        ensures alone { IsAlone (sizes tree.now.space) (tree_of pass.old) → LooksAlone (sizes tree.now.space) (2 * bases_at (known pass.old))
+            (vec_len pass.old.kept.rows) result (known pass.old) (known pass.new) };
 }
 
 /// Makes a call that reads a range. Where it is done the pass is pinned; where it is refused it rests.
@@ -96,6 +99,7 @@ pub(crate) fn read_range<L: Look>(
     ensures lags { EndsAtLag (known pass.old) (known pass.new) }
     ensures bounded { IsBounded (vec_len pass.old.kept.rows) (known pass.old) (known pass.new) }
     ensures loads { LoadsInRead (sizes tree.now.space) (known pass.old) (known pass.new) }
+    ensures alone { IsAlone (sizes tree.now.space) (tree_of pass.old) → ReadsAloneTo (sizes tree.now.space) result (known pass.old) (known pass.new) }
     ensures looks { IfDone result (λ _. (view pass.old).pin.looks ≤ (view pass.new).pin.looks) }
     ensures looked { IfDone result (λ _. looked_in (known pass.old) (known pass.new) + 3 ≤ 3 * pinned_in (known pass.old) (known pass.new)) }
     ensures all_seen { IfDone result (λ _. (view pass.new).pin.lags ≡ (view pass.old).pin.lags) }
@@ -128,6 +132,7 @@ pub(crate) fn read_or_refuse<L: Look>(
     ensures lags { EndsAtLag (known pass.old) (known pass.new) }
     ensures bounded { IsBounded (vec_len pass.old.kept.rows) (known pass.old) (known pass.new) }
     ensures loads { LoadsInRead (sizes tree.now.space) (known pass.old) (known pass.new) }
+    ensures alone { IsAlone (sizes tree.now.space) (tree_of pass.old) → ReadsAlone (sizes tree.now.space) result (known pass.old) (known pass.new) }
     ensures looks { IfOk result (λ _. (view pass.old).pin.looks ≤ (view pass.new).pin.looks) }
     ensures looked { IfOk result (λ _. looked_in (known pass.old) (known pass.new) + 3 ≤ 3 * pinned_in (known pass.old) (known pass.new)) }
     ensures all_seen { IfOk result (λ _. (view pass.new).pin.lags ≡ (view pass.old).pin.lags) }
@@ -167,6 +172,7 @@ fn attempts<L: Look>(
     ensures lags { EndsAtLag (known pass.old) (known pass.new) }
     ensures bounded { IsBounded (vec_len pass.old.kept.rows) (known pass.old) (known pass.new) }
     ensures loads { LoadsInRead (sizes tree.now.space) (known pass.old) (known pass.new) }
+    ensures alone { IsAlone (sizes tree.now.space) (tree_of pass.old) → ReadsAlone (sizes tree.now.space) result (known pass.old) (known pass.new) }
     ensures looks { IfOk result (λ _. (view pass.old).pin.looks ≤ (view pass.new).pin.looks) }
     ensures looked { IfOk result (λ _. looked_in (known pass.old) (known pass.new) + 3 ≤ 3 * pinned_in (known pass.old) (known pass.new)) }
     ensures all_seen { IfOk result (λ _. (view pass.new).pin.lags ≡ (view pass.old).pin.lags) }
@@ -228,6 +234,8 @@ fn tries<L: Look>(
     ensures pinned { HasPinned (known pass.old) (known pass.new) }
     ensures paced { IsPaced (known pass.old) (known pass.new) }
     ensures loads { LoadsInRead (sizes tree.now.space) (known pass.old) (known pass.new) }
+    ensures alone { IsAlone (sizes tree.now.space) (tree_of pass.old) → LooksAlone (sizes tree.now.space) (2 * bases_at (known pass.old))
+        (vec_len pass.old.kept.rows) result (known pass.old) (known pass.new) }
 {
     loop {
         let tried = try_once(tree, pass, order, left, spent);
@@ -265,6 +273,8 @@ fn try_once<L: Look>(
     ensures pinned { HasPinned (known pass.old) (known pass.new) }
     ensures once { PinsNow (known pass.old) (known pass.new) }
     ensures loads { LoadsInRead (sizes tree.now.space) (known pass.old) (known pass.new) }
+    ensures alone { IsAlone (sizes tree.now.space) (tree_of pass.old) → LooksAlone (sizes tree.now.space) (2 * bases_at (known pass.old))
+        (vec_len pass.old.kept.rows) result (known pass.old) (known pass.new) }
 {
     tree.space.pin(pass);
     match order.what.look(tree, pass, left, order.budget, spent) {

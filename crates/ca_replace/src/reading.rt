@@ -5,6 +5,7 @@ ghost use Rattle.ca_model.specs.Answer.{IfBusy, IfDone, IfRefused, IsNeverDeep};
 ghost use Rattle.ca_model.specs.Edges.{bound_of, IsProperBound};
 ghost use Rattle.ca_model.specs.Function.{MayBeAskedForAll};
 ghost use Rattle.ca_model.specs.Known.{one_more};
+ghost use Rattle.ca_node.specs.States.{IsAlone};
 ghost use Rattle.ca_node.specs.TreePasses.{tree_of};
 ghost use Rattle.ca_range.specs.Looking.{IsNotEnough};
 ghost use Rattle.ca_replace.specs.Acts.{acts_of};
@@ -13,6 +14,7 @@ ghost use Rattle.ca_replace.specs.Bounded.{IsBounded};
 ghost use Rattle.ca_replace.specs.Causes.{EndsAtLag, IfCaused, IsUnspent, KeepsFew, WasUnspent};
 ghost use Rattle.ca_replace.specs.Leaving.{HasLeft, IsLeftAlone};
 ghost use Rattle.ca_replace.specs.Loading.{LoadsInRead};
+ghost use Rattle.ca_replace.specs.LoneReads.{ReadsAlone, ReadsAloneTo};
 ghost use Rattle.ca_replace.specs.Ranging.{GetsToWork, IsAtWork, IsRangeCausedBy};
 ghost use Rattle.ca_replace.specs.Resting.{IsAtRest, StaysAtRest};
 ghost use Rattle.ca_replace.specs.Within.{FindsAbove, FindsBelow, HasOpened, NeedsAbove, NeedsBelow};
@@ -51,6 +53,7 @@ pub(crate) fn above(
     ensures lags { EndsAtLag (known pass.old) (known pass.new) }
     ensures bounded { IsBounded (vec_len pass.old.kept.rows) (known pass.old) (known pass.new) }
     ensures loads { LoadsInRead (sizes tree.now.space) (known pass.old) (known pass.new) }
+    ensures alone { IsAlone (sizes tree.now.space) (tree_of pass.old) → ReadsAloneTo (sizes tree.now.space) result (known pass.old) (known pass.new) }
     ensures unspent { IfDone result (λ _. WasUnspent budget (known pass.old) (known pass.new)) }
 {
     let what = &AboveCall { lo };
@@ -84,6 +87,7 @@ pub(crate) fn below(
     ensures lags { EndsAtLag (known pass.old) (known pass.new) }
     ensures bounded { IsBounded (vec_len pass.old.kept.rows) (known pass.old) (known pass.new) }
     ensures loads { LoadsInRead (sizes tree.now.space) (known pass.old) (known pass.new) }
+    ensures alone { IsAlone (sizes tree.now.space) (tree_of pass.old) → ReadsAloneTo (sizes tree.now.space) result (known pass.old) (known pass.new) }
     ensures unspent { IfDone result (λ _. WasUnspent budget (known pass.old) (known pass.new)) }
 {
     let what = &BelowCall { hi };
@@ -118,6 +122,7 @@ pub(crate) fn range<F: Fn(&[u8]) -> bool>(
     ensures lags { EndsAtLag (known pass.old) (known pass.new) }
     ensures bounded { IsBounded (vec_len pass.old.kept.rows) (known pass.old) (known pass.new) }
     ensures loads { LoadsInRead (sizes tree.now.space) (known pass.old) (known pass.new) }
+    ensures alone { IsAlone (sizes tree.now.space) (tree_of pass.old) → ReadsAlone (sizes tree.now.space) result (known pass.old) (known pass.new) }
     ensures all_seen { IfOk result (λ _. (view pass.new).pin.lags ≡ (view pass.old).pin.lags) }
     ensures unspent { IfOk result (λ _. IsUnspent budget (known pass.old) (known pass.new)) }
 {

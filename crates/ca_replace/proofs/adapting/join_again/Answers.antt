@@ -1,5 +1,6 @@
-use Rattle.std.proofs.Common.{◌≡◌, sym, subst, ◌∙◌, ap, inl, arith}
+use Rattle.std.proofs.Common.{◌≡◌, refl, sym, subst, ◌∙◌, ap, inl, arith}
 use Rattle.ca_adapt.specs.declared.adapted.Adapted.TheVariants as adapted
+use Rattle.ca_base.specs.Finding.{IsBaseShown}
 use Rattle.ca_base.specs.Putting.{first_note}
 use Rattle.ca_node.specs.declared.cursor.Spot.TheVariants as spot
 use Rattle.ca_node.specs.Row.{mark}
@@ -14,6 +15,15 @@ use Rattle.ca_replace.proofs.Showing.{walked_further, walked_listed, walked_quie
 use Rattle.ca_replace.proofs.Winning.{comes_there}
 use Rattle.ca_replace.specs.Adapting.{HasTriedToJoin}
 use Rattle.ca_replace.proofs.adapting.join_again.Goals as goal
+
+pub try_join-requires-clause-shown : goal.try_join-requires-clause-shown
+try_join-requires-clause-shown c = let w = c.walk-cursor.ensures.walked in
+    subst (λ (m : MyTree). IsBaseShown c.args.tree.now.space.table.shared.key m.0.upper c.walk-cursor.result.base (first_note m.0.upper.notes))
+    (sym w.now) record {
+      noted = (0, refl);
+      here = w.cursor_is.base;
+      is_base = w.is_base;
+    }
 
 pub try_join-requires-clause-hung : goal.try_join-requires-clause-hung
 try_join-requires-clause-hung c = hung_under c.args.tree.now.space.table.shared.key c.walk-cursor.new.pass.seat.me.0.upper c.walk-cursor.result.link

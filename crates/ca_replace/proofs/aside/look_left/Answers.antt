@@ -8,6 +8,8 @@ use Rattle.ca_range.specs.Reaching.{IsKeyShown}
 use Rattle.ca_replace.specs.Aside.{HasGoneLeft, HasLookedLeft, IsEndOfLooks, MayGoLeft}
 use Rattle.ca_replace.proofs.LooksLeft.{aside_bound, aside_low, gone_left, may_go_first, may_go_on, aside_readable, left_none, low_shown, one_more_left}
 use Rattle.ca_replace.specs.Loading.{LoadsFew}
+use Rattle.ca_replace.specs.LoneReads.{GoesLeftAlone}
+use Rattle.ca_replace.proofs.LoneLooks.{LooksOnce, goes_left, left_alone, looks_first, looks_on}
 use Rattle.ca_replace.proofs.Pacing.{paid_more}
 use Rattle.ca_replace.proofs.ReadLoads.{look_more}
 use Rattle.ca_replace.proofs.aside.look_left.Goals as goal
@@ -24,6 +26,7 @@ loop-cursor-init c = record {
   kept = search rules;
   looked = left_none c.args.space.now.table.shared.key c.args.spent.now c.args.pass.now.seat.me;
   may = may_go_first c.args.space.now.table.shared.key c.args.from c.args.pass.now.seat.me c.requires.from;
+  looks = λ _. looks_first c.args.pass.now.seat.me;
   unspent = c.requires.unspent;
   loads = omega arith;
 }
@@ -94,6 +97,10 @@ loop-cursor-preserved c = let z = c.args.space.now.table.shared.key in let m = c
           (may_go_on z c.loop-cursor.route cursor m n h c.args.from next c.args.pass.now.seat.me c.loop-cursor.invariant.may c.in-Some.is
           (none_there (first_note n.0.upper.notes).objects (let many = c.count.ensures.count (first_note n.0.upper.notes)
           (aside_readable z c.loop-cursor.route cursor m n h c.requires.leaf) in let none = c.if-count-gt0.false in omega arith)));
+      looks = λ alone. subst (λ (x : MyTree). LooksOnce c.args.pass.now.seat.me x) (sym c.count.ensures.frame.still)
+          (looks_on z c.loop-cursor.route cursor m n h c.loop-cursor.invariant.may.end
+          (left_alone z c.args.pass.now.seat.me m c.args.spent.now a c.loop-cursor.invariant.looked alone) c.args.pass.now.seat.me
+          (c.loop-cursor.invariant.looks alone));
       unspent = omega arith;
       loads = subst (λ (x : MyTree). LoadsFew (z.levels + 1) 0 x.0.upper.loads c.args.pass.now.seat.me x) (sym c.count.ensures.frame.still)
           (look_more z c.loop-cursor.route cursor c.args.pass.now.seat.me m n h
@@ -138,3 +145,31 @@ returns-then-count-gt0-clause-loads c = let z = c.args.space.now.table.shared.ke
     (look_more z c.loop-cursor.route c.look_aside-cursor.result c.args.pass.now.seat.me m c.look_aside-cursor.new.pass.seat.me
     c.look_aside-cursor.ensures.looked
     (paid_more c.args.spent.now c.loop-cursor.spent c.args.pass.now.seat.me m c.loop-cursor.invariant.looked.paid) c.loop-cursor.invariant.loads)
+
+pub returns-then-spent_in_all-budget-clause-alone : goal.returns-then-spent_in_all-budget-clause-alone
+returns-then-spent_in_all-budget-clause-alone c alone known = let z = c.args.space.now.table.shared.key in let k = c.args.pass.now.seat.me in
+    let m = c.loop-cursor.pass.seat.me in let n = c.look_aside-cursor.new.pass.seat.me in let a = c.loop-cursor.spent in
+    let b = c.look_aside-cursor.new.spent in let h = c.look_aside-cursor.ensures.looked in
+    goes_left z c.loop-cursor.route c.look_aside-cursor.result m n h c.loop-cursor.invariant.may.end
+    (left_alone z k m c.args.spent.now a c.loop-cursor.invariant.looked alone) c.args.spent.now b k
+    (one_more_left z c.loop-cursor.route c.look_aside-cursor.result m n h c.args.spent.now a b k c.loop-cursor.invariant.looked
+    c.look_aside-cursor.ensures.passed c.look_aside-cursor.ensures.others) (c.loop-cursor.invariant.looks alone) known alone
+
+pub returns-in_default-clause-alone : goal.returns-in_default-clause-alone
+returns-in_default-clause-alone c alone known = let z = c.args.space.now.table.shared.key in let k = c.args.pass.now.seat.me in
+    let m = c.loop-cursor.pass.seat.me in let n = c.look_aside-cursor.new.pass.seat.me in let a = c.loop-cursor.spent in
+    let b = c.look_aside-cursor.new.spent in let h = c.look_aside-cursor.ensures.looked in
+    goes_left z c.loop-cursor.route c.look_aside-cursor.result m n h c.loop-cursor.invariant.may.end
+    (left_alone z k m c.args.spent.now a c.loop-cursor.invariant.looked alone) c.args.spent.now b k
+    (one_more_left z c.loop-cursor.route c.look_aside-cursor.result m n h c.args.spent.now a b k c.loop-cursor.invariant.looked
+    c.look_aside-cursor.ensures.passed c.look_aside-cursor.ensures.others) (c.loop-cursor.invariant.looks alone) known alone
+
+pub returns-then-count-gt0-clause-alone : goal.returns-then-count-gt0-clause-alone
+returns-then-count-gt0-clause-alone c alone known = let z = c.args.space.now.table.shared.key in let k = c.args.pass.now.seat.me in
+    let m = c.loop-cursor.pass.seat.me in let n = c.look_aside-cursor.new.pass.seat.me in let a = c.loop-cursor.spent in
+    let b = c.look_aside-cursor.new.spent in let h = c.look_aside-cursor.ensures.looked in
+    subst (λ (x : MyTree). GoesLeftAlone z k x) (sym (c.copy_key.ensures.frame.still ∙ c.count.ensures.frame.still))
+    (goes_left z c.loop-cursor.route c.look_aside-cursor.result m n h c.loop-cursor.invariant.may.end
+    (left_alone z k m c.args.spent.now a c.loop-cursor.invariant.looked alone) c.args.spent.now b k
+    (one_more_left z c.loop-cursor.route c.look_aside-cursor.result m n h c.args.spent.now a b k c.loop-cursor.invariant.looked
+    c.look_aside-cursor.ensures.passed c.look_aside-cursor.ensures.others) (c.loop-cursor.invariant.looks alone) known alone)

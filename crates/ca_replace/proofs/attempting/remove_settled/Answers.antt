@@ -1,6 +1,6 @@
 use Rattle.ca_node.specs.declared.cursor.Cursor.{Cursor}
 use Rattle.ca_replace.proofs.Again.{settled_stays}
-use Rattle.std.proofs.Common.{[], ◌∷◌, ◌≡◌, false, Option, ℤ, get_or, to_z, of_z, w32, length, Ok, None, Some, sym, ap, ◌∙◌, subst, arith, map, rules}
+use Rattle.std.proofs.Common.{[], ◌∷◌, ◌≡◌, ◌<◌, false, ℕ, Option, ℤ, get_or, to_z, of_z, w32, length, Ok, None, Some, sym, ap, ◌∙◌, subst, arith, map}
 use Rattle.std.proofs.lemmas.Int.{ints, to_z-of_z}
 use Rattle.ca_model.specs.Event.{Remove}
 use Rattle.ca_model.specs.History.{Del}
@@ -18,7 +18,7 @@ use Rattle.ca_replace.proofs.GoingOn.{is_new, known_then, settled_found, settled
 use Rattle.ca_replace.proofs.Showing.{shown_last}
 use Rattle.ca_rows.specs.Told.{met_of}
 use Rattle.ca_replace.proofs.DueCauses.{settled_met}
-use Rattle.ca_replace.proofs.Growing.{settled_grown}
+use Rattle.ca_replace.proofs.Growing.{settled_grown, tried_number}
 use Rattle.ca_replace.proofs.Crowding.{settled_crowds}
 use Rattle.ca_replace.proofs.Cutting.{settled_cut}
 use Rattle.ca_replace.proofs.Winning.{settled_won}
@@ -124,7 +124,16 @@ pub settle-requires-clause-ready : goal.settle-requires-clause-ready
 settle-requires-clause-ready c = ready_after
     (ready_read (reads_both c.count-many.ensures.frame
     c.next_statistic-statistic.ensures.frame) c.requires.ready)
-    c.remove_at-tried.ensures.frame (search rules)
+    c.remove_at-tried.ensures.frame (subst (λ (n : ℕ). 0 < n)
+    (sym (tried_number c.args.tree.now.space.table.shared.key
+    (Remove c.args.removal.now.key.now
+    (Some (object_at (Ok c.args.removal.now.at) (first_note c.next_statistic-statistic.new.pass.seat.me.0.upper.notes).objects)))
+    c.remove_at-tried.result
+    c.next_statistic-statistic.new.pass.seat.me.0.upper c.remove_at-tried.new.pass.seat.me.0.upper
+    c.remove_at-tried.ensures.removed
+    ∙ ap (λ (m : MyTree). m.0.upper.number) (c.next_statistic-statistic.ensures.frame.still
+    ∙ c.count-many.ensures.frame.still)))
+    c.requires.ready.number)
 
 pub remove_at-tried-requires-clause-target : goal.remove_at-tried-requires-clause-target
 remove_at-tried-requires-clause-target c = let z = c.args.tree.now.space.table.shared.key in

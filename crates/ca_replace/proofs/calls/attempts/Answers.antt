@@ -1,4 +1,4 @@
-use Rattle.std.proofs.Common.{◌≡◌, ℕ, ◌<◌, refl, ap, ◌∙◌, sym, subst, inl, inr, vec_len, Result, false, true, arith, ◌+◌}
+use Rattle.std.proofs.Common.{◌≡◌, ℕ, ◌<◌, refl, ap, ◌∙◌, sym, subst, inl, inr, vec_len, Result, IfErr, false, true, arith, ◌+◌}
 use Rattle.ca_base.specs.declared.stop.Stop.TheVariants as stop
 use Rattle.ca_replace.specs.declared.attempting.Halt.{Halt}
 use Rattle.ca_replace.specs.declared.attempting.Halt.TheVariants as halt
@@ -8,7 +8,7 @@ use Rattle.ca_replace.specs.Adapting.{IsCauseMet, IsCauseMetInAttempts, Waits}
 use Rattle.ca_replace.specs.Causes.{IsFullSince, IsRefill}
 use Rattle.ca_replace.specs.Attempting.{HasStopped, total}
 use Rattle.ca_replace.specs.Growing.{HasWaited}
-use Rattle.ca_replace.specs.Crowding.{HasCrowded}
+use Rattle.ca_replace.specs.Crowding.{HasCrowded, HasFewAlone}
 use Rattle.ca_replace.proofs.Alone.{alone_at, first_number, lone_losses, refill_crowded, refused_uncrowded}
 use Rattle.ca_replace.proofs.Causing.{caused_as, few_from, nearer, refill_caused}
 use Rattle.ca_replace.proofs.Pacing.{bounded_by, bounded_yet, kept_more, none_yet, paid_more}
@@ -54,6 +54,7 @@ loop-come-init g c = record {
       c.args.pass.now.seat.me.0.upper (refl, refl, refl);
   won = λ _. no_turns c.args.pass.now.seat.me.0.upper;
   waited = λ _. inl (refl, refl);
+  few_rows = λ few. few;
   full = none_full c.args.tree.now.space.table.shared.key
       (g.A.Attempt.adds c.args.order.now.what.now) c.args.pass.now.seat.me.0.upper.cuts
       c.args.pass.now.seat.me.0.upper.cuts refl;
@@ -147,6 +148,8 @@ loop-come-preserved g c = let i = c.loop-come.invariant in
           before.0.upper
           behind.0.upper c.requires.resting.known i.resting.known i.further i.waited
           c.turns-come.ensures.tried c.turns-come.ensures.turns.grown alone));
+      few_rows = λ _. i.few_rows (subst (λ (x : Result _ Halt). IfErr x (λ _. HasFewAlone c.args.tree.now.space.table.shared.key before.0.upper))
+          empty c.turns-come.ensures.few_rows);
       full = let edits = λ (x : _). g.A.Attempt.edits c.args.order.now.what.now x in
           let z = c.args.tree.now.space.table.shared.key in
           let adds = g.A.Attempt.adds c.args.order.now.what.now in
@@ -325,9 +328,10 @@ returns-in-Err-clause-crowded g c one = let i = c.loop-come.invariant in let spa
     (has_waited z adds c.turns-come.result empty_halt start.seat.me.0.upper behind.seat.me.0.upper empty
     (attempts_so_far tells z adds c.turns-come.result start.seat.me.0.upper before.seat.me.0.upper behind.seat.me.0.upper
     c.requires.resting.known i.resting.known i.further i.waited c.turns-come.ensures.tried turns.grown first))
+    (i.few_rows (subst (λ (x : Result _ Halt). IfErr x (λ _. HasFewAlone z before.seat.me.0.upper)) empty c.turns-come.ensures.few_rows) first)
 
 pub returns-else-is_empty-clause-crowded : goal.returns-else-is_empty-clause-crowded
-returns-else-is_empty-clause-crowded g c one = refused_uncrowded c.args.tree.now.space.table.shared.key c.args.pass.now.seat.me.0.upper
+returns-else-is_empty-clause-crowded g c one = refused_uncrowded c.args.tree.now.space.table.shared.key 11 c.args.pass.now.seat.me.0.upper
     c.turns-come.result c.or_refusal.result _ _ c.or_refusal.ensures
 
 pub returns-in-Err-clause-lags : goal.returns-in-Err-clause-lags

@@ -4,6 +4,7 @@ use Rattle.ca_base.specs.Progress.{IsFurther}
 use Rattle.ca_node.specs.States.{IsAlone}
 use Rattle.ca_replace.specs.Adapting.{Waits}
 use Rattle.ca_replace.specs.Attempting.{IsPaid, total}
+use Rattle.ca_replace.specs.Crowding.{HasFewAlone}
 use Rattle.ca_replace.specs.Cutting.{HasCutFull}
 use Rattle.ca_replace.specs.Growing.{HasWaited}
 use Rattle.ca_replace.specs.Resting.{IsResting}
@@ -27,6 +28,8 @@ invariant-loop-come g l = record {
   waited : IsAlone l.tree.space.table.shared.key l.fn.pass.seat.me.0.upper
       → HasWaited l.tree.space.table.shared.key (g.A.Attempt.adds l.order.what.now)
       l.fn.pass.seat.me.0.upper l.pass.seat.me.0.upper;
+  few_rows : HasFewAlone l.tree.space.table.shared.key l.pass.seat.me.0.upper
+      → HasFewAlone l.tree.space.table.shared.key l.fn.pass.seat.me.0.upper;
   full : HasCutFull l.tree.space.table.shared.key (g.A.Attempt.adds l.order.what.now)
       l.fn.pass.seat.me.0.upper l.pass.seat.me.0.upper;
   worn : l.pass.seat.me.0.worn ≡ l.fn.pass.seat.me.0.worn;

@@ -103,7 +103,7 @@ returns-in-Err-clause-told g c = let space = c.args.tree.now.space.table.shared 
           (alone_at space.table_id z last.number last.tally last.kept.rows last.seat behind one)
           (seen_still z pass.seat.me.0.upper last.seat.me.0.upper (here one) c.requires.resting.known behind.known c.in-Err.ensures.come)
           (turns.grown (here one)) c.in-Err.ensures.caused;
-      crowded = λ one. crowded_call space.key pass.seat.me.0.upper c.in-Err.why c.outcome_by.result c.outcome_by.ensures (c.in-Err.ensures.crowded one);
+      crowded = λ one. crowded_call space.key 11 pass.seat.me.0.upper c.in-Err.why c.outcome_by.result c.outcome_by.ensures (c.in-Err.ensures.crowded one);
       sparing = (
         few_still pass.seat.me last.seat.me behind.seat.me counts pass.kept.rows last.kept.rows
             behind.kept.rows c.give_up.ensures.counted kept c.attempts.ensures.few,

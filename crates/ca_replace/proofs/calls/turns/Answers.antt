@@ -5,10 +5,11 @@ use Rattle.ca_rows.specs.declared.kept.KeptRows.{KeptRows}
 use Rattle.ca_rows.specs.declared.view.Pin.{Pin}
 use Rattle.ca_replace.specs.Attempting.{at_pin, splits, total}
 use Rattle.ca_replace.specs.Causes.{IsFullSince}
+use Rattle.ca_replace.specs.Crowding.{HasFewAlone}
 use Rattle.ca_replace.proofs.Again.{known_since, may_follow, next_since, tried_since}
 use Rattle.ca_replace.proofs.Between.{announced, first_since, may_first, paced_once}
 use Rattle.ca_replace.proofs.Counted.{met_then, met_turn, one_turn_less, paid_before, paid_turn}
-use Rattle.ca_replace.proofs.Crowding.{next_keeps, turns_crowd}
+use Rattle.ca_replace.proofs.Crowding.{few_as, few_before, next_keeps, stopped_few, turns_crowd}
 use Rattle.ca_replace.proofs.Growing.{alone_on}
 use Rattle.ca_replace.proofs.Meeting.{further_on}
 use Rattle.ca_replace.proofs.Loads.{loads_last}
@@ -40,6 +41,8 @@ loop-course-init g c = let z = c.args.tree.now.space.table.shared.key in
       paced = paced_once c.pin.ensures.pinned.0 c.pin.ensures.pinned.1 k m is;
       keeps = λ alone. let kept = ap (λ (x : KeptRows). vec_len x.rows) c.pin.ensures.frame.kept in
           let lost = ap losses is in let cut = ap splits is in omega arith;
+      few_rows = λ few alone. few_as u m.0.upper (ap splits is) (ap (λ (x : MyTree). x.0.upper.inventory) is)
+          (ap (λ (x : MyTree). x.0.upper.renewal) is) (few (alone_on z u m.0.upper (ap (λ (x : MyTree). x.0.upper.number) is) alone));
       unspent = c.requires.unspent;
       waiting = waits_none z (g.A.Attempt.adds c.args.order.now.what.now) _ _ k m (refl, refl)
           (moved_quiet k m pin u.seen [] [] ranges is)
@@ -114,6 +117,7 @@ loop-course-preserved g c = let z = c.args.tree.now.space.table.shared.key in
           let so_far = before.keeps alone in
           let more = next_keeps c.attempt-tried.result z.rows _ _ m n next
           (did.crowds (alone_on z k.0.upper m.0.upper before.waiting.further.number alone)) in omega arith;
+      few_rows = λ _. before.few_rows (stopped_few c.attempt-tried.result (HasFewAlone z m.0.upper) next did.few_rows);
       unspent = let room = c.if-spent_in_all-budget.false in let all = c.spent_in_all.ensures in
           let most = c.budget-budget.type_inv in let is = c.budget-budget.ensures in
           let same = ap total c.go_on.ensures.course.1 in omega arith;
@@ -226,6 +230,11 @@ returns-then-not-has_next-clause-crowds g c alone = let before = c.loop-course.i
     (c.attempt-tried.ensures.crowds (alone_on c.args.tree.now.space.table.shared.key k.0.upper m.0.upper before.waiting.further.number alone))
     (ap (λ (x : KeptRows). vec_len x.rows) c.unpin.ensures.frame.kept) (ap losses out) (ap splits out)
     (ap (λ (x : MyTree). length x.0.upper.inventory.rows) out)
+
+pub returns-then-not-has_next-clause-few_rows : goal.returns-then-not-has_next-clause-few_rows
+returns-then-not-has_next-clause-few_rows g c = let z = c.args.tree.now.space.table.shared.key in
+    few_before c.attempt-tried.result (HasFewAlone z c.loop-course.pass.seat.me.0.upper) (HasFewAlone z c.args.pass.now.seat.me.0.upper)
+    c.loop-course.invariant.few_rows c.attempt-tried.ensures.few_rows
 
 pub returns-then-not-has_next-clause-turns : goal.returns-then-not-has_next-clause-turns
 returns-then-not-has_next-clause-turns g c = let z = c.args.tree.now.space.table.shared.key in

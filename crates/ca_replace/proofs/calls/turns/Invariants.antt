@@ -5,7 +5,7 @@ use Rattle.ca_replace.specs.Attempting.{at_pin, total}
 use Rattle.ca_replace.specs.Between.{MayBegin}
 use Rattle.ca_replace.specs.Bounded.{IsPaced}
 use Rattle.ca_replace.specs.Causes.{HasPinned}
-use Rattle.ca_replace.specs.Crowding.{KeepsBySplits}
+use Rattle.ca_replace.specs.Crowding.{HasFewAlone, KeepsBySplits}
 use Rattle.ca_replace.proofs.Waiting.{IsWaiting}
 use Rattle.ca_rows.specs.Calls.{IsSame}
 use Rattle.ca_replace.proofs.calls.turns.Given as goal
@@ -24,6 +24,9 @@ invariant-loop-course g l = record {
   -- Attempts so far keep a row more only where they split a base, or lost an exchange.
   keeps : IsAlone l.tree.space.table.shared.key l.fn.pass.seat.me.0.upper
       → KeepsBySplits (vec_len l.fn.pass.kept.rows) (vec_len l.pass.kept.rows) l.fn.pass.seat.me l.pass.seat.me;
+  -- As it begins it has few rows, if it has few now.
+  few_rows : HasFewAlone l.tree.space.table.shared.key l.pass.seat.me.0.upper
+      → HasFewAlone l.tree.space.table.shared.key l.fn.pass.seat.me.0.upper;
   unspent : total l.course.spent < l.order.budget;
   waiting : IsWaiting l.tree.space.table.shared.key (g.A.Attempt.adds l.order.what.now)
       l.fn.course l.course l.fn.pass.seat.me l.pass.seat.me;

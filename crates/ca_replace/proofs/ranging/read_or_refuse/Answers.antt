@@ -1,7 +1,10 @@
-use Rattle.std.proofs.Common.{ap, vec_len}
+use Rattle.std.proofs.Common.{◌*◌, ap, vec_len}
+use Rattle.ca_base.specs.Counting.{losses}
 use Rattle.ca_model.specs.Known.{one_more}
 use Rattle.ca_node.specs.Told.{MyTree}
 use Rattle.ca_range.specs.Clearing.{turns_at}
+use Rattle.ca_replace.specs.LoneReads.{bases_at}
+use Rattle.ca_replace.proofs.LoneReads.{passes_still, passes_then}
 use Rattle.ca_replace.proofs.Misses.{range_still}
 use Rattle.ca_replace.proofs.Pacing.{bounded_as}
 use Rattle.ca_rows.specs.declared.kept.KeptRows.{KeptRows}
@@ -24,3 +27,11 @@ pub returns-in-Err-clause-loads : goal.returns-in-Err-clause-loads
 returns-in-Err-clause-loads g c = let counted = c.give_up.ensures.counted in
     read_refused c.args.tree.now.space.table.shared.key c.args.pass.now.seat.me c.attempts.new.pass.seat.me c.give_up.new.pass.seat.me
     (ap (λ (m : MyTree). m.0.upper.loads) counted) (ap (λ (m : MyTree). m.0.pin) counted) (ap turns_at counted) c.attempts.ensures.loads
+
+pub returns-in-Err-clause-alone : goal.returns-in-Err-clause-alone
+returns-in-Err-clause-alone g c alone = let k = c.args.pass.now.seat.me in let n = c.attempts.new.pass.seat.me in let p = c.give_up.new.pass.seat.me in
+    let did = c.in-Err.ensures.alone alone in let counted = c.give_up.ensures.counted in (
+      passes_then (4 * bases_at k) k n p did.0 (passes_still n p (ap losses counted) (ap (λ (x : MyTree). x.0.upper.turns) counted)
+          (ap (λ (x : MyTree). x.0.upper.inventory) counted) (ap (λ (x : MyTree). x.0.upper.seen) counted)),
+      did.1,
+    )

@@ -1,5 +1,8 @@
-use Rattle.std.proofs.Common.{◌∙◌, IfErr, Result, arith, inr, refl, subst}
+use Rattle.std.proofs.Common.{ℕ, ◌*◌, ◌∙◌, IfErr, Result, arith, inr, refl, subst, sym, vec_len}
 use Rattle.ca_base.proofs.Counts.{met_both}
+use Rattle.ca_node.specs.States.{IsAlone}
+use Rattle.ca_node.specs.Told.{MyTree}
+use Rattle.ca_replace.specs.LoneReads.{LooksAlone, bases_at}
 use Rattle.ca_replace.specs.Ranging.{GetsToWork, HasMissedBy, HasRangedTo}
 use Rattle.ca_replace.specs.Resting.{StaysAtRest}
 use Rattle.ca_replace.specs.declared.missing.Miss.{Miss}
@@ -23,6 +26,7 @@ loop-spent-init g c = let m = c.args.pass.now.seat.me in record {
   unspent = c.requires.unspent;
   pinned = λ n h. h;
   paced = λ n h. h;
+  first = λ _. (refl, refl);
   read = none_read c.args.tree.now.space.table.shared.key m;
 }
 
@@ -99,6 +103,9 @@ loop-spent-preserved g c = let again = c.if-not-is_again.ensures.0 refl in let i
           let most = c.budget.type_inv in let is = c.budget.ensures in omega arith;
       pinned = λ x h. i.pinned x (pinned_both m n x did.pinned h);
       paced = λ x h. i.paced x (paced_then m n x did.once.0 missed.1 (let none = missed.0.0 in omega arith) h);
+      first = λ alone. let at = i.first alone in absurd (subst (λ (x : Result _ Miss).
+          LooksAlone z (2 * bases_at m) (vec_len c.loop-spent.pass.kept.rows) x m n) again
+          (did.alone (subst (λ (x : MyTree). IsAlone z x.0.upper) (sym at.0) alone))).1;
       read = read_both z k m n i.read record {
         pins = let once = did.once.0 in omega arith;
         turns = paid_more c.loop-spent.spent c.try_once-tried.new.spent m n did.counted;
@@ -114,3 +121,9 @@ returns-then-not-is_again-clause-loads g c = let m = c.loop-spent.pass.seat.me i
       turns = paid_more c.loop-spent.spent c.try_once-tried.new.spent m n did.counted;
       few = did.loads;
     }).few
+
+pub returns-then-not-is_again-clause-alone : goal.returns-then-not-is_again-clause-alone
+returns-then-not-is_again-clause-alone g c alone = let z = c.args.tree.now.space.table.shared.key in let at = c.loop-spent.invariant.first alone in
+    let n = c.try_once-tried.new.pass.seat.me in
+    subst (λ (x : MyTree × ℕ). IsAlone z x.0.0.upper → LooksAlone z (2 * bases_at x.0) x.1 c.try_once-tried.result x.0 n) (λ i. (at.0 i, at.1 i))
+    c.try_once-tried.ensures.alone alone

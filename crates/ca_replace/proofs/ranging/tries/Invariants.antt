@@ -1,6 +1,7 @@
-use Rattle.std.proofs.Common.{◌≡◌, ◌-◌, ◌<◌}
+use Rattle.std.proofs.Common.{◌≡◌, ◌-◌, ◌<◌, vec_len}
 use Rattle.ca_base.specs.Counting.{HasMet}
 use Rattle.ca_base.specs.Progress.{IsFurther}
+use Rattle.ca_node.specs.States.{IsAlone}
 use Rattle.ca_node.specs.Told.{MyTree}
 use Rattle.ca_replace.specs.Acts.{acts_of}
 use Rattle.ca_replace.specs.Attempting.{IsPaid, total}
@@ -23,6 +24,9 @@ invariant-loop-spent g l = record {
   -- An attempt that pins then is one that the call pins by.
   pinned : (m : MyTree) → HasPinned l.pass.seat.me m → HasPinned l.fn.pass.seat.me m;
   paced : (m : MyTree) → IsPaced l.pass.seat.me m → IsPaced l.fn.pass.seat.me m;
+  -- A pass that is alone makes one attempt.
+  first : IsAlone l.tree.space.table.shared.key l.fn.pass.seat.me.0.upper
+      → (l.pass.seat.me ≡ l.fn.pass.seat.me) × (vec_len l.pass.kept.rows ≡ vec_len l.fn.pass.kept.rows);
   read : HasReadYet l.tree.space.table.shared.key l.fn.pass.seat.me l.pass.seat.me;
 }
 

@@ -1,9 +1,12 @@
-use Rattle.std.proofs.Common.{◌∙◌, Err, Ok, ap, refl, sym}
+use Rattle.std.proofs.Common.{◌*◌, ◌∙◌, Err, Ok, ap, refl, sym, vec_len}
 use Rattle.ca_node.specs.Told.{MyTree}
 use Rattle.ca_replace.specs.Acts.{acts_of}
+use Rattle.ca_replace.specs.LoneReads.{bases_at}
+use Rattle.ca_replace.proofs.LoneReads.{looks_left, looks_pinned}
 use Rattle.ca_replace.proofs.Misses.{further_pinned, missed_further, missed_left, missed_pinned, now_by, now_left, paid_left, paid_pinned, pinned_by, pinned_left, ranged_on}
 use Rattle.ca_replace.proofs.Working.{work_after, work_first, work_left}
 use Rattle.ca_range.specs.Clearing.{turns_at}
+use Rattle.ca_rows.specs.declared.kept.KeptRows.{KeptRows}
 use Rattle.ca_replace.proofs.ReadLoads.{look_pinned}
 use Rattle.ca_replace.proofs.ranging.try_once.Goals as goal
 
@@ -97,3 +100,15 @@ returns-in-Err-clause-loads g c = let k = c.args.pass.now.seat.me in let is = c.
     look_pinned c.args.tree.now.space.table.shared.key k c.pin.new.pass.seat.me n p (ap (λ (m : MyTree). m.0.upper.loads) is) (ap turns_at is)
     c.look.ensures.loads (ap (λ (m : MyTree). m.0.upper.loads) left) (ap turns_at left)
     (now_left k n p left (now_by c.pin.ensures.pinned.0 c.pin.ensures.pinned.1 k c.pin.new.pass.seat.me n is c.look.ensures.frame.pin.1)).0
+
+pub returns-in-Ok-clause-alone : goal.returns-in-Ok-clause-alone
+returns-in-Ok-clause-alone g c alone = let k = c.args.pass.now.seat.me in let m = c.pin.new.pass.seat.me in let n = c.look.new.pass.seat.me in
+    looks_pinned (Ok c.in-Ok.answer) c.args.tree.now.space.table.shared.key c.pin.ensures.pinned.0 c.pin.ensures.pinned.1 _ _ k m n c.pin.ensures.pinned.3
+    (ap (λ (x : KeptRows). vec_len x.rows) c.pin.ensures.frame.kept) c.in-Ok.ensures.alone alone
+
+pub returns-in-Err-clause-alone : goal.returns-in-Err-clause-alone
+returns-in-Err-clause-alone g c alone = let k = c.args.pass.now.seat.me in let m = c.pin.new.pass.seat.me in let n = c.look.new.pass.seat.me in
+    let p = c.unpin.new.pass.seat.me in
+    looks_left {T = Unit {0}} (Err c.in-Err.why) c.args.tree.now.space.table.shared.key (2 * bases_at k) _ k n p c.unpin.ensures.unpinned
+    (looks_pinned {T = Unit {0}} (Err c.in-Err.why) c.args.tree.now.space.table.shared.key c.pin.ensures.pinned.0 c.pin.ensures.pinned.1 _ _ k m n c.pin.ensures.pinned.3
+    (ap (λ (x : KeptRows). vec_len x.rows) c.pin.ensures.frame.kept) c.in-Err.ensures.alone alone)

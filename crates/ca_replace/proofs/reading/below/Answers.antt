@@ -3,6 +3,7 @@ use Rattle.ca_model.specs.Edges.{bound_of}
 use Rattle.ca_replace.specs.Ranging.{IsRangeCaused}
 use Rattle.ca_replace.specs.Within.{NeedsBelow}
 use Rattle.ca_replace.proofs.Leaving.{caused_behind, unspent_behind, acts_behind, bounded_behind}
+use Rattle.ca_replace.proofs.LoneReads.{rests_alone}
 use Rattle.ca_replace.proofs.ReadLoads.{rests_loads}
 use Rattle.ca_replace.proofs.reading.below.Goals as goal
 
@@ -33,3 +34,9 @@ pub returns-clause-loads : goal.returns-clause-loads
 returns-clause-loads c = let m = c.args.pass.now.seat.me in let read = c.read_range-outcome.new.pass in let last = c.rest_after.new.pass in
     rests_loads c.args.tree.now.space.table.shared.key m read.seat.me last.seat.me read.kept.rows last.kept.rows c.read_range-outcome.result
     c.rest_after.ensures.done c.rest_after.ensures.refused c.rest_after.ensures.frame.resting.left_before c.read_range-outcome.ensures.loads
+
+pub returns-clause-alone : goal.returns-clause-alone
+returns-clause-alone c alone = let m = c.args.pass.now.seat.me in let read = c.read_range-outcome.new.pass in let last = c.rest_after.new.pass in
+    let resting = c.rest_after.ensures.frame.resting in
+    rests_alone c.args.tree.now.space.table.shared.key c.read_range-outcome.result m read.seat.me last.seat.me read.kept.rows last.kept.rows
+    (resting.unlost alone.0) resting.left_before c.rest_after.ensures.done c.rest_after.ensures.refused (c.read_range-outcome.ensures.alone alone)

@@ -21,7 +21,7 @@ use Rattle.ca_replace.proofs.Showing.{did, read_done}
 use Rattle.ca_replace.proofs.Meeting.{further_on}
 use Rattle.ca_replace.specs.Adapting.{is_put}
 use Rattle.ca_replace.proofs.Entries.{read_by}
-use Rattle.ca_replace.proofs.Behind.{crowds_behind, frame_behind, frame_entered, ready_behind, turn_edited, turn_entered, turn_halted, idle_behind}
+use Rattle.ca_replace.proofs.Behind.{crowds_behind, few_behind, frame_behind, frame_entered, ready_behind, turn_edited, turn_entered, turn_halted, idle_behind}
 use Rattle.ca_replace.proofs.changing.ChangeCallAttempt.attempt.Goals as goal
 
 pub fetch-place-requires-clause-unanswered : goal.fetch-place-requires-clause-unanswered
@@ -223,6 +223,9 @@ pub returns-in-Ok-put_there-clause-turn : goal.returns-in-Ok-put_there-clause-tu
 returns-in-Ok-put_there-clause-turn g c =
     turn_edited c.fetch-place.ensures.looked c.requires.ready c.requires.known c.put_there.new.pass is_put (Some _) None
     c.args.tree.now.tuning c.args.course.now c.put_there.new.course _ changed.Put refl c.in-Ok-put_there.ensures.edited.turn _ c.fetch-place.ensures.loads
+
+pub returns-in-Err-clause-few_rows : goal.returns-in-Err-clause-few_rows
+returns-in-Err-clause-few_rows g c = few_behind c.fetch-place.ensures.looked c.requires.ready c.requires.known {T = Unit {0}} (Err c.in-Err.stop)
 
 pub returns-in-Err-clause-crowds : goal.returns-in-Err-clause-crowds
 returns-in-Err-clause-crowds g c = crowds_behind c.fetch-place.ensures.looked c.requires.ready c.requires.known c.in-Err.stop c.put_there.new.pass c.in-Err.ensures.edited.crowds

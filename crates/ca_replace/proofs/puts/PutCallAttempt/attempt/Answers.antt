@@ -5,7 +5,7 @@ use Rattle.std.proofs.Common.{◌≡◌, true}
 use Rattle.ca_replace.proofs.Showing.{tried_on}
 use Rattle.std.proofs.Common.{Some}
 use Rattle.ca_base.specs.Targets.{key_in}
-use Rattle.ca_replace.proofs.Behind.{crowds_tried, frame_behind, ready_behind, turn_tried, idle_behind}
+use Rattle.ca_replace.proofs.Behind.{crowds_tried, few_behind, frame_behind, ready_behind, turn_tried, idle_behind}
 use Rattle.ca_replace.proofs.puts.PutCallAttempt.attempt.Goals as goal
 
 pub returns-clause-tried : goal.returns-clause-tried
@@ -32,6 +32,9 @@ returns-clause-deep c = c.put_there.ensures.full
 pub put_there-requires-clause-ready : goal.put_there-requires-clause-ready
 put_there-requires-clause-ready c =
     ready_behind c.find-place.ensures.looked c.requires.ready c.requires.known
+
+pub returns-clause-few_rows : goal.returns-clause-few_rows
+returns-clause-few_rows c = few_behind c.find-place.ensures.looked c.requires.ready c.requires.known c.put_there.result
 
 pub returns-clause-crowds : goal.returns-clause-crowds
 returns-clause-crowds c = crowds_tried c.find-place.ensures.looked c.requires.ready c.requires.known c.put_there.result c.put_there.new.pass c.put_there.ensures.edited.crowds

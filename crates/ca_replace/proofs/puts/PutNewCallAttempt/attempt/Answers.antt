@@ -8,7 +8,7 @@ use Rattle.ca_model.specs.Event.{Event, WriteNew}
 use Rattle.ca_replace.proofs.Showing.{did, not_new, read_done}
 use Rattle.ca_replace.proofs.Meeting.{further_on}
 use Rattle.std.proofs.Common.{Ok, Err, Some}
-use Rattle.ca_replace.proofs.Behind.{crowds_behind, frame_behind, frame_entered, ready_behind, turn_edited, turn_entered, turn_halted, idle_behind}
+use Rattle.ca_replace.proofs.Behind.{crowds_behind, few_behind, frame_behind, frame_entered, ready_behind, turn_edited, turn_entered, turn_halted, idle_behind}
 use Rattle.ca_replace.proofs.puts.PutNewCallAttempt.attempt.Goals as goal
 
 pub enter-requires-clause-answer : goal.enter-requires-clause-answer
@@ -91,6 +91,9 @@ pub returns-in-Ok-clause-turn : goal.returns-in-Ok-clause-turn
 returns-in-Ok-clause-turn c =
     turn_edited c.find-place.ensures.looked c.requires.ready c.requires.known c.put_there.new.pass (λ (new : Bool). new) (Some (slice_range c.args.self.now.keyed.object.now c.args.self.now.keyed.key_at c.args.self.now.keyed.key_end)) (Some (slice_range c.args.self.now.keyed.object.now c.args.self.now.keyed.key_at c.args.self.now.keyed.key_end))
     c.args.tree.now.tuning c.args.course.now c.put_there.new.course _ true refl c.in-Ok.ensures.edited.turn _ c.find-place.ensures.loads
+
+pub returns-in-Err-clause-few_rows : goal.returns-in-Err-clause-few_rows
+returns-in-Err-clause-few_rows c = few_behind c.find-place.ensures.looked c.requires.ready c.requires.known {T = Unit {0}} (Err c.in-Err.stop)
 
 pub returns-in-Err-clause-crowds : goal.returns-in-Err-clause-crowds
 returns-in-Err-clause-crowds c = crowds_behind c.find-place.ensures.looked c.requires.ready c.requires.known c.in-Err.stop c.put_there.new.pass c.in-Err.ensures.edited.crowds

@@ -1,6 +1,6 @@
 use Rattle.ca_replace.proofs.Again.{further_since, since_before}
 use Rattle.ca_replace.specs.Attempting.{at_pin}
-use Rattle.std.proofs.Common.{◌∙◌}
+use Rattle.std.proofs.Common.{Err, ◌∙◌}
 use Rattle.std.proofs.Common.{ℕ, Bool, List, map, Ok, Some, None, false, true, refl, subst}
 use Rattle.std.specs.Prelude.{Result}
 use Rattle.ca_model.specs.Event.{Event, Remove}
@@ -12,7 +12,7 @@ use Rattle.ca_replace.specs.Tells.{Removes}
 use Rattle.ca_replace.proofs.Showing.{did, read_done}
 use Rattle.ca_replace.proofs.Meeting.{further_on}
 use Rattle.ca_replace.proofs.Entries.{read_by}
-use Rattle.ca_replace.proofs.Behind.{crowds_behind, frame_behind, frame_entered, ready_behind, turn_edited, turn_entered, turn_halted, idle_behind}
+use Rattle.ca_replace.proofs.Behind.{crowds_behind, few_behind, frame_behind, frame_entered, ready_behind, turn_edited, turn_entered, turn_halted, idle_behind}
 use Rattle.ca_replace.proofs.removing.RemoveCallAttempt.attempt.Goals as goal
 
 pub fetch-place-requires-clause-unanswered : goal.fetch-place-requires-clause-unanswered
@@ -97,6 +97,9 @@ pub returns-in-Ok-remove_there-clause-turn : goal.returns-in-Ok-remove_there-cla
 returns-in-Ok-remove_there-clause-turn c =
     turn_edited c.fetch-place.ensures.looked c.requires.ready c.requires.known c.remove_there.new.pass (λ (was : Bool). was) None None
     c.args.tree.now.tuning c.args.course.now c.remove_there.new.course _ true refl c.in-Ok-remove_there.ensures.edited.turn _ c.fetch-place.ensures.loads
+
+pub returns-in-Err-clause-few_rows : goal.returns-in-Err-clause-few_rows
+returns-in-Err-clause-few_rows c = few_behind c.fetch-place.ensures.looked c.requires.ready c.requires.known {T = Unit {0}} (Err c.in-Err.stop)
 
 pub returns-in-Err-clause-crowds : goal.returns-in-Err-clause-crowds
 returns-in-Err-clause-crowds c = crowds_behind c.fetch-place.ensures.looked c.requires.ready c.requires.known c.in-Err.stop c.remove_there.new.pass c.in-Err.ensures.edited.crowds

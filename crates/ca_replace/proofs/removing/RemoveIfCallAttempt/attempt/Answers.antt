@@ -1,6 +1,6 @@
 use Rattle.ca_replace.proofs.Again.{further_since, since_before}
 use Rattle.ca_replace.specs.Attempting.{at_pin}
-use Rattle.std.proofs.Common.{◌∙◌}
+use Rattle.std.proofs.Common.{Err, ◌∙◌}
 use Rattle.std.proofs.Common.{ℕ, List, map, Ok, Some, None, refl, subst, sym}
 use Rattle.std.specs.Prelude.{Result}
 use Rattle.ca_model.specs.declared.outcome.Changed.{Changed}
@@ -17,7 +17,7 @@ use Rattle.ca_replace.proofs.Showing.{did, read_done}
 use Rattle.ca_replace.proofs.Meeting.{further_on}
 use Rattle.ca_replace.specs.Adapting.{is_put}
 use Rattle.ca_replace.proofs.Entries.{read_by}
-use Rattle.ca_replace.proofs.Behind.{crowds_behind, frame_behind, frame_entered, ready_behind, turn_edited, turn_entered, turn_halted, idle_behind}
+use Rattle.ca_replace.proofs.Behind.{crowds_behind, few_behind, frame_behind, frame_entered, ready_behind, turn_edited, turn_entered, turn_halted, idle_behind}
 use Rattle.ca_replace.proofs.removing.RemoveIfCallAttempt.attempt.Goals as goal
 
 pub fetch-place-requires-clause-unanswered : goal.fetch-place-requires-clause-unanswered
@@ -168,6 +168,9 @@ pub returns-in-Ok-remove_there-clause-turn : goal.returns-in-Ok-remove_there-cla
 returns-in-Ok-remove_there-clause-turn g c =
     turn_edited c.fetch-place.ensures.looked c.requires.ready c.requires.known c.remove_there.new.pass is_put None None
     c.args.tree.now.tuning c.args.course.now c.remove_there.new.course _ changed.Put refl c.in-Ok-remove_there.ensures.edited.turn _ c.fetch-place.ensures.loads
+
+pub returns-in-Err-clause-few_rows : goal.returns-in-Err-clause-few_rows
+returns-in-Err-clause-few_rows g c = few_behind c.fetch-place.ensures.looked c.requires.ready c.requires.known {T = Unit {0}} (Err c.in-Err.stop)
 
 pub returns-in-Err-clause-crowds : goal.returns-in-Err-clause-crowds
 returns-in-Err-clause-crowds g c = crowds_behind c.fetch-place.ensures.looked c.requires.ready c.requires.known c.in-Err.stop c.remove_there.new.pass c.in-Err.ensures.edited.crowds

@@ -9,7 +9,8 @@ use Rattle.ca_replace.specs.TreePromises.{HasRead, WasInBudget}
 use Rattle.ca_replace.specs.Resting.{StoreAndRun, known_of, knows, run_left}
 use Rattle.ca_replace.specs.Seen.{store_of}
 use Rattle.ca_replace.specs.Within.{FindsAbove, NeedsAbove}
-use Rattle.ca_replace.proofs.Alone.{first_number, lone_read}
+use Rattle.ca_replace.proofs.Alone.{alone_at, first_number, lone_read}
+use Rattle.ca_replace.proofs.LoneReads.{read_never_busy}
 use Rattle.ca_replace.proofs.OpenStores.{between_rests, closed_still, knows_closed, of_both, rests_of}
 use Rattle.ca_replace.proofs.Telling.{found_above, if_then}
 use Rattle.ca_replace.proofs.Turns.{if_declined}
@@ -56,6 +57,12 @@ returns-clause-refused c = let table = c.self.inside.tree.now.space.table.shared
 
 pub returns-clause-promised : goal.returns-clause-promised
 returns-clause-promised c = let tree = c.self.inside.tree.now in let last = c.self.inside.last in let done = c.above.ensures in
+    let z = tree.space.table.shared.key in let pass = c.self.inside.pass in
+    let closed : run_left pass.seat.me.0.upper c.self.inside.run ≡ None =
+    subst (λ (s : StoreAndRun). (knows s).run ≡ None) (sym c.self.view_is) c.requires.closed in
+    let resting = rests_of (store_of tree pass last) c.self.inside.run c.self.invariant closed in
+    let reads = λ (one : z.passes ≡ 1).
+    done.alone (alone_at tree.space.table.shared.table_id z pass.number pass.tally pass.kept.rows pass.seat resting one) in
     subst (λ (s : StoreAndRun). HasRead (NeedsAbove (bound_of c.args.lo)) c.args.budget s.store (store_of tree c.above.new.pass last) c.above.result
     × IsSparing s.store (store_of tree c.above.new.pass last)
     × WasInBudget c.args.budget s.store (store_of tree c.above.new.pass last) c.above.result) c.self.view_is (
@@ -74,6 +81,12 @@ returns-clause-promised c = let tree = c.self.inside.tree.now in let last = c.se
             lone_read (NeedsAbove (bound_of c.args.lo)) z pass.number c.args.budget c.above.result pass.seat.me c.above.new.pass.seat.me pass.kept.rows c.above.new.pass.kept.rows one
             (first_number tree.space.table.shared.table_id z pass.number pass.tally pass.kept.rows pass.seat
             (rests_of before c.self.inside.run c.self.invariant closed) one) done.caused;
+        crowded = λ one. (reads one).1;
+        unlost = λ one. (reads one).0.unlost;
+        unhelped = λ one. (reads one).0.unhelped;
+        still = λ one. (reads one).0.still;
+        never_busy = λ one most. read_never_busy (NeedsAbove (bound_of c.args.lo)) z pass.number c.args.budget c.above.result pass.seat.me
+            c.above.new.pass.seat.me pass.kept.rows c.above.new.pass.kept.rows (reads one).0 most done.caused;
         bounded = done.bounded;
         loads = done.loads;
       },

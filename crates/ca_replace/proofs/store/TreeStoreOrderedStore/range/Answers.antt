@@ -16,7 +16,8 @@ use Rattle.ca_replace.specs.Seen.{store_of}
 use Rattle.ca_replace.specs.Causes.{IsSparing, IsUnspent}
 use Rattle.ca_replace.specs.TreePromises.{HasRead, OpensInBudget}
 use Rattle.ca_replace.specs.Within.{EndsTooSoon}
-use Rattle.ca_replace.proofs.Alone.{first_number, lone_read}
+use Rattle.ca_replace.proofs.Alone.{alone_at, first_number, lone_read}
+use Rattle.ca_replace.proofs.LoneReads.{read_never_busy, reads_refused}
 use Rattle.ca_replace.proofs.Misses.{if_caused_by, if_not_done, if_refused_by, range_needs}
 use Rattle.ca_replace.proofs.Needing.{too_soon}
 use Rattle.ca_replace.proofs.OpenStores.{knows_closed, of_both, rests_of}
@@ -58,6 +59,12 @@ pub returns-in-Err-clause-promised : goal.returns-in-Err-clause-promised
 returns-in-Err-clause-promised g c = let tree = c.self.inside.tree.now in let last = c.self.inside.last in
     let pass = c.self.inside.pass in let new = c.range.new.pass in let done = c.in-Err.ensures in
     let before = store_of tree pass last in let behind = store_of tree new last in
+    let z = tree.space.table.shared.key in
+    let closed : run_left pass.seat.me.0.upper c.self.inside.run ≡ None =
+    subst (λ (s : StoreAndRun). (knows s).run ≡ None) (sym c.self.view_is) c.requires.closed in
+    let resting = rests_of before c.self.inside.run c.self.invariant closed in
+    let reads = λ (one : z.passes ≡ 1).
+    done.alone (alone_at tree.space.table.shared.table_id z pass.number pass.tally pass.kept.rows pass.seat resting one) in
     let sought : Sought g.row.F.Denot = record { lo = c.args.lo; hi = c.args.hi; want = c.args.want; counts = c.args.counts } in
     let caused = range_needs (IsNotEnough g.F.Fn sought) (EndsTooSoon (bound_of c.args.lo) (bound_of c.args.hi)) (λ note n. too_soon g.F.Fn sought note n)
     tree.space.table.shared.key pass.number c.args.budget c.in-Err.why pass.seat.me new.seat.me pass.kept.rows new.kept.rows done.caused in
@@ -80,6 +87,14 @@ returns-in-Err-clause-promised g c = let tree = c.self.inside.tree.now in let la
             (rests_of before c.self.inside.run c.self.invariant closed) one)
             (if_caused_by (λ why. IsRangeCaused (EndsTooSoon (bound_of c.args.lo) (bound_of c.args.hi)) z pass.number c.args.budget why pass.seat.me pass.kept.rows new.seat.me new.kept.rows) c.in-Err.why
             c.outcome_by.result c.outcome_by.ensures caused);
+        crowded = λ one. (reads_refused z c.in-Err.why c.outcome_by.result pass.seat.me new.seat.me c.outcome_by.ensures (reads one)).1;
+        unlost = λ one. (reads one).0.unlost;
+        unhelped = λ one. (reads one).0.unhelped;
+        still = λ one. (reads one).0.still;
+        never_busy = λ one most. read_never_busy (EndsTooSoon (bound_of c.args.lo) (bound_of c.args.hi)) z pass.number c.args.budget c.outcome_by.result
+            pass.seat.me new.seat.me pass.kept.rows new.kept.rows (reads one).0 most
+            (if_caused_by (λ why. IsRangeCaused (EndsTooSoon (bound_of c.args.lo) (bound_of c.args.hi)) z pass.number c.args.budget why pass.seat.me
+            pass.kept.rows new.seat.me new.kept.rows) c.in-Err.why c.outcome_by.result c.outcome_by.ensures caused);
         bounded = c.range.ensures.bounded;
         loads = c.range.ensures.loads;
       },
@@ -91,6 +106,12 @@ returns-in-Err-clause-promised g c = let tree = c.self.inside.tree.now in let la
 pub returns-in-Ok-clause-promised : goal.returns-in-Ok-clause-promised
 returns-in-Ok-clause-promised g c = let tree = c.self.inside.tree.now in let last = c.self.inside.last in let done = c.in-Ok.ensures in
     let behind = store_of tree c.range.new.pass last in let o = outcome.Done c.in-Ok.whole in
+    let z = tree.space.table.shared.key in let pass = c.self.inside.pass in
+    let closed : run_left pass.seat.me.0.upper c.self.inside.run ≡ None =
+    subst (λ (s : StoreAndRun). (knows s).run ≡ None) (sym c.self.view_is) c.requires.closed in
+    let resting = rests_of (store_of tree pass last) c.self.inside.run c.self.invariant closed in
+    let reads = λ (one : z.passes ≡ 1).
+    done.alone (alone_at tree.space.table.shared.table_id z pass.number pass.tally pass.kept.rows pass.seat resting one) in
     subst (λ (s : StoreAndRun). HasRead (EndsTooSoon (bound_of c.args.lo) (bound_of c.args.hi)) c.args.budget s.store behind o × IfRefused o (λ _. IsSparing s.store behind)
     × OpensInBudget c.args.budget s.store behind o) c.self.view_is (
       record {
@@ -103,6 +124,11 @@ returns-in-Ok-clause-promised g c = let tree = c.self.inside.tree.now in let las
         };
         caused = tt;
         alone = λ one. tt;
+        crowded = λ one. tt;
+        unlost = λ one. (reads one).0.unlost;
+        unhelped = λ one. (reads one).0.unhelped;
+        still = λ one. (reads one).0.still;
+        never_busy = λ one most. tt;
         bounded = c.range.ensures.bounded;
         loads = c.range.ensures.loads;
       },

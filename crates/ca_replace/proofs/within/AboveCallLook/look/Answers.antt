@@ -1,6 +1,8 @@
-use Rattle.std.proofs.Common.{rules, refl, ap, arith}
+use Rattle.std.proofs.Common.{rules, ◌+◌, ◌*◌, ◌≤◌, refl, ap, arith}
 use Rattle.ca_model.specs.Edges.{bound_of}
+use Rattle.ca_replace.specs.LoneReads.{bases_at}
 use Rattle.ca_replace.specs.Within.{NeedsAbove, above_event}
+use Rattle.ca_replace.proofs.LoneReads.{passes_both, passes_entered, passes_within}
 use Rattle.ca_replace.proofs.Misses.{missed_needs}
 use Rattle.ca_replace.proofs.Needing.{needs_above}
 use Rattle.ca_replace.proofs.Runs.{finds_above, first_read, learnt_done, learnt_unanswered, run_ordered}
@@ -34,3 +36,14 @@ returns-in-Ok-clause-loads c = let few = c.snap.ensures.loads in let same = ap (
 
 pub returns-in-Err-clause-loads : goal.returns-in-Err-clause-loads
 returns-in-Err-clause-loads c = let few = c.snap.ensures.loads in omega arith
+
+pub returns-in-Ok-clause-alone : goal.returns-in-Ok-clause-alone
+returns-in-Ok-clause-alone c alone = let m = c.args.pass.now.seat.me in let n = c.snap.new.pass.seat.me in let p = c.read_first.new.pass.seat.me in (
+  passes_within (bases_at m + 0) (2 * bases_at m) m p (omega arith)
+      (passes_both (bases_at m) 0 m n p (c.snap.ensures.alone alone).0 (passes_entered _ n p c.read_first.ensures.entered)),
+  tt,
+)
+
+pub returns-in-Err-clause-alone : goal.returns-in-Err-clause-alone
+returns-in-Err-clause-alone c alone = let m = c.args.pass.now.seat.me in let did = c.in-Err.ensures.alone alone in
+    (passes_within (bases_at m) (2 * bases_at m) m c.snap.new.pass.seat.me (omega arith) did.0, did.1)

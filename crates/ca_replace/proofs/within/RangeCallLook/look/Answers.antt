@@ -1,4 +1,4 @@
-use Rattle.std.proofs.Common.{◌≡◌, ◌∙◌, List, ℕ, ap, subst, sym, arith}
+use Rattle.std.proofs.Common.{◌≡◌, ◌+◌, ◌*◌, ◌∙◌, List, ℕ, ap, subst, sym, arith}
 use Rattle.ca_model.specs.Edges.{Bound, bound_of, objects_of, within}
 use Rattle.ca_model.specs.Event.{Range}
 use Rattle.ca_model.specs.StoreMap.{IsStoreMap}
@@ -6,8 +6,10 @@ use Rattle.ca_node.specs.Told.{IsKnown, MyTree}
 use Rattle.ca_range.specs.Snapshots.{IsRemembered}
 use Rattle.ca_replace.specs.Acts.{acts_of}
 use Rattle.ca_replace.specs.Attempting.{HasDoneSuch}
+use Rattle.ca_replace.specs.LoneReads.{PassesAlone, bases_at}
 use Rattle.ca_replace.specs.Running.{IsOpenRun, all_of, left_of}
 use Rattle.ca_replace.specs.Within.{HasOpened, cut_of, range_event}
+use Rattle.ca_replace.proofs.LoneReads.{passes_both, passes_entered, passes_within}
 use Rattle.ca_replace.proofs.Runs.{last_inside, learnt_done, learnt_unanswered, remembered_entered, run_end, run_ordered, run_reaches, run_read}
 use Rattle.ca_replace.proofs.within.RangeCallLook.look.Goals as goal
 
@@ -71,3 +73,15 @@ returns-in-Ok-clause-loads g c = let few = c.snap.ensures.loads in let same = ap
 
 pub returns-in-Err-clause-loads : goal.returns-in-Err-clause-loads
 returns-in-Err-clause-loads g c = let few = c.snap.ensures.loads in omega arith
+
+pub returns-in-Ok-clause-alone : goal.returns-in-Ok-clause-alone
+returns-in-Ok-clause-alone g c alone = let m = c.args.pass.now.seat.me in let n = c.snap.new.pass.seat.me in let p = c.enter_run.new.pass.seat.me in
+    subst (λ (x : MyTree). PassesAlone (2 * bases_at m) m x × Unit {0}) (sym (c.warm.ensures.frame.still ∙ c.open_run.ensures.frame.still)) (
+      passes_within (bases_at m + 0) (2 * bases_at m) m p (omega arith)
+          (passes_both (bases_at m) 0 m n p (c.snap.ensures.alone alone).0 (passes_entered _ n p c.enter_run.ensures.entered)),
+      tt,
+    )
+
+pub returns-in-Err-clause-alone : goal.returns-in-Err-clause-alone
+returns-in-Err-clause-alone g c alone = let m = c.args.pass.now.seat.me in let did = c.in-Err.ensures.alone alone in
+    (passes_within (bases_at m) (2 * bases_at m) m c.snap.new.pass.seat.me (omega arith) did.0, did.1)
