@@ -16,6 +16,7 @@ use Rattle.ca_term.proofs.Rows.{row_again, length_elements}
 use Rattle.ca_order.specs.Codes.{AreCodes, BeginsOtherwise, HasNoCell, HasNoTuple, IsOpened, IsOpenedCell, same_terms}
 use Rattle.ca_order.specs.KeyParts.{HasCodes}
 use Rattle.ca_order.specs.Languages.{IsTermCode}
+use Rattle.ca_order.proofs.ByteOrder.{begun_order}
 use Rattle.ca_order.proofs.FirstBytes.{Tagged, first_same, is_cons, is_tuple, of_kind, tagged}
 use Rattle.ca_order.proofs.Skipped.{begun, one_code}
 
@@ -56,6 +57,23 @@ compared xs ys p q =
 -- The bytes stand to each other as the terms do.
 pub as_terms : (xs ys : List ℕ) (p : IsTermCode xs) (q : IsTermCode ys) (r : Ordering) → r ≡ slice_cmp nat_cmp xs ys → r ≡ term_cmp p.0 q.0
 as_terms xs ys p q r e = e ∙ compared xs ys p q
+
+-- The first code of some stands to one as the first term does: neither code begins with the other one.
+pub first_as_terms : (xs ys : List ℕ) (a : AreCodes xs) (q : IsTermCode ys) (r : Ordering) (t : Tree) (ts : List Tree)
+    → r ≡ slice_cmp nat_cmp (take (length ys) xs) ys → a.0 ≡ t ∷ ts → r ≡ term_cmp t q.0
+first_as_terms xs ys a q r t ts e f = by a.0 a.1 a.2 f
+  where
+    by : (us : List Tree) → AreTerms us → xs ≡ row_code (row_of us) → us ≡ t ∷ ts → r ≡ term_cmp t q.0
+    by [] b g f = cc
+    by (u ∷ us) b g f =
+        let n = b.0.narrow in
+        let own : r ≡ term_cmp u q.0 =
+        e ∙ ap (λ (x : List ℕ). slice_cmp nat_cmp (take (length ys) x) ys) (g ∙ more u us)
+        ∙ ap (λ (y : List ℕ). slice_cmp nat_cmp (take (length y) (code_of u ++ row_code (row_of us))) y) q.2
+        ∙ begun_order (code_of u) (code_of q.0) (row_code (row_of us)) (λ vs ws h. (same_code u q.0 vs ws n q.1.narrow h).1)
+        ∙ codes_compare u q.0 n q.1.narrow in
+        let same : u ≡ t = cc in
+        own ∙ ap (λ (x : Tree). term_cmp x q.0) same
 
 -- The bytes are equal where the terms are.
 pub equal_terms : (xs ys : List ℕ) (p : IsTermCode xs) (q : IsTermCode ys) (r : Bool) → r ≡ pointwise nat_eq xs ys → r ≡ is_eq (term_cmp p.0 q.0)

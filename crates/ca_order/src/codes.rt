@@ -1,5 +1,5 @@
 //! Codes of terms that stand one after the other, as in an object's code, read without decoding them.
-ghost use Rattle.std.specs.Prelude.{◌≡◌, ◌++◌, ℕ, List, MatchOption};
+ghost use Rattle.std.specs.Prelude.{◌≡◌, ◌++◌, ℕ, List, MatchOption, length, take};
 ghost use Rattle.std.specs.Cmp.Lexicographic.{slice_cmp};
 ghost use Rattle.std.specs.Ordering.{nat_cmp};
 ghost use Rattle.ca_order.specs.Languages.{IsTermCode};
@@ -119,6 +119,66 @@ fn order_behind(bytes: &[u8], others: &[u8]) -> Ordering
     left.cmp(right)
 }
 
+// How as many of the first bytes as there are others stand to the others.
+#[inline(always)]
+#[tactic(auto, using(crate::proofs::ByteOrder::front_orders))]
+fn order_of_front(bytes: &[u8], others: &[u8]) -> Ordering
+    ensures { result ≡ slice_cmp nat_cmp (take (length others.now) bytes.now) others.now }
+{
+    let mut left = bytes;
+    let mut right = others;
+    for _ in 0..FIRST {
+        let Some((other, rest)) = right.split_first() else {
+            return Ordering::Equal;
+        };
+        let Some((byte, more)) = left.split_first() else {
+            return Ordering::Less;
+        };
+        if *byte != *other {
+            return byte.cmp(other);
+        }
+        left = more;
+        right = rest;
+    }
+    order_of_front_behind(left, right)
+}
+
+// The same, where the first ones are the same.
+#[inline(never)]
+#[tactic(auto, using(crate::proofs::ByteOrder::front_orders))]
+fn order_of_front_behind(bytes: &[u8], others: &[u8]) -> Ordering
+    ensures { result ≡ slice_cmp nat_cmp (take (length others.now) bytes.now) others.now }
+{
+    let mut left = bytes;
+    let mut right = others;
+    for _ in 0..NEAR {
+        let Some((other, rest)) = right.split_first() else {
+            return Ordering::Equal;
+        };
+        let Some((byte, more)) = left.split_first() else {
+            return Ordering::Less;
+        };
+        if *byte != *other {
+            return byte.cmp(other);
+        }
+        left = more;
+        right = rest;
+    }
+    front_of(left, right.len()).cmp(right)
+}
+
+// The first so many bytes, or all where there are fewer.
+#[tactic(auto, using(crate::proofs::ByteOrder::take_more))]
+fn front_of(bytes: &[u8], count: usize) -> &[u8]
+    ensures { result.now ≡ take count bytes.now }
+{
+    if count < bytes.len() {
+        bytes.split_at(count).0
+    } else {
+        bytes
+    }
+}
+
 impl<'a> Part<'a> {
     ghost use Rattle.std.specs.Prelude.{◌≡◌, IfOk};
     ghost use Rattle.std.specs.Ordering.{is_eq};
@@ -185,7 +245,9 @@ impl<'a> Part<'a> {
 }
 
 impl<'a> Codes<'a> {
-    ghost use Rattle.std.specs.Prelude.{◌≡◌, ◌≤◌, [], ◌∷◌, length, MatchOption};
+    ghost use Rattle.std.specs.Prelude.{◌≡◌, ◌≤◌, [], ◌∷◌, List, length, MatchOption};
+    ghost use Rattle.ca_term.specs.Tree.{Tree};
+    ghost use Rattle.ca_term.specs.Order.{term_cmp};
     ghost use Rattle.ca_order.specs.Codes.{BeginsOtherwise, HasNoCell, HasNoTuple, IsOpened, IsOpenedCell};
     ghost use Rattle.ca_order.specs.CodesView.{terms_of, tree_of};
 
@@ -217,6 +279,14 @@ impl<'a> Codes<'a> {
             return None;
         }
         Some(self.split())
+    }
+
+    /// How the first term stands to this one. Its code's end isn't looked for: no code begins with another one.
+    #[inline(always)]
+    pub fn order(self, part: Part<'_>) -> Ordering
+        ensures { (first : Tree) (others : List Tree) → terms_of self.entry ≡ first ∷ others → result ≡ term_cmp first (tree_of part.entry) }
+    {
+        order_of_front(self.bytes, part.bytes)
     }
 
     /// Where the first term is a tuple, how many elements it has, and the codes with its elements in its place.

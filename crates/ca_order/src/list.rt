@@ -46,6 +46,7 @@ impl CodeList {
     }
 
     /// Puts one more term behind the others. `Err` where memory wasn't found: then nothing is changed.
+    #[inline(always)]
     pub fn push(&mut self, part: Part<'_>) -> Result<(), AllocError>
         ensures ok { OnOk result (self.new ≡ self.old ++ tree_of part.entry ∷ []) }
         ensures err { OnErr result (self.new ≡ self.old) }

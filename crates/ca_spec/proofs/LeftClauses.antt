@@ -71,6 +71,22 @@ pub first_fails : (clause : Clause) (others : List Clause) (object : Tree) (r : 
 first_fails clause others object r n e =
     e ∙ ap (λ (x : Option Tree). option_or x (result_by others object)) n ∙ sym (first clause others object)
 
+-- What the only clause gives is the result.
+pub only_told : (clauses others : List Clause) (clause : Clause) (source object : Tree) (r : Option Tree) → list_of (trees_of_clauses clauses) Nil ≡ source
+    → clauses ≡ clause ∷ others → length others ≡ 0 → r ≡ clause_result (tree_of_clause clause) object → r ≡ result_of source object
+unfolding result_of
+only_told clauses others clause source object r s f l e =
+    e ∙ sym (or_none (clause_result (tree_of_clause clause) object)) ∙ by others l ∙ ap (λ (x : List Clause). result_by x object) (sym f)
+    ∙ ap (λ (x : Tree). result_of x object) s
+  where
+    or_none : (v : Option Tree) → option_or v None ≡ v
+    or_none None = refl
+    or_none (Some v) = refl
+
+    by : (more : List Clause) → length more ≡ 0 → option_or (clause_result (tree_of_clause clause) object) None ≡ result_by (clause ∷ more) object
+    by [] l = refl
+    by (c ∷ cs) l = absurd (omega arith)
+
 -- ---- whether one holds
 
 -- Where the first one that is left holds, there is a result.

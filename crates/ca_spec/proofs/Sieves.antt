@@ -311,15 +311,17 @@ item_is [] others (suc k) u e = cc
 item_is (t ∷ ts) others zero u e = (omega arith, ap first e)
 item_is (t ∷ ts) others (suc k) u e = let rest = item_is ts others k u e in (omega (arith, rest.0), rest.1)
 
--- One with the element passes as the element says.
-pub element_passes : (sieve : Sieve) (object : Tree) (terms inside left others : List Tree) (count k : ℕ) (u : Tree) (r : Bool) → terms ≡ object ∷ []
-    → IsOpened terms count inside → left ≡ drop k inside → k ≡ sieve.place → left ≡ u ∷ others
-    → r ≡ has sieve.orders (term_cmp u (tree_of sieve.constant)) → r ≡ passes sieve object
-element_passes sieve object terms inside left others count k u r t o d p f g =
-    let are = are_elements object terms inside count t o in
-    let at = item_is inside others sieve.place u (ap (λ (x : ℕ). drop x inside) (sym p) ∙ sym d ∙ f) in
+-- One with the element passes as the element says, which stands first among those that are left.
+pub element_passes : (sieve : Sieve) (object : Tree) (terms inside left : List Tree) (count k : ℕ) (o : Ordering) (r : Bool) → terms ≡ object ∷ []
+    → IsOpened terms count inside → left ≡ drop k inside → k ≡ sieve.place → 1 ≤ length left
+    → ((u : Tree) (others : List Tree) → left ≡ u ∷ others → o ≡ term_cmp u (tree_of sieve.constant))
+    → r ≡ has sieve.orders o → r ≡ passes sieve object
+element_passes sieve object terms inside [] count k o r t i d p l f g = absurd (omega (arith, l))
+element_passes sieve object terms inside (u ∷ others) count k o r t i d p l f g =
+    let are = are_elements object terms inside count t i in
+    let at = item_is inside others sieve.place u (ap (λ (x : ℕ). drop x inside) (sym p) ∙ sym d) in
     let yes : nat_le (sieve.place + 1) (length inside) ≡ true = there (sieve.place + 1) (length inside) (omega (arith, at.0)) in
-    g
+    g ∙ ap (has sieve.orders) (f u others refl)
     ∙ sym (ap (passes_by sieve) are.elements_is
     ∙ ap (λ (x : Bool). x && has sieve.orders (term_cmp (get_or inside sieve.place Nil) (tree_of sieve.constant))) yes
     ∙ ap (λ (x : Tree). has sieve.orders (term_cmp x (tree_of sieve.constant))) at.1)

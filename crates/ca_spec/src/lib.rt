@@ -25,7 +25,7 @@ mod spec;
 pub use compiler::compile;
 pub use fault::{SpecFault, SpecWhy};
 pub use found::Found;
-pub use on_codes::{apply_code, chooses};
+pub use on_codes::{apply_code, chooses, told_by_code};
 pub use results::apply;
 pub use sieve::Sieve;
 pub use spec::Spec;

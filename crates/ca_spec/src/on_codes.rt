@@ -1,5 +1,5 @@
 //! What a specification makes of an object, by the object's code.
-ghost use Rattle.std.specs.Prelude.{◌≡◌, ◌≤◌, ◌∷◌, IfOk, OnErr, is_some, length, option_map};
+ghost use Rattle.std.specs.Prelude.{◌≡◌, ◌≤◌, ◌∷◌, IfOk, IfSome, OnErr, is_some, length, option_map};
 ghost use Rattle.ca_term.specs.Code.{code_of};
 ghost use Rattle.ca_term.specs.Tree.{Cons, IsTerm, Nil, Tree, list_of};
 ghost use Rattle.ca_match.specs.Match.{clause_result, guarded, no_bindings, pass, result_of};
@@ -18,7 +18,7 @@ use crate::expression::Expression;
 use crate::fitted::Fitted;
 use crate::fitting::fit_object;
 use crate::found::Found;
-use crate::quick::{self, Quick, passed, quick_result, result_where};
+use crate::quick::{self, Quick, may_be_part, passed, quick_result, result_where};
 use crate::results::{FEW, result_of_clause};
 use crate::spec::Spec;
 use ca_order::Part;
@@ -40,6 +40,40 @@ pub fn apply_code<'a>(
     ensures lack { OnErr result ((object : Tree) → IsTerm object → code.entry.now ≡ code_of object → SomeMayFit spec.entry.now object) }
 {
     result_of_clauses(alloc, spec.clauses.as_slice(), Part::of(code))
+}
+
+/// The code of the result that `apply` gives the object whose code this is, or `Some(None)` where it gives none; `None` where that isn't told: of several
+/// clauses, of many variables, and of a result that is no part of the object, the object or a constant. It takes no memory, and less time than `apply_code`.
+#[inline(always)]
+#[tactic(auto, using(crate::proofs::LeftClauses::only_told))]
+pub fn told_by_code<'a>(spec: &'a Spec, code: &'a [u8]) -> Option<Option<Part<'a>>>
+    requires { IsTermCode code.now }
+    ensures { IfSome result (λ told. (object : Tree) → IsTerm object → code.entry.now ≡ code_of object
+        → option_map tree_of told ≡ result_of spec.entry.now object) }
+{
+    let (clause, others) = spec.clauses.as_slice().split_first()?;
+    if !others.is_empty() {
+        return None;
+    }
+    let told = told_of_few(clause, Part::of(code))?;
+    Some(told)
+}
+
+// What the code tells of a clause's result, where the clause has few variables and its body may be a part.
+#[inline(always)]
+fn told_of_few<'a>(clause: &'a Clause, object: Part<'a>) -> Option<Option<Part<'a>>>
+    ensures { IfSome result (λ told. option_map tree_of told ≡ clause_result (tree_of_clause clause.entry.now) (tree_of object.entry)) }
+{
+    if clause.places > FEWER || !may_be_part(&clause.body) {
+        return None;
+    }
+    let mut table: [Option<Part<'a>>; FEWER] = [None; FEWER];
+    match quick_result(clause, object, &mut table) {
+        Quick::None => Some(None),
+        Quick::Part(part) => Some(Some(part)),
+        Quick::Term(_) => None,
+        Quick::Unknown => None,
+    }
 }
 
 /// Whether `apply` gives the object whose code this is a result. The result itself is made only where guards and body are more than comparisons, parts

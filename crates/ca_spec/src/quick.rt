@@ -39,6 +39,16 @@ fn operand<'a>(
     }
 }
 
+// Whether an expression is of a kind whose value may be a part of the object's code or a constant's code.
+#[inline(always)]
+pub(crate) fn may_be_part(expression: &Expression) -> bool {
+    match &expression.form {
+        Form::Variable(_) | Form::Whole | Form::Literal(_) | Form::Constant(_) => true,
+        Form::AllBound | Form::Tuple(_) | Form::List(_, _) | Form::One(_, _) | Form::Two(_, _, _) =>
+            false,
+    }
+}
+
 // Whether a comparison of two terms holds, by their codes, or `None` for other operators.
 #[inline(always)]
 fn compared(operator: Operator, a: Part<'_>, b: Part<'_>) -> Option<bool>

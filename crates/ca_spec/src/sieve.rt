@@ -79,8 +79,7 @@ impl<'a> Sieve<'a> {
         for _ in 0..self.place {
             left = left.split().1;
         }
-        let (element, _) = left.split();
-        has(self.orders, element.order(self.constant))
+        has(self.orders, left.order(self.constant))
     }
 }
 

@@ -1,9 +1,8 @@
-use Rattle.std.proofs.Common.{ap, sym, ◌∙◌, arith, ◌∷◌, []}
+use Rattle.std.proofs.Common.{ap, sym, ◌∙◌, arith, ◌∷◌, [], length, length-append}
 use Rattle.ca_term.specs.Tree.{Tree}
-use Rattle.ca_order.specs.CodesView.{terms_of, tree_of}
+use Rattle.ca_order.specs.CodesView.{terms_of}
 use Rattle.ca_spec.specs.PartBound.{others}
-use Rattle.ca_spec.specs.SieveView.{has}
-use Rattle.ca_spec.proofs.CodeBinding.{left_step}
+use Rattle.ca_spec.proofs.CodeBinding.{left_step, some_left}
 use Rattle.ca_spec.proofs.Sieves.{element_passes}
 use Rattle.ca_spec.proofs.sieve.Sieve.passes.Goals as goal
 
@@ -14,8 +13,10 @@ loop-preserved c =
 
 pub returns : goal.returns
 returns c = λ object bounded is.
-    element_passes c.args.self object (terms_of c.of-2.result) (terms_of c.in-Some.inside) (terms_of c.loop.left) (terms_of c.split-2.result.1)
-    c.in-Some.count c.loop.counter (tree_of c.split-2.result.0) c.has.result
-    (c.of-2.ensures ∙ ap (λ (x : Tree). x ∷ []) (c.of.ensures object bounded is)) c.in-Some.ensures c.loop.invariant
-    (omega (arith, c.loop.auto.counter-end, c.loop-test.false)) c.split-2.ensures
-    (c.has.ensures ∙ ap (has c.args.self.orders) c.order.ensures)
+    let o = c.in-Some.ensures in
+    let some = some_left (terms_of c.in-Some.inside) (terms_of c.loop.left) c.in-Some.count c.loop.counter
+    (omega (arith, c.loop.auto.counter-end, c.if-count-self.false))
+    (omega (arith, o.many, ap length o.inside_is, length-append o.items o.others)) c.loop.invariant in
+    element_passes c.args.self object (terms_of c.of-2.result) (terms_of c.in-Some.inside) (terms_of c.loop.left) c.in-Some.count c.loop.counter
+    c.order.result c.has.result (c.of-2.ensures ∙ ap (λ (x : Tree). x ∷ []) (c.of.ensures object bounded is)) o c.loop.invariant
+    (omega (arith, c.loop.auto.counter-end, c.loop-test.false)) some c.order.ensures c.has.ensures
