@@ -13,10 +13,12 @@ use Rattle.ca_model.specs.Event.{Range, IsAnswer}
 use Rattle.ca_model.specs.Known.{Known, Meets}
 use Rattle.ca_model.specs.Answer.{IsNeverDeep}
 use Rattle.ca_model.specs.declared.outcome.Outcome.{Outcome}
+use Rattle.ca_model.specs.Promises.{Promises}
 use Rattle.ca_explain.specs.Carries.{Gives}
 use Rattle.ca_explain.specs.Stands.{Stands}
 use Rattle.ca_table.specs.Codes.{HasKeyCode}
 use Rattle.ca_table.specs.ComesTo.{EditsNothing}
+use Rattle.ca_table.specs.Made.{HasRead, HasRefusedRead}
 use Rattle.ca_table.specs.Refusals.{IsRefusal}
 use Rattle.ca_table.specs.declared.outcome.Stop.{Stop}
 use Rattle.ca_table.specs.declared.outcome.Stop.TheVariants as stop
@@ -118,6 +120,12 @@ module _ (a b : Known) (lo hi : Bound) (s : Tree) (limit : Option ℕ) where
 abbrev pub IsStopped : Known → Known → ℕ → Stop → Type 0
 IsStopped a b budget (stop.Refused refusal) = IsRefusal a b budget refusal × IsNeverDeep refusal
 IsStopped a b budget stop.NoMemory = EditsNothing a b
+
+-- By these calls: the last read was refused so; or memory wasn't found, and no read was refused.
+module _ {S : Type 0} (promises : Promises S) (s t : S) where
+  abbrev pub HasReadToStop : Stop → Type 0
+  HasReadToStop (stop.Refused refusal) = HasRefusedRead promises refusal s t
+  HasReadToStop stop.NoMemory = HasRead promises s t
 
 -- ---- batches
 

@@ -51,6 +51,16 @@ refusal_of (outcome.Full why) = Some (cause.Full why)
 refusal_of (outcome.Deep level) = Some (cause.Deep level)
 refusal_of (outcome.Worn counter) = Some (cause.Worn counter)
 
+-- so of a read; one that looks for a key is never refused
+abbrev pub refused_read : Read → Option Cause
+refused_read Reserves = None
+refused_read (Gets budget key outcome into) = None
+refused_read (LooksAbove budget lo outcome into) = refusal_of outcome
+refused_read (LooksBelow budget hi outcome into) = refusal_of outcome
+refused_read (Opens budget lo hi want outcome) = refusal_of outcome
+refused_read HandsOut = None
+refused_read Closes = None
+
 abbrev pub refused_by : Edit → Option Cause
 refused_by (Puts budget pair outcome) = refusal_of outcome
 refused_by (PutsNew budget pair outcome) = refusal_of outcome
@@ -72,6 +82,18 @@ abbrev pub AreByKey : List Read → Type 0
 AreByKey [] = Unit {0}
 AreByKey (read ∷ reads) = IsByKey read × AreByKey reads
 
+-- None of them was refused.
+abbrev pub AreDone : List Read → Type 0
+AreDone [] = Unit {0}
+AreDone (read ∷ reads) = (refused_read read ≡ None) × AreDone reads
+
+-- A refused command's answer is the refusal of its store's call.
+abbrev pub answer_for : Cause → Outcome Reply
+answer_for (cause.Busy spent) = outcome.Busy spent
+answer_for (cause.Full why) = outcome.Full why
+answer_for (cause.Deep level) = outcome.Deep level
+answer_for (cause.Worn counter) = outcome.Worn counter
+
 module _ {S : Type 0} (promises : Promises S) where
   abbrev pub IsRead : Read → S → S → Type 0
   IsRead Reserves s t = promises.reserve s t
@@ -87,8 +109,17 @@ module _ {S : Type 0} (promises : Promises S) where
   AreReads [] s t = t ≡ s
   AreReads (read ∷ reads) s t = (u : S) × IsRead read s u × AreReads reads u t
 
+  -- Reads were made, if any, and none was refused.
   abbrev pub HasRead : S → S → Type 0
-  HasRead s t = (reads : List Read) × AreReads reads s t
+  HasRead s t = (reads : List Read) × AreDone reads × AreReads reads s t
+
+  -- Behind such reads one more was made, the last one, and was refused so.
+  abbrev pub HasReadUpTo : Cause → S → S → Type 0
+  HasReadUpTo refusal s t = (u : S) × (read : Read) × HasRead s u × IsRead read u t × (refused_read read ≡ Some refusal)
+
+  -- This is the answer then. Reads aren't refused for want of levels.
+  abbrev pub HasRefusedRead : Outcome Reply → S → S → Type 0
+  HasRefusedRead answer s t = (refusal : Cause) × (answer ≡ answer_for refusal) × IsNeverDeep answer × HasReadUpTo refusal s t
 
   abbrev pub HasReadKeys : S → S → Type 0
   HasReadKeys s t = (reads : List Read) × AreByKey reads × AreReads reads s t
@@ -98,9 +129,10 @@ module _ {S : Type 0} (promises : Promises S) where
   HasPrepared None s t = HasReadKeys s t
   HasPrepared (Some key) s t = promises.reserve s t
 
-  -- It made no call that may edit, and is answered so: not refused for want of levels; and one that may add this key made no call at all, and is done.
+  -- It made no call that may edit, and is answered so: it is done, and so were its reads, or the last of these was refused, and so is the command. One that
+  -- may add this key made no call at all, and is done.
   abbrev pub HasOnlyRead : Option (List ℕ) → Outcome Reply → S → S → Type 0
-  HasOnlyRead None answer s t = HasRead s t × IsNeverDeep answer
+  HasOnlyRead None answer s t = (HasRead s t × IsDone answer) ⊎ HasRefusedRead answer s t
   HasOnlyRead (Some key) answer s t = (t ≡ s) × IsDone answer
 
 module _ {S : Type 0} (promises : Promises S) (asked : ℕ → S → S → Outcome Changed → Type 0) where
@@ -113,13 +145,6 @@ module _ {S : Type 0} (promises : Promises S) (asked : ℕ → S → S → Outco
   -- A call that may edit, and may add this key, if any, was refused so, or was done.
   abbrev pub HasEdited : Option (List ℕ) → Option Cause → S → S → Type 0
   HasEdited adds refusal s t = (edit : Edit) × IsEdit edit s t × (added_by edit ≡ adds) × (refused_by edit ≡ refusal)
-
--- A refused command's answer is the refusal of its store's call.
-abbrev pub answer_for : Cause → Outcome Reply
-answer_for (cause.Busy spent) = outcome.Busy spent
-answer_for (cause.Full why) = outcome.Full why
-answer_for (cause.Deep level) = outcome.Deep level
-answer_for (cause.Worn counter) = outcome.Worn counter
 
 module _ {S : Type 0} (promises : Promises S) (asked : ℕ → S → S → Outcome Changed → Type 0) where
   -- Such a call was refused, and this is the command's answer.
@@ -141,7 +166,7 @@ module _ {S : Type 0} (knows : S → Known) (promises : Promises S) (asked : ℕ
     pub edited : HasEdited promises asked (added_key (knows s).keypos command) refusal between t
     pub answered : IsAnswerTo refusal answer
 
-  -- The command only read, or made one call behind its reads that may edit. Where memory lacked it only read.
+  -- The command only read, or made one call behind its reads that may edit. Where memory lacked it only read, and no read was refused.
   abbrev pub HasMadeFor : Outcome Reply → Type 0
   HasMadeFor answer = HasOnlyRead promises (added_key (knows s).keypos command) answer s t ⊎ HasReadAndEdited answer
 

@@ -7,7 +7,7 @@ ghost use Rattle.ca_match.specs.Specification.{IsSpecification};
 ghost use Rattle.ca_ets.specs.declared.command.Fault.TheVariants.{BadArg};
 ghost use Rattle.ca_ets.specs.Step.{fault_of_specification, limit_of};
 ghost use Rattle.ca_model.specs.Edges.{IsProperBound, bound_of};
-ghost use Rattle.ca_table.specs.Collected.{IsBatch, IsNextOf, IsPlaceOf, IsStopped, reply_of_batch};
+ghost use Rattle.ca_table.specs.Collected.{HasReadToStop, IsBatch, IsNextOf, IsPlaceOf, IsStopped, reply_of_batch};
 ghost use Rattle.ca_table.specs.ComesTo.{ComesToFrom};
 ghost use Rattle.ca_table.specs.ResultsView.{results_of};
 ghost use Rattle.ca_table.specs.Made.{HasMade, HasRead};
@@ -115,7 +115,8 @@ impl<S: OrderedStore + Drop, W: Follower<S>> Table<S, W> {
         requires edge { IsProperBound (bound_of lo) }
         requires limit { 1 ≤ limit }
         requires specification { IsSpecification spec }
-        ensures read { HasRead S.promises self.old self.new }
+        ensures read { IfOk result (λ _. HasRead S.promises self.old self.new) }
+        ensures halted { IfErr result (λ stop. HasReadToStop S.promises self.old self.new stop) }
         ensures batch { IfOk result (λ b.
             IsBatch (S.knows self.old) (S.knows self.new) (bound_of lo.entry) spec limit (response_of b.0) (continuation_of b.1)) }
         ensures next { IfOk result (λ b. IsContinuation (continuation_of b.1)) }
@@ -139,7 +140,8 @@ impl<S: OrderedStore + Drop, W: Follower<S>> Table<S, W> {
         requires edge { IsProperBound (bound_of lo) }
         requires limit { 1 ≤ limit }
         requires specification { IsSpecification spec.now }
-        ensures read { HasRead S.promises self.old self.new }
+        ensures read { IfOk result (λ _. HasRead S.promises self.old self.new) }
+        ensures halted { IfErr result (λ stop. HasReadToStop S.promises self.old self.new stop) }
         ensures batch { IfOk result (λ b.
             IsBatch (S.knows self.old) (S.knows self.new) (bound_of lo.entry) spec.now limit (response_of b.0) (continuation_of b.1)) }
         ensures next { IfOk result (λ b. IsContinuation (continuation_of b.1)) }

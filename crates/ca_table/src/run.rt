@@ -7,14 +7,14 @@ ghost use Rattle.ca_spec.specs.SieveView.{IsSieveOf};
 ghost use Rattle.ca_model.specs.Edges.{IsProperBound, bound_of};
 ghost use Rattle.ca_model.specs.Known.{StaysBesideRun};
 ghost use Rattle.ca_table.specs.ResultsView.{results_of};
-ghost use Rattle.ca_table.specs.Collected.{AddsObject, AreCollected, AreWithin, CountsOnly, HasNoResult, IsOpenRun, IsStopped, WasAsked, is_full, left_of, wanted};
+ghost use Rattle.ca_table.specs.Collected.{AddsObject, AreCollected, AreWithin, CountsOnly, HasNoResult, HasReadToStop, IsOpenRun, IsStopped, WasAsked, is_full, left_of, wanted};
 ghost use Rattle.ca_table.specs.Made.{HasRead};
 
 use crate::kept::Object;
 use crate::outcome::{Stop, done};
 use crate::results::Results;
 use ca_model::{Code, Edge, OrderedStore};
-use ca_spec::{Sieve, Spec, apply_code, chooses};
+use ca_spec::{Found, Sieve, Spec, apply_code, chooses, told_by_code};
 use std::alloc::{AllocError, Global};
 
 // What is collected of a run: results in key order, and the last object that gave one, where there are as many as are wanted.
@@ -45,6 +45,29 @@ impl Collected {
     // With the result of the object of this code, if the specification gives it one. The object itself is kept where there are as many results then as are
     // wanted: the next batch goes on behind it.
     pub(crate) fn add(
+        &mut self,
+        alloc: Global,
+        spec: &Spec,
+        limit: Option<u64>,
+        code: &Code,
+    ) -> Result<(), AllocError>
+        requires { IsTermCode code.now.items }
+        ensures { OnOk result (AddsObject limit spec.now code.now.items (results_of self.old.results) self.old.last (results_of self.new.results) self.new.last) }
+    {
+        match told_by_code(spec, code.as_slice()) {
+            Some(Some(part)) => {
+                self.results.push(alloc, Found::Coded(part))?;
+                self.keep(limit, code);
+                Ok(())
+            }
+            Some(None) => Ok(()),
+            None => self.add_found(alloc, spec, limit, code),
+        }
+    }
+
+    // The same where the code alone doesn't tell.
+    #[inline(never)]
+    fn add_found(
         &mut self,
         alloc: Global,
         spec: &Spec,
@@ -205,7 +228,8 @@ pub(crate) fn results_within<S: OrderedStore>(
         AreWithin (S.knows store.old) (S.knows store.new) (bound_of lo.entry) (bound_of hi.entry) spec.now limit (results_of c.results) c.last) }
     ensures stopped { IfErr result (λ stop. IsStopped (S.knows store.old) (S.knows store.new) budget stop) }
     ensures asked { WasAsked (S.promises.range budget store.old) (bound_of lo.entry) (bound_of hi.entry) (wanted limit) }
-    ensures read { HasRead S.promises store.old store.new }
+    ensures read { IfOk result (λ _. HasRead S.promises store.old store.new) }
+    ensures halted { IfErr result (λ stop. HasReadToStop S.promises store.old store.new stop) }
     ensures closed { (S.knows store.new).run ≡ None }
 {
     let sieve = Sieve::of(spec);

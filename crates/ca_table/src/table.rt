@@ -16,11 +16,11 @@ ghost use Rattle.ca_model.specs.StoreMap.{IsPair};
 ghost use Rattle.ca_ets.specs.Step.{fault_of_object, nature_of};
 ghost use Rattle.ca_plan.specs.Plan.{shared_key};
 ghost use Rattle.ca_table.specs.Codes.{HasObjectCode};
-ghost use Rattle.ca_table.specs.Collected.{AreWithin, IsStopped};
+ghost use Rattle.ca_table.specs.Collected.{AreWithin, HasReadToStop, IsStopped};
 ghost use Rattle.ca_ets.specs.Unless.{IsUnless};
 ghost use Rattle.ca_ets.specs.Update.{IsFilledList};
 ghost use Rattle.ca_table.specs.ComesTo.{ComesTo, ComesToFrom, EditsNothing, IsEmptyUpdate};
-ghost use Rattle.ca_table.specs.Made.{HasDeclined, HasEdited, HasMade, HasRead, HasReadKeys};
+ghost use Rattle.ca_table.specs.Made.{HasDeclined, HasEdited, HasMade, HasRead, HasReadKeys, HasRefusedRead};
 ghost use Rattle.ca_table.specs.Renewed.{Updated, by_element, by_operations};
 ghost use Rattle.ca_table.specs.Refusals.{IsRefusal, IsSame, RemovedSame};
 ghost use Rattle.ca_table.specs.ResultsView.{results_of};
@@ -548,7 +548,8 @@ impl<S: OrderedStore + Drop, W: Follower<S>> Table<S, W> {
     fn above(&mut self, lo: Edge<'_>, into: &mut Code, budget: u32) -> Result<bool, Outcome<Reply>>
         requires budget { 1 ≤ budget }
         requires edge { IsProperBound (bound_of lo) }
-        ensures read { HasRead S.promises self.old self.new }
+        ensures read { IfOk result (λ _. HasRead S.promises self.old self.new) }
+        ensures declined { IfErr result (λ answer. HasRefusedRead S.promises answer self.old self.new) }
         ensures found { IfOk result (λ found. FoundAbove (S.knows self.old) (S.knows self.new) (bound_of lo.entry) found into.new.items) }
         ensures refused { IfErr result (λ refusal. IsRefusal (S.knows self.old) (S.knows self.new) budget refusal) }
         ensures never_deep { IfErr result (λ refusal. IsNeverDeep refusal) }
@@ -560,7 +561,8 @@ impl<S: OrderedStore + Drop, W: Follower<S>> Table<S, W> {
     fn below(&mut self, hi: Edge<'_>, into: &mut Code, budget: u32) -> Result<bool, Outcome<Reply>>
         requires budget { 1 ≤ budget }
         requires edge { IsProperBound (bound_of hi) }
-        ensures read { HasRead S.promises self.old self.new }
+        ensures read { IfOk result (λ _. HasRead S.promises self.old self.new) }
+        ensures declined { IfErr result (λ answer. HasRefusedRead S.promises answer self.old self.new) }
         ensures found { IfOk result (λ found. FoundBelow (S.knows self.old) (S.knows self.new) (bound_of hi.entry) found into.new.items) }
         ensures refused { IfErr result (λ refusal. IsRefusal (S.knows self.old) (S.knows self.new) budget refusal) }
         ensures never_deep { IfErr result (λ refusal. IsNeverDeep refusal) }
@@ -646,7 +648,8 @@ impl<S: OrderedStore + Drop, W: Follower<S>> Table<S, W> {
         requires budget { 1 ≤ budget }
         requires lower_edge { IsProperBound (bound_of lo) }
         requires upper_edge { IsProperBound (bound_of hi) }
-        ensures read { HasRead S.promises self.old self.new }
+        ensures read { IfOk result (λ _. HasRead S.promises self.old self.new) }
+        ensures halted { IfErr result (λ stop. HasReadToStop S.promises self.old self.new stop) }
         ensures within { IfOk result (λ c.
             AreWithin (S.knows self.old) (S.knows self.new) (bound_of lo.entry) (bound_of hi.entry) spec.now limit (results_of c.results) c.last) }
         ensures stopped { IfErr result (λ stop. IsStopped (S.knows self.old) (S.knows self.new) budget stop) }

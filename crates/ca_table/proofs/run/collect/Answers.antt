@@ -1,4 +1,4 @@
-use Rattle.std.proofs.Common.{◌∙◌, sym, ap}
+use Rattle.std.proofs.Common.{◌∙◌, refl, sym, ap}
 use Rattle.ca_table.specs.Collected.{is_full, left_of}
 use Rattle.ca_table.proofs.Collecting.{collecting_none, collecting_more, collected_all, collected_full, handed_code, run_falls}
 use Rattle.ca_explain.proofs.Calls.{both_beside_run}
@@ -43,7 +43,7 @@ objects-preserved g c = record {
       (ap (is_full c.args.limit) (sym c.len.ensures) ∙ sym c.is_full.ensures ∙ c.objects-test.true) c.if-not-found.false c.found.ensures.handed_out
       c.found.ensures.stays (rw c.in_ok-sift.was at c.sift.ensures);
   read = read_both g.S.OrderedStore.promises c.args.store.now c.objects.store c.found.new.self c.objects.invariant.read
-      (read_once g.S.OrderedStore.promises HandsOut c.objects.store c.found.new.self c.found.ensures.promised);
+      (read_once g.S.OrderedStore.promises HandsOut c.objects.store c.found.new.self refl c.found.ensures.promised);
 }
 
 pub returns-in_err-sift-clause-stays : goal.returns-in_err-sift-clause-stays
@@ -61,12 +61,12 @@ returns-clause-stays g c = c.objects.invariant.collecting.stays
 pub returns-then-not-found-clause-read : goal.returns-then-not-found-clause-read
 returns-then-not-found-clause-read g c =
     read_both g.S.OrderedStore.promises c.args.store.now c.objects.store c.found.new.self c.objects.invariant.read
-    (read_once g.S.OrderedStore.promises HandsOut c.objects.store c.found.new.self c.found.ensures.promised)
+    (read_once g.S.OrderedStore.promises HandsOut c.objects.store c.found.new.self refl c.found.ensures.promised)
 
 pub returns-in_err-sift-clause-read : goal.returns-in_err-sift-clause-read
 returns-in_err-sift-clause-read g c =
     read_both g.S.OrderedStore.promises c.args.store.now c.objects.store c.found.new.self c.objects.invariant.read
-    (read_once g.S.OrderedStore.promises HandsOut c.objects.store c.found.new.self c.found.ensures.promised)
+    (read_once g.S.OrderedStore.promises HandsOut c.objects.store c.found.new.self refl c.found.ensures.promised)
 
 pub returns-clause-read : goal.returns-clause-read
 returns-clause-read g c = c.objects.invariant.read

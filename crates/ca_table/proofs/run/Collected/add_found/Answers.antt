@@ -4,7 +4,7 @@ use Rattle.ca_spec.specs.FoundView.{tree_of_found}
 use Rattle.ca_table.specs.Collected.{is_full}
 use Rattle.ca_table.specs.ResultsView.{results_of}
 use Rattle.ca_table.specs.declared.results.Results.{Results}
-use Rattle.ca_table.proofs.run.Collected.add.Goals as goal
+use Rattle.ca_table.proofs.run.Collected.add_found.Goals as goal
 
 pub returns-in_default : goal.returns-in_default
 returns-in_default c = λ o b e. rw (sym (c.in_ok-found.ensures.found o b (c.as_slice.ensures.value ∙ e)) ∙ ap (option_map tree_of_found) c.in_default.is) (refl, refl)
