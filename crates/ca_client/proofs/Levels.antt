@@ -18,7 +18,7 @@ use Rattle.ca_replace.specs.Levels.{Any, HasBeenAnswered as IsAnsweredOnTree, Ha
 use Rattle.ca_replace.specs.Resting.{StoreAndRun, StoreView, knows}
 use Rattle.ca_replace.specs.TreePromises.{MakesNoUpdate, OnlyLooks, tree_promises}
 use Rattle.ca_rows.specs.declared.sizes.Sizes.{Sizes}
-use Rattle.ca_table.specs.Made.{Read, Reserves, Gets, LooksAbove, LooksBelow, Opens, HandsOut, Closes, Edit, Puts, PutsNew, Removes, Asks, AreReads, HasEdited, HasMadeFor, HasOnlyRead, HasPrepared, IsAnswerTo, IsEdit, IsRead, added_by, added_key, answer_for, refusal_of, refused_by}
+use Rattle.ca_table.specs.Made.{Read, Reserves, Gets, LooksAbove, LooksBelow, Opens, HandsOut, Closes, Edit, Puts, PutsNew, Removes, Asks, AreReads, HasEdited, HasMadeFor, HasOnlyRead, HasPrepared, HasRead, HasRefusedRead, IsAnswerTo, IsEdit, IsRead, added_by, added_key, answer_for, refusal_of, refused_by}
 use Rattle.ca_table.proofs.Sure.{not_overtaken}
 use Rattle.ca_client.specs.Chain.{HasBeenAnswered, HasBeenTried, HaveBeenAnswered, IsAnsweredSo, IsTriedAgain}
 use Rattle.ca_client.specs.Following.{asked_on_tree}
@@ -40,7 +40,15 @@ no_updates : (reads : List Read) (s t : StoreAndRun) → AreReads tree_promises 
 no_updates [] s t h = subst (λ (x : StoreAndRun). MakesNoUpdate s.store x.store) (sym h) (reads_none s.store)
 no_updates (read ∷ reads) s t h = reads_on s.store h.0.store t.store (no_update read s h.0 h.1) (no_updates reads h.0 t h.2)
 
-prepared : (adds : Option (List ℕ)) (s t : StoreAndRun) → HasPrepared tree_promises adds s t → HasReadFor adds s.store t.store
+-- Reads of which none was refused, and those of which the last one was.
+pub only_read : (s t : StoreAndRun) → HasRead tree_promises s t → MakesNoUpdate s.store t.store
+only_read s t h = no_updates h.0 s t h.2
+
+refused_read_too : (answer : Outcome Reply) (s t : StoreAndRun) → HasRefusedRead tree_promises answer s t → MakesNoUpdate s.store t.store
+refused_read_too answer s t h = let r = h.3 in
+    reads_on s.store r.0.store t.store (only_read s r.0 r.2) (no_update r.1 r.0 t r.3)
+
+pub prepared : (adds : Option (List ℕ)) (s t : StoreAndRun) → HasPrepared tree_promises adds s t → HasReadFor adds s.store t.store
 prepared None s t h = no_updates h.0 s t h.2
 prepared (Some key) s t h = subst (λ (x : StoreAndRun). OnlyLooks s.store x.store) (sym h) (looks_none s.store)
 
@@ -63,7 +71,7 @@ no_room z adds u (outcome.Deep at) level e h = h
 no_room z adds u (outcome.Worn counter) level e h = cc
 
 module _ (adds : Option (List ℕ)) (s t : StoreAndRun) where
-  told_for : {T : Type 0} (edits : T → Bool) (key : Option (List ℕ)) (budget : ℕ) (o : Outcome T) → key ≡ adds
+  pub told_for : {T : Type 0} (edits : T → Bool) (key : Option (List ℕ)) (budget : ℕ) (o : Outcome T) → key ≡ adds
       → HasTold edits key budget s.store t.store o → HasTold edits adds budget s.store t.store o
   told_for edits key budget o e h = subst (λ (k : Option (List ℕ)). HasTold edits k budget s.store t.store o) e h
 
@@ -97,7 +105,7 @@ module _ (adds : Option (List ℕ)) (s t : StoreAndRun) where
 
 -- ---- the tree stays
 
-read_stays : (adds : Option (List ℕ)) (s t : StoreView) → HasReadFor adds s t → StaysStore s t
+pub read_stays : (adds : Option (List ℕ)) (s t : StoreView) → HasReadFor adds s t → StaysStore s t
 read_stays None s t h = h.same
 read_stays (Some key) s t h = h.unchanged.same
 
@@ -126,21 +134,26 @@ deep_is (cause.Deep at) level e = cc
 deep_is (cause.Worn counter) level e = cc
 
 -- the key that a command may add, by a store on the tree
-abbrev key_of : Command → StoreAndRun → Option (List ℕ)
+abbrev pub key_of : Command → StoreAndRun → Option (List ℕ)
 key_of command s = added_key s.store.z.keypos command
 
 module _ (command : Command) (s t : StoreAndRun) where
+  read_alone : (o : Outcome Reply) → HasOnlyRead tree_promises None o s t → MakesNoUpdate s.store t.store
+  read_alone o (inl h) = only_read s t h.0
+  read_alone o (inr h) = refused_read_too o s t h
+
   only_tried : (adds : Option (List ℕ)) (o : Outcome Reply) → IsTriedAgain o → HasOnlyRead tree_promises adds o s t
       → IsTryOnTree adds s.store t.store
-  only_tried None o again h = inl (no_updates h.0.0 s t h.0.1)
+  only_tried None o again h = inl (read_alone o h)
   only_tried (Some key) o again h = absurd (undone o again h.1)
 
   only_last : (adds : Option (List ℕ)) (o : Outcome Reply) → HasOnlyRead tree_promises adds o s t → IsLastTry adds s.store t.store
-  only_last None o h = inl (no_updates h.0.0 s t h.0.1)
+  only_last None o h = inl (read_alone o h)
   only_last (Some key) o h = inl (subst (λ (x : StoreAndRun). MakesNoUpdate s.store x.store) (sym h.0) (reads_none s.store))
 
   not_deep : (adds : Option (List ℕ)) (level : ℕ) → HasOnlyRead tree_promises adds (outcome.Deep level) s t → ⊥
-  not_deep None level h = h.1
+  not_deep None level (inl h) = h.1
+  not_deep None level (inr h) = h.2
   not_deep (Some key) level h = h.1
 
   -- Behind its reads a call was made that may edit.
@@ -190,10 +203,10 @@ module _ (command : Command) (s t : StoreAndRun) where
       (h.between.store, deep.0, deep.1)
 
 -- Several tries.
-record HasTriedOn (tries : ℕ) (command : Command) (s t : StoreAndRun) : Type 0 where
-  tried : HasTried tries (key_of command s) s.store t.store
-  same : StaysStore s.store t.store
-  alone : (knows t).alone ≡ true
+pub record HasTriedOn (tries : ℕ) (command : Command) (s t : StoreAndRun) : Type 0 where
+  pub tried : HasTried tries (key_of command s) s.store t.store
+  pub same : StaysStore s.store t.store
+  pub alone : (knows t).alone ≡ true
 
 tries_on : (tries : ℕ) (command : Command) (s t : StoreAndRun) → (knows s).alone ≡ true
     → HasBeenTried knows tree_promises asked_on_tree tries command s t → HasTriedOn tries command s t
@@ -217,13 +230,13 @@ tries_on (suc tries) command s t alone h =
 
 module _ (command : Command) (answer : Answer) (s t : StoreAndRun) (alone : (knows s).alone ≡ true)
     (h : HasBeenAnswered knows tree_promises asked_on_tree command answer s t) where
-  tries : HasTriedOn h.again command s h.before
+  pub tries : HasTriedOn h.again command s h.before
   tries = tries_on h.again command s h.before alone h.tries
 
-  keys : key_of command h.before ≡ key_of command s
+  pub keys : key_of command h.before ≡ key_of command s
   keys = ap (λ (z : Sizes). added_key z.keypos command) tries.same.sizes
 
-  answered_on : IsAnsweredOnTree (key_of command s) s.store t.store
+  pub answered_on : IsAnsweredOnTree (key_of command s) s.store t.store
   answered_on = (
     h.again,
     h.before.store,

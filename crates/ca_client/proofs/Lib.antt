@@ -6,6 +6,7 @@ pub mod Levels
 pub mod Logs
 pub mod OneHistory
 pub mod Refusals
+pub mod Rows
 pub mod Shares
 pub mod Sharing
 mod Telling

@@ -37,7 +37,7 @@ use Rattle.ca_client.specs.Clients.{IsBehind, HavePlayed}
 use Rattle.ca_client.specs.Played.{AreCounted, HasPlayed}
 use Rattle.ca_client.specs.Following.{asked_on_tree}
 use Rattle.ca_client.specs.Told.{HasToldBefore}
-use Rattle.ca_client.specs.Ran.{AreDeepLate, HasRun, IsPlayedBy, ArePlayedBy, answers_in, splits_of, joins_of}
+use Rattle.ca_client.specs.Ran.{AreDeepLate, AreFullLate, HasRun, IsPlayedBy, ArePlayedBy, answers_in, splits_of, joins_of}
 use Rattle.ca_client.specs.Sharing.{IsReady, AreReady, IsPart, AreParts, AreLeft}
 use Rattle.ca_client.specs.declared.clients.Client.{Client}
 use Rattle.ca_client.specs.declared.following.OnTree.{OnTree}
@@ -45,6 +45,7 @@ use Rattle.ca_client.specs.declared.running.Parts.{Parts}
 use Rattle.ca_client.specs.declared.running.Ran.{Ran}
 use Rattle.ca_client.proofs.Levels.{begins_late}
 use Rattle.ca_client.proofs.Logs.{log_of_parts}
+use Rattle.ca_client.proofs.Rows.{begins_full_late}
 
 -- The numbers of a table tell it from all others.
 pub one_table : (a b : TableId) → numbers_of a ≡ numbers_of b → a ≡ b
@@ -58,6 +59,10 @@ one_table a b e = λ i. record {
   slot_names = drop 6 (e i);
 }
 
+-- In a tree of this size such answers refuse for want of levels, and of rows, only late.
+abbrev pub AreLate : Sizes → List Answer → Type 0
+AreLate z answers = AreDeepLate z.levels 0 answers × AreFullLate z.rows 0 answers
+
 -- What a client's play on its pass comes to: it played these lines, by this pass, which is one of the table and isn't pinned.
 pub record IsShare {R : Type 0} (table : TableId) (z : Sizes) (number : ℕ) (file : List Line) (told : Answers) (pass : Pass R TreeView) : Type 0 where
   pub answers : List Answer
@@ -66,7 +71,7 @@ pub record IsShare {R : Type 0} (table : TableId) (z : Sizes) (number : ℕ) (fi
   pub plays : Plays z.keypos Never (commands_in (numbered file)) answers parts
   pub played : IsPlayedBy number (record { commands = commands_in (numbered file); answers = answers; parts = parts }) (left_by pass)
   pub closable : IsClosable table pass.seat
-  pub deep_late : z.passes ≡ 1 → number ≡ 1 → AreDeepLate z.levels 0 answers
+  pub late : z.passes ≡ 1 → number ≡ 1 → AreLate z answers
 
 -- A pass of a space for one is alone.
 is_alone : (passes number : ℕ) → passes ≡ 1 → number ≡ 1 → cond (passes == 1) (number == 1) false ≡ true
@@ -88,10 +93,15 @@ module _ {R : Type 0} (table : TableId) (z : Sizes) where
     play : HasPlayed (knows a.table) (knows b.table) (commands_in (numbered a.lines.now)) tells.1.answers
     play = subst (λ (k : Known). HasPlayed (knows a.table) k (commands_in (numbered a.lines.now)) tells.1.answers) (sym tells.2) tells.1.played
 
-    late : z.passes ≡ 1 → number ≡ 1 → AreDeepLate z.levels 0 tells.1.answers
-    late one first = subst (λ (y : Sizes). AreDeepLate y.levels 0 tells.1.answers) ready.sizes
-        (begins_late a.table tells.0 (commands_in (numbered a.lines.now)) tells.1.answers (ap (λ (y : Sizes). y.passes) ready.sizes ∙ one) ready.unsplit
-        (ap (λ (k : Known). k.alone) ready.begins ∙ is_alone z.passes number one first) tells.1.made)
+    late : z.passes ≡ 1 → number ≡ 1 → AreLate z tells.1.answers
+    late one first =
+        let commands = commands_in (numbered a.lines.now) in
+        let passes = ap (λ (y : Sizes). y.passes) ready.sizes ∙ one in
+        let alone = ap (λ (k : Known). k.alone) ready.begins ∙ is_alone z.passes number one first in
+        subst (λ (y : Sizes). AreLate y tells.1.answers) ready.sizes (
+          begins_late a.table tells.0 commands tells.1.answers passes ready.unsplit alone tells.1.made,
+          begins_full_late a.table tells.0 commands tells.1.answers passes ready.unsplit ready.unrenewed alone tells.1.made,
+        )
 
     -- What a pass that was just made played is its client's share.
     pub share : IsShare table z number file told pass
@@ -113,7 +123,7 @@ module _ {R : Type 0} (table : TableId) (z : Sizes) where
             (sym (ap (λ (k : Known). k.store) part.known) ∙ play.grown.same.store ∙ ap (λ (k : Known). k.store) ready.begins),
         part.unpinned,
       );
-      deep_late = late;
+      late = late;
     }
 
   -- What these played is their clients' shares.
@@ -159,7 +169,7 @@ pub record ArePlayers (z : Sizes) (first : ℕ) (files : List (List Line)) (all 
   pub are_told : AreAllTold (map numbered files) (answers_in clients) all
   pub played : ArePlayedBy first clients passes
   pub plays : All (λ (c : Player). Plays z.keypos Never c.commands c.answers c.parts) clients
-  pub deep_late : z.passes ≡ 1 → first ≡ 1 → length files ≤ 1 → All (λ (answers : List Answer). AreDeepLate z.levels 0 answers) (answers_in clients)
+  pub late : z.passes ≡ 1 → first ≡ 1 → length files ≤ 1 → All (λ (answers : List Answer). AreLate z answers) (answers_in clients)
 
 module _ {R : Type 0} (table : TableId) (z : Sizes) where
   -- The passes of such clients may be closed with the table.
@@ -183,7 +193,7 @@ module _ {R : Type 0} (table : TableId) (z : Sizes) where
         are_told = tt;
         played = tt;
         plays = λ k d l. absurd (omega (arith, l));
-        deep_late = λ one is few k d l. absurd (omega (arith, l));
+        late = λ one is few k d l. absurd (omega (arith, l));
       }
   players first [] [] (p ∷ passes) shares = absurd shares
   players first [] (x ∷ all) passes shares = absurd shares
@@ -199,8 +209,8 @@ module _ {R : Type 0} (table : TableId) (z : Sizes) where
         are_told = (shares.0.are_told, rest.are_told);
         played = (shares.0.played, rest.played);
         plays = All-cons (λ (c : Player). Plays z.keypos Never c.commands c.answers c.parts) player rest.clients shares.0.plays rest.plays;
-        deep_late = λ one is few.
-            All-cons (λ (answers : List Answer). AreDeepLate z.levels 0 answers) shares.0.answers (answers_in rest.clients) (shares.0.deep_late one is)
+        late = λ one is few.
+            All-cons (λ (answers : List Answer). AreLate z answers) shares.0.answers (answers_in rest.clients) (shares.0.late one is)
             (λ k d l. absurd (let count = rest.count in let many = length-map rest.clients (λ (c : Player). c.answers) in omega (arith, l, few, count, many)));
       }
 
@@ -247,6 +257,12 @@ module _ {R : Type 0} (table : TableId) (z : Sizes) (files : List (List Line)) (
   players_are = subst (λ (xs : List Ended). ArePlayers z 1 files ran.answers.items xs) (sym left)
       (players table z 1 files ran.answers.items passes shares)
 
+  all_late : ran.past.sizes.passes ≡ 1 → All (λ (answers : List Answer). AreLate ran.past.sizes answers) (answers_in players_are.clients)
+  all_late one =
+      let alone = ap (λ (y : Sizes). y.passes) (sym sizes) ∙ one in
+      subst (λ (y : Sizes). All (λ (answers : List Answer). AreLate y answers) (answers_in players_are.clients)) (sym sizes)
+      (players_are.late alone refl (omega (arith, few, alone)))
+
   pub has_run : ran.splits ≡ splits_of (map left_by passes) → ran.joins ≡ joins_of (map left_by passes)
       → HasRun z.keypos (map numbered files) ran
   has_run splits joins =
@@ -264,9 +280,8 @@ module _ {R : Type 0} (table : TableId) (z : Sizes) (files : List (List Line)) (
         played = p.played;
         splits_are = splits ∙ ap (λ (xs : List Ended). splits_of xs) (sym left);
         joins_are = joins ∙ ap (λ (xs : List Ended). joins_of xs) (sym left);
-        deep_late = λ one. let alone = ap (λ (y : Sizes). y.passes) (sym sizes) ∙ one in
-            subst (λ (y : Sizes). All (λ (answers : List Answer). AreDeepLate y.levels 0 answers) (answers_in p.clients)) (sym sizes)
-            (p.deep_late alone refl (omega (arith, few, alone)));
+        deep_late = λ one k d l. (all_late one k d l).0;
+        full_late = λ one k d l. (all_late one k d l).1;
         explained = subst (λ (cs : List (List Command)). ExplainedBy z.keypos cs (answers_in p.clients) merge terms) p.commands_are
             (explains z.keypos closed.history p.clients terms logs);
       }

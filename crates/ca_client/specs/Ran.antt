@@ -1,6 +1,6 @@
 -- What a run of clients on one tree comes to.
-use Rattle.std.specs.Prelude.{◌≡◌, ℕ, suc, ◌*◌, ◌≤◌, min, All, List, [], ◌∷◌, length, map, sum_by, Err}
-use Rattle.ca_ets.specs.Command.{Answer, Deep}
+use Rattle.std.specs.Prelude.{◌≡◌, ℕ, suc, ◌+◌, ◌*◌, ◌≤◌, min, All, List, [], ◌∷◌, length, map, sum_by, Err}
+use Rattle.ca_ets.specs.Command.{Answer, Deep, Full}
 use Rattle.ca_ets.specs.Explained.{ExplainedBy}
 use Rattle.ca_model.specs.History.{History}
 use Rattle.ca_node.specs.TreeView.{Ended, no_refusals}
@@ -49,10 +49,15 @@ abbrev pub AreDeepLate : ℕ → ℕ → List Answer → Type 0
 AreDeepLate levels before [] = Unit {0}
 AreDeepLate levels before (answer ∷ answers) = (answer ≡ Err Deep → levels ≤ 2 * before) × AreDeepLate levels (suc before) answers
 
+-- So it is with one that refuses for want of rows: the tree has eight rows, at most, for each answer before it, and 448.
+abbrev pub AreFullLate : ℕ → ℕ → List Answer → Type 0
+AreFullLate rows before [] = Unit {0}
+AreFullLate rows before (answer ∷ answers) = (answer ≡ Err Full → rows ≤ 8 * before + 448) × AreFullLate rows (suc before) answers
+
 -- The clients played these lines by the passes of the closed tree, which made one for each, and no other. There is one history for which the passes' logs
 -- are lawful, and whose last state stands for the table; so the merge by places explains the answers and the table. What is told of the answers is their
 -- printed lines, and how many of them refuse. Splits and joins are those of the passes. In a tree for one pass no answer refuses for want of levels before half
--- as many commands were played as there are levels.
+-- as many commands were played as there are levels; nor for want of rows, where the tree has more than eight for each command played before it, and 448.
 pub record HasRun (keypos : ℕ) (lines : List (List Numbered)) (ran : Ran) : Type 0 where
   pub made : ran.past.made ≡ length lines
   pub history : History
@@ -64,6 +69,7 @@ pub record HasRun (keypos : ℕ) (lines : List (List Numbered)) (ran : Ran) : Ty
   pub splits_are : ran.splits ≡ splits_of ran.past.passes
   pub joins_are : ran.joins ≡ joins_of ran.past.passes
   pub deep_late : ran.past.sizes.passes ≡ 1 → All (λ answers. AreDeepLate ran.past.sizes.levels 0 answers) (answers_in clients)
+  pub full_late : ran.past.sizes.passes ≡ 1 → All (λ answers. AreFullLate ran.past.sizes.rows 0 answers) (answers_in clients)
   pub explained : ExplainedBy keypos (map commands_in lines) (answers_in clients) (merge_of history clients) ran.table
 
 -- The history of a run is told by the logs of its passes: there is no other one.

@@ -27,12 +27,14 @@ module _ {R : Type 0} (table : TableId) (z : Sizes) where
   AreNew first (pass ∷ passes) = IsNew first pass × AreNew (suc first) passes
 
 module _ (table : TableId) (z : Sizes) where
-  -- The client has these lines, and its store is that of the pass of this number, which was just made, and split no base.
+  -- The client has these lines, and its store is that of the pass of this number, which was just made: it split no base, and carried
+  -- out no update.
   pub record IsReady (number : ℕ) (file : List Line) (client : Client StoreAndRun OnTree) : Type 0 where
     pub lines : client.lines.now ≡ file
     pub begins : knows client.table ≡ known_of table z (blank number)
     pub sizes : client.table.store.z ≡ z
     pub unsplit : client.table.store.seat.me.0.upper.splits ≡ 0
+    pub unrenewed : client.table.store.seat.me.0.upper.renewal.count ≡ 0
 
   -- So it is with a client for each file, of which the first has this number.
   abbrev pub AreReady : ℕ → List (List Line) → List (Client StoreAndRun OnTree) → Type 0
