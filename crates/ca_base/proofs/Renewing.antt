@@ -107,6 +107,7 @@ module _ (z : Sizes) (kept : Vec Kept Global) (m : MyTree) (new : ℕ) (x : Upda
         same_cuts = refl;
         same_lost = refl;
         same_loads = refl;
+        same_unfinished = refl;
         last = refl;
         inventory = (x, sym first_is, few, refl);
         renewal = ap

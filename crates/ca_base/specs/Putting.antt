@@ -161,6 +161,8 @@ pub record IsRenewed (z : Sizes) (met : Met) (statistic : ℕ) (edit : Edit) (u 
   pub same_cuts : v.cuts ≡ u.cuts
   pub same_lost : v.lost ≡ u.lost
   pub same_loads : v.loads ≡ u.loads
+  -- Those ranges of other passes are known to be unfinished that were.
+  pub same_unfinished : v.ranges.unfinished ≡ u.ranges.unfinished
   -- It is the base that was shown last, and the pass's last update is this one.
   pub last : v.last ≡ first_note v.notes
   -- The tree has the new base in the place of the old one, and one object row more at most.
