@@ -1,13 +1,18 @@
 -- What the word of a range tells a pass that found none of another pass unfinished.
-use Rattle.std.proofs.Common.{◌≡◌, ◌≢◌, ◌⊎◌, ⊎_elim, ℕ, ◌+◌, ◌<◌, ◌≤◌, Bool, true, false, cond, eqb, List, Some, [], refl, ap, ◌∙◌, subst, sym, inl, inr, arith}
+use Rattle.std.proofs.Common.{◌≡◌, ◌≢◌, ◌⊎◌, ⊎_elim, ℕ, ◌+◌, ◌/◌, ◌%◌, ◌<◌, ◌≤◌, Bool, true, false, cond, eqb, eq-eqb, ne_eqb, List, Some, [], ◌∷◌, refl, ap, ◌∙◌, subst, sym, inl, inr, arith}
+use mathlib.Core.Logic.{dite}
+use native.Mathlib.Decide.{ℕ_discrete}
 use Rattle.ca_base.proofs.Counts.{met_both}
 use Rattle.ca_base.specs.Counting.{losses, HasMet}
 use Rattle.ca_base.specs.Putting.{first_note}
 use Rattle.ca_model.specs.declared.outcome.Spent.{Spent}
+use Rattle.ca_node.specs.Layout.{sequence_unit}
 use Rattle.ca_node.specs.Links.{IsIn}
 use Rattle.ca_node.specs.Row.{mark as mark_kind, IsMarkedBy}
-use Rattle.ca_node.specs.Told.{MyTree, with_upper, IsSettled, IsUnjoined, HasWatched, finished_by, turned_by, watched}
+use Rattle.ca_node.specs.States.{IsAlone}
+use Rattle.ca_node.specs.Told.{MyTree, with_upper, IsKnown, IsSettled, IsUnjoined, HasWatched, finished_by, turned_by, unfinished_by, watched}
 use Rattle.ca_node.specs.TreeView.{Note, KnownRanges, Quiet, Turns, TreeView, Unfinished}
+use Rattle.ca_rows.specs.Layout.{row_limit}
 use Rattle.ca_rows.specs.Passes.{KeepsList, OnlyReads}
 use Rattle.ca_rows.specs.declared.sizes.Sizes.{Sizes}
 use Rattle.ca_rows.specs.declared.space.Pass.{Pass}
@@ -37,6 +42,20 @@ learns pass word m m' h none = let u = m.0.upper in let ranges : KnownRanges = (
   refl,
   h.now ∙ ap (λ (t : Turns). with_upper m (record u { ranges = ranges; turns = t })) (none_turned pass word u none),
 )
+
+-- A pass that is alone finds no range of another pass active: there is none.
+pub learns_alone : (z : Sizes) (pass word : ℕ) (m m' : MyTree) → 0 < pass → m.0.sizes ≡ z → IsAlone z m.0.upper → IsKnown z m.0.upper
+    → HasWatched pass m word m' → m.0.upper.ranges.unfinished ≡ [] → m'.0.upper.ranges.unfinished ≡ []
+learns_alone z pass word m m' some own alone known h none = ap (λ (x : MyTree). x.0.upper.ranges.unfinished) h.now ∙ dite (ℕ_discrete pass m.0.upper.number)
+    (λ (mine : pass ≡ m.0.upper.number). ap (λ (b : Bool). cond b m.0.upper.ranges.unfinished (unfinished_by pass word m.0.upper.ranges.unfinished))
+    (eq-eqb pass m.0.upper.number mine) ∙ none)
+    (λ (other : pass ≢ m.0.upper.number). ap (λ (b : Bool). cond b m.0.upper.ranges.unfinished (unfinished_by pass word m.0.upper.ranges.unfinished))
+    (ne_eqb pass m.0.upper.number other) ∙ (ap (unfinished_by pass word) none ∙ ap (λ (b : Bool). cond b (active ∷ []) [])
+    (ne_eqb (word % sequence_unit) row_limit (λ on. let most = subst (λ (x : Sizes). pass ≤ x.passes) own (h.made on) in
+    let mine = known.enrolled in let low = alone.1 in let one = alone.0 in other (omega arith)))))
+  where
+    active : Unfinished
+    active = record { pass = pass; number = word / sequence_unit }
 
 -- It raised what is known of the tree alone.
 pub raised_by_word : (pass word : ℕ) (m m' : MyTree) → HasWatched pass m word m' → m' ≡ with_upper m m'.0.upper

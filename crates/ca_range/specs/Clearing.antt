@@ -39,6 +39,11 @@ LearnsOfRanges marked m m' = (ranges : KnownRanges) × (marked ≡ false → ran
 abbrev pub none_spent : Spent
 none_spent = record { lost = 0; helped = 0; passed = 0 }
 
+-- Where neither a range has the base nor a join, no range of another pass is found unfinished.
+abbrev pub IsUnmet : Way → TreeView → Type 0
+IsUnmet (way.Free marked) u = u.ranges.unfinished ≡ []
+IsUnmet (way.Helped helped spent) u = Unit {0}
+
 -- So the help of a range ended: a turn was spent; or the pool's head was found empty, or with its tag at the last value, once.
 abbrev pub HasGone : Helped → MyTree → MyTree → Type 0
 HasGone helped.Finished m m' = HasMet 0 0 m m' × (turns_at m < turns_at m')

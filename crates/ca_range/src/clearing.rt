@@ -5,10 +5,12 @@ ghost use Rattle.ca_base.specs.Putting.{first_note};
 ghost use Rattle.ca_base.specs.Readiness.{IsReady};
 ghost use Rattle.ca_node.specs.LoneStays.{HasNone};
 ghost use Rattle.ca_node.specs.Row.{mark};
+ghost use Rattle.ca_node.specs.States.{IsAlone};
+ghost use Rattle.ca_node.specs.Told.{IsKnown};
 ghost use Rattle.ca_node.specs.TreePasses.{tree_of};
 ghost use Rattle.ca_node.specs.TreeView.{Quiet};
 ghost use Rattle.ca_range.specs.Ahead.{IsAtLast};
-ghost use Rattle.ca_range.specs.Clearing.{IsCleared, IsOfBase};
+ghost use Rattle.ca_range.specs.Clearing.{IsCleared, IsOfBase, IsUnmet};
 ghost use Rattle.ca_rows.specs.Passes.{sizes, known};
 
 use crate::account::Account;
@@ -50,6 +52,7 @@ pub fn clear(
     requires budget { 1 ≤ budget }
     ensures cleared { IsCleared space.now result pass.old pass.new }
     ensures way { IsOfBase (sizes space.now) budget result (known pass.old) (known pass.new) }
+    ensures alone { IsAlone (sizes space.now) (tree_of pass.old) → IsKnown (sizes space.now) (tree_of pass.old) → IsUnmet result (tree_of pass.new) }
 {
     let Some(range) = range_of(space, pass, cursor.base) else {
         return clear_of_join(space, pass, cursor);
@@ -74,6 +77,7 @@ fn clear_of_join(space: &TreeSpace, pass: &mut TreePass, cursor: Cursor) -> Way
     requires other { HasNone (tree_of pass.old).ranges.own }
     ensures cleared { IsCleared space.now result pass.old pass.new }
     ensures way { (budget : ℕ) → IsOfBase (sizes space.now) budget result (known pass.old) (known pass.new) }
+    ensures unmet { IsUnmet result (tree_of pass.new) }
 {
     let mut spent = Spent {
         lost: 0,

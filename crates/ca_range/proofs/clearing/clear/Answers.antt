@@ -4,7 +4,8 @@ use Rattle.ca_base.specs.Putting.{first_note}
 use Rattle.ca_model.specs.declared.outcome.Spent.{Spent}
 use Rattle.ca_node.specs.LoneStays.{none_by_quiet}
 use Rattle.ca_node.specs.Row.{IsMarkedBy}
-use Rattle.ca_node.specs.Told.{MyTree, IsSettled}
+use Rattle.ca_node.specs.States.{IsAlone}
+use Rattle.ca_node.specs.Told.{MyTree, IsKnown, IsSettled}
 use Rattle.ca_node.specs.TreeView.{Note, TreeView}
 use Rattle.ca_rows.specs.declared.sizes.Sizes.{Sizes}
 use Rattle.ca_range.specs.Ahead.{IsAtLast}
@@ -13,7 +14,7 @@ use Rattle.ca_range.specs.Farther.{reach, reach_to}
 use Rattle.ca_range.specs.Meeting.{AreMet}
 use Rattle.ca_base.specs.Spending.{IsSpentOn}
 use Rattle.ca_range.proofs.Filled.{helped_behind}
-use Rattle.ca_range.proofs.Learning.{counts_help, has_gone, keeps_then, learns, no_join_then, noted_then, notes_then, other_then, raised_then, settled_now, steps_then}
+use Rattle.ca_range.proofs.Learning.{counts_help, has_gone, keeps_then, learns, learns_alone, no_join_then, noted_then, notes_then, other_then, raised_then, settled_now, steps_then}
 use Rattle.ca_range.proofs.Readied.{ready_still, stays_then}
 use Rattle.ca_range.proofs.Spends.{on_both}
 use Rattle.ca_range.proofs.Stepping.{steps_both}
@@ -179,3 +180,14 @@ returns-in_default-clause-way c = way_behind c.args.space.now c.args.budget c.ar
 pub clear_of_join-requires-clause-other : goal.clear_of_join-requires-clause-other
 clear_of_join-requires-clause-other c = none_by_quiet c.range_of.new.pass.seat.me.0.upper.ranges.own
     (ap (λ (x : MyTree). x.0.upper.ranges.own) c.range_of.ensures.frame.still ∙ c.requires.quiet)
+
+pub returns-then-not-is_active-clause-alone : goal.returns-then-not-is_active-clause-alone
+returns-then-not-is_active-clause-alone c = λ alone known. let w = c.watch-state.ensures.watched in let z = c.args.space.now.table.shared.key in
+    let still = c.range_of.ensures.frame.still in let mark = c.in-Some.ensures.range (first_note c.args.pass.now.seat.me.0.upper.notes) c.requires.at.shown in
+    learns_alone z c.in-Some.range.owner w.0 c.range_of.new.pass.seat.me c.watch-state.new.pass.seat.me mark.1
+    (ap (λ (x : MyTree). x.0.sizes) still ∙ c.requires.ready.own.1) (subst (λ (x : MyTree). IsAlone z x.0.upper) (sym still) alone)
+    (subst (λ (x : MyTree). IsKnown z x.0.upper) (sym still) known) w.2
+    (ap (λ (x : MyTree). x.0.upper.ranges.unfinished) still ∙ c.requires.none_met)
+
+pub returns-in_default-clause-alone : goal.returns-in_default-clause-alone
+returns-in_default-clause-alone c = λ alone known. c.clear_of_join.ensures.unmet

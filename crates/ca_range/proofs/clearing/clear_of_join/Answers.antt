@@ -1,5 +1,6 @@
 use Rattle.ca_range.proofs.Unjoined.{cleared_free, cleared_gone, cleared_now, way_gone, way_now}
-use Rattle.std.proofs.Common.{◌≡◌, true, false, refl, inr, ⊎_elim}
+use Rattle.std.proofs.Common.{◌≡◌, true, false, refl, ap, ◌∙◌, inr, ⊎_elim}
+use Rattle.ca_node.specs.Told.{MyTree}
 use Rattle.ca_range.proofs.clearing.clear_of_join.Goals as goal
 
 pub returns-in-Unmarked-clause-cleared : goal.returns-in-Unmarked-clause-cleared
@@ -34,3 +35,9 @@ returns-in-Gone-clause-cleared c = cleared_gone c.args.space.now c.args.cursor c
 pub returns-in-Gone-clause-way : goal.returns-in-Gone-clause-way
 returns-in-Gone-clause-way c = λ budget. way_gone c.args.space.now c.args.cursor budget c.args.pass.now c.end_join.new.pass c.in-Gone.helped
     c.end_join.new.spent c.in-Gone.ensures.marked c.in-Gone.ensures.ended
+
+pub returns-in-Unmarked-clause-unmet : goal.returns-in-Unmarked-clause-unmet
+returns-in-Unmarked-clause-unmet c = ap (λ (x : MyTree). x.0.upper.ranges.unfinished) c.in-Unmarked.ensures.ended.learnt.1 ∙ c.requires.none_met
+
+pub returns-in-Before-clause-unmet : goal.returns-in-Before-clause-unmet
+returns-in-Before-clause-unmet c = ap (λ (x : MyTree). x.0.upper.ranges.unfinished) c.in-Before.ensures.ended.learnt.1 ∙ c.requires.none_met
