@@ -25,12 +25,14 @@ use Rattle.ca_node.specs.declared.cursor.Spot.TheVariants as spot
 use Rattle.ca_node.specs.declared.link.Link.{Link}
 use Rattle.ca_node.specs.declared.link.Link.TheVariants as on
 use Rattle.ca_replace.proofs.DueCauses.{walked_met}
+use Rattle.ca_replace.proofs.JoinHelps.{HelpsOn}
 use Rattle.ca_replace.proofs.Meeting.{further_on}
 use Rattle.ca_replace.proofs.Showing.{walked_further, walked_quiet}
 use Rattle.ca_replace.specs.Adapting.{HasLookedToJoin, HasLostSome, HasMetNothing, HasMetPool, HasTriedOne, IsCauseMet, IsMetUnjoined, IsNew}
 use Rattle.ca_replace.specs.Attempting.{IsPaidBut, passes, helps}
 use Rattle.ca_replace.specs.Cutting.{HasCutDue}
 use Rattle.ca_replace.specs.Growing.{Grows}
+use Rattle.ca_replace.specs.Winning.{StaysNewest}
 use Rattle.ca_rows.specs.declared.sizes.Sizes.{Sizes}
 use Rattle.ca_rows.specs.declared.view.Met.{Met}
 use Rattle.ca_rows.specs.Told.{met_of}
@@ -379,10 +381,13 @@ module _ (z : Sizes) (key : Bor (List ℕ)) (placed : ℕ) (k m m' : MyTree) (cu
   join_cut = inl
       (ap (λ (u : TreeView). u.cuts) steps.only ∙ ap (λ (x : MyTree). x.0.upper.cuts) w.now)
 
-  -- A pass that is alone loses no exchange of a link.
-  pub join_won : IsLoneTry a m m' → (m'.0.upper.lost ≡ k.0.upper.lost)
-      × (m'.0.upper.last.row ≡ m'.0.upper.renewal.new.row)
-  join_won alone = (alone.by.won ∙ ap (λ (x : MyTree). x.0.upper.lost) w.now, row_is)
+  -- A pass that is alone loses no exchange of a link, and helps nothing.
+  pub join_won : IsLoneTry a m m' → HelpsOn m m' → StaysNewest k.0.upper m'.0.upper
+  join_won alone on = (
+    alone.by.won ∙ ap (λ (x : MyTree). x.0.upper.lost) w.now,
+    row_is,
+    λ none. on.1 (ap (λ (x : MyTree). x.0.upper.ranges.unfinished) w.now ∙ none) ∙ ap helps w.now,
+  )
 
   -- Its tree grows no more than by a split.
   pub join_grows : IsLoneTry a m m' → Grows 1 2 1 k.0.upper m'.0.upper

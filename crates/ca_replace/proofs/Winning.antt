@@ -1,5 +1,5 @@
 -- A pass that is alone wins each exchange of a link.
-use Rattle.std.proofs.Common.{◌≡◌, ◌≢◌, ℕ, ◌<◌, arith, Bool, true, false, List, Result, Ok, Err, IsOk, sym, refl, ap, ◌∙◌, subst}
+use Rattle.std.proofs.Common.{◌≡◌, ◌≢◌, ℕ, ◌<◌, arith, Bool, true, false, List, [], Result, Ok, Err, IsOk, sym, refl, ap, ◌∙◌, subst}
 use denote.Ref.{Bor}
 use Rattle.ca_base.specs.declared.stop.Exchange.TheVariants as exchange
 use Rattle.ca_base.specs.declared.stop.Stop.{Stop}
@@ -29,7 +29,7 @@ use Rattle.ca_model.specs.declared.outcome.Cause.TheVariants as cause
 use Rattle.ca_replace.specs.Adapting.{HasSettled, IsNew}
 use Rattle.ca_replace.specs.Attempting.{HasNext, IsQuiet, come_to, refused_as, split_to}
 use Rattle.ca_replace.specs.Refusals.{outcome_by}
-use Rattle.ca_replace.specs.Winning.{HasWon, HasWonInAttempts, HasWonInCall, LosesNone}
+use Rattle.ca_replace.specs.Winning.{HasWon, HasWonInAttempts, HasWonInCall, LosesNone, StaysNewest}
 use Rattle.ca_replace.proofs.Settling.{IsSettling}
 use Rattle.ca_rows.specs.declared.sizes.Sizes.{Sizes}
 use Rattle.ca_rows.specs.Told.{met_of}
@@ -58,36 +58,35 @@ entered_won m m' m'' event q e = subst (λ (x : MyTree). LosesNone m.0.upper x.0
 pub loses_both : (u w v : TreeView) → LosesNone u w → LosesNone w v → LosesNone u v
 loses_both u w v a b = let one = a.1.0 in let two = b.1.0 in (b.0 ∙ a.0, (omega arith, b.1.1 ∙ a.1.1))
 
+-- No exchange of a link was lost, no base was updated or come to, and nothing was helped.
+abbrev KeepsNewest : TreeView → TreeView → Type 0
+KeepsNewest u v = (v.lost ≡ u.lost) × (v.last ≡ u.last) × (v.renewal ≡ u.renewal) × (v.turns.helped ≡ u.turns.helped)
+
 -- What became of the due split.
 pub due_won : (z : Sizes) (key : Bor (List ℕ)) (placed : ℕ) (m m' m'' : MyTree) (cursor : Cursor)
     (a : Adapted) → IsNew placed key.now (met_of m) m.0.upper
     → IsWalked z (spot.At key) m cursor m' → cursor.base ≡ placed
     → IsSplitOutcome z (first_note m'.0.upper.notes) a m' m'' → IsPoolsLoss a m' m''
-    → (m''.0.upper.lost ≡ m.0.upper.lost) × (m''.0.upper.last.row ≡ m''.0.upper.renewal.new.row)
+    → StaysNewest m.0.upper m''.0.upper
 due_won z key placed m m' m'' cursor a new w same h pools = let t = by a h pools in (
   t.0 ∙ ap (λ (x : MyTree). x.0.upper.lost) w.now,
   ap (λ (n : Note). n.row) (t.1 ∙ ap (λ (x : MyTree). x.0.upper.last) w.now)
       ∙ (w.cursor_is.base ∙ (same ∙ (new.row
       ∙ ap (λ (r : Renewal). r.new.row) (sym (t.2
       ∙ ap (λ (x : MyTree). x.0.upper.renewal) w.now))))),
+  λ _. t.3 ∙ ap (λ (x : MyTree). x.0.upper.turns.helped) w.now,
 )
   where
-    Same : Type 0
-    Same = (m''.0.upper.lost ≡ m'.0.upper.lost) × (m''.0.upper.last ≡ m'.0.upper.last)
-        × (m''.0.upper.renewal ≡ m'.0.upper.renewal)
-
-    still : m''.0.upper ≡ m'.0.upper → (m''.0.upper.lost ≡ m'.0.upper.lost)
-        × (m''.0.upper.last ≡ m'.0.upper.last) × (m''.0.upper.renewal ≡ m'.0.upper.renewal)
+    still : m''.0.upper ≡ m'.0.upper → KeepsNewest m'.0.upper m''.0.upper
     still e = (
       ap (λ (x : TreeView). x.lost) e,
       ap (λ (x : TreeView). x.last) e,
       ap (λ (x : TreeView). x.renewal) e,
+      ap (λ (x : TreeView). x.turns.helped) e,
     )
 
     not_by : (r : Why) → IsWhyNotSplit z (first_note m'.0.upper.notes) r m' m''
-        → IsPoolsLoss (adapted.NotSplit r) m' m''
-        → (m''.0.upper.lost ≡ m'.0.upper.lost) × (m''.0.upper.last ≡ m'.0.upper.last)
-        × (m''.0.upper.renewal ≡ m'.0.upper.renewal)
+        → IsPoolsLoss (adapted.NotSplit r) m' m'' → KeepsNewest m'.0.upper m''.0.upper
     not_by why.Root h pools = absurd h
     not_by why.OneObject h pools = still (ap (λ (x : MyTree). x.0.upper) h.1)
     not_by why.AtLevel h pools = still (ap (λ (x : MyTree). x.0.upper) h.2)
@@ -99,13 +98,13 @@ due_won z key placed m m' m'' cursor a new w same h pools = let t = by a h pools
     not_by why.Worn h pools = still h.2
 
     by : (a : Adapted) → IsSplitOutcome z (first_note m'.0.upper.notes) a m' m'' → IsPoolsLoss a m' m''
-        → (m''.0.upper.lost ≡ m'.0.upper.lost) × (m''.0.upper.last ≡ m'.0.upper.last)
-        × (m''.0.upper.renewal ≡ m'.0.upper.renewal)
+        → KeepsNewest m'.0.upper m''.0.upper
     by adapted.Stay h pools = absurd h
     by adapted.Split h pools = let e = h.2.2 in (
       ap (λ (x : TreeView). x.lost) e,
       ap (λ (x : TreeView). x.last) e,
       ap (λ (x : TreeView). x.renewal) e,
+      ap (λ (x : TreeView). x.turns.helped) e,
     )
     by adapted.Joined h pools = absurd h
     by (adapted.NotSplit r) h pools = not_by r h pools
@@ -132,10 +131,10 @@ pub settled_won : {z : Sizes} {t : Tuning} {tried : Result (Unit {0}) Stop} {r :
     → (IsAlone z k.0.upper → IsListed k.0.upper.inventory (first_note k.0.upper.notes))
     → (IsAlone z m.0.upper → IsListed m.0.upper.inventory (first_note m.0.upper.notes)
     → tried ≢ Err (stop.Lost exchange.Link))
-    → (IsAlone z m'.0.upper → IsOk tried → (m''.0.upper.lost ≡ m'.0.upper.lost)
-    × (m''.0.upper.last.row ≡ m''.0.upper.renewal.new.row))
+    → (IsAlone z m'.0.upper → IsOk tried → StaysNewest m'.0.upper m''.0.upper)
+    → (IsAlone z k.0.upper → k.0.upper.ranges.unfinished ≡ [])
     → IsAlone z k.0.upper → HasWonInAttempts (λ _. true) r k.0.upper m''.0.upper
-settled_won {z} {t} {tried} {r} {a} {b} {k} {m} {m'} {m''} s listed won then alone = subst
+settled_won {z} {t} {tried} {r} {a} {b} {k} {m} {m'} {m''} s listed won then unmet alone = subst
     (λ (x : Result (Unit {0}) Halt). HasWonInAttempts (λ _. true) x k.0.upper m''.0.upper) (sym s.is)
     (subst (λ (x : MyTree). HasWonInAttempts {T = Unit {0}}
     (λ _. true) (come_to tried) x.0.upper m''.0.upper) s.same
@@ -147,8 +146,7 @@ settled_won {z} {t} {tried} {r} {a} {b} {k} {m} {m'} {m''} s listed won then alo
     by : (x : Result (Unit {0}) Stop) → HasTried s.event z x m.0.upper m'.0.upper
         → HasRenewed z s.met s.word s.edit x m.0.upper m'.0.upper
         → HasSettled z t s.statistic x a b m' m'' → x ≢ Err (stop.Lost exchange.Link)
-        → (IsAlone z m'.0.upper → IsOk x → (m''.0.upper.lost ≡ m'.0.upper.lost)
-        × (m''.0.upper.last.row ≡ m''.0.upper.renewal.new.row))
+        → (IsAlone z m'.0.upper → IsOk x → StaysNewest m'.0.upper m''.0.upper)
         → HasWonInAttempts {T = Unit {0}} (λ _. true) (come_to x) m.0.upper m''.0.upper
     by (Ok x) h renewed q won then = let same_number = h.0.number in
         let w = then (
@@ -160,6 +158,10 @@ settled_won {z} {t} {tried} {r} {a} {b} {k} {m} {m'} {m''} s listed won then alo
           w.0 ∙ renewed.same_lost,
           ap (λ (x : Renewal). x.lost) (q.1.0 ∙ renewed.renewal),
           w.1,
+          w.2
+              (renewed.same_unfinished
+              ∙ (ap (λ (x : MyTree). x.0.upper.ranges.unfinished) s.same ∙ unmet alone))
+              ∙ ap (λ (t : Turns). t.helped) renewed.same_turns,
         )
     by (Err why) h renewed q won then = subst (LosesNone m.0.upper)
         (sym (ap (λ (x : MyTree). x.0.upper) q.1 ∙ h)) (none_lost why m.0.upper (λ e. won (ap Err e)))
@@ -167,13 +169,19 @@ settled_won {z} {t} {tried} {r} {a} {b} {k} {m} {m'} {m''} s listed won then alo
 -- Attempts behind others that lost nothing.
 pub won_on : (edited : Bool) (u w v : TreeView) → LosesNone u w → HasWon edited w v
     → HasWon edited u v
-won_on true u w v before h = (h.0 ∙ before.0, h.1 ∙ before.0, h.2)
+won_on true u w v before h = (h.0 ∙ before.0, h.1 ∙ before.0, h.2, h.3 ∙ before.1.1)
 won_on false u w v before h = loses_both u w v before h
 
 -- Whether it edited or not, it lost none.
 pub won_lost : (edited : Bool) (u v : TreeView) → HasWon edited u v → v.lost ≡ u.lost
 won_lost true u v h = h.0
 won_lost false u v h = h.0
+
+-- Nor did it help anything.
+pub won_unhelped : (edited : Bool) (u v : TreeView) → HasWon edited u v
+    → v.turns.helped ≡ u.turns.helped
+won_unhelped true u v h = h.3
+won_unhelped false u v h = h.1.1
 
 pub won_behind : {T E : Type 0} (edits : T → Bool) (r : Result T E) (u w v : TreeView)
     → LosesNone u w → HasWonInAttempts edits r w v → HasWonInAttempts edits r u v

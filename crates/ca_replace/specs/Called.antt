@@ -39,7 +39,9 @@ pub record HasTold {T : Type 0} (edits : T → Bool) (adds : Option (List ℕ)) 
   -- by how much the tree of a pass that is alone grew, and that it lost no exchange of a link
   pub grows : s.z.passes ≡ 1 → GrowsInCall s.z adds o s.seat.me.0.upper t.seat.me.0.upper
   pub wins : s.z.passes ≡ 1 → HasWonInCall edits o s.seat.me.0.upper t.seat.me.0.upper
-  -- that such a pass lost none at all, and is refused for turns by a budget of one alone
+  -- that such a pass helped nothing
+  pub unhelped : s.z.passes ≡ 1 → t.seat.me.0.upper.turns.helped ≡ s.seat.me.0.upper.turns.helped
+  -- that it lost none at all, and is refused for turns by a budget of one alone
   pub unlost : s.z.passes ≡ 1 → losses t.seat.me ≡ losses s.seat.me
   pub never_busy : s.z.passes ≡ 1 → 2 ≤ budget → IsNeverBusy o
   -- that it learnt of nothing by a call that was refused

@@ -12,7 +12,7 @@ ghost use Rattle.ca_replace.specs.Attempting.{BeginsAt, IsAsking, IsIdle, IsLook
 ghost use Rattle.ca_node.specs.Told.{IsKnown, IsSettled};
 ghost use Rattle.ca_node.specs.Walking.{IsWalked};
 ghost use Rattle.ca_node.specs.declared.cursor.Spot.TheVariants.{At as IsAt};
-ghost use Rattle.ca_node.specs.States.{IsUnanswered};
+ghost use Rattle.ca_node.specs.States.{IsAlone, IsUnanswered};
 ghost use Rattle.ca_base.specs.Progress.{IsFurther};
 ghost use Rattle.ca_base.specs.Putting.{object_at, IsRoom, IsFor};
 ghost use Rattle.ca_base.specs.Targets.{IsKeyed, event_of, key_in};
@@ -203,6 +203,7 @@ fn put_settled(
     requires looking { IsLooking (sizes tree.now.space) (tree_of pass.old) (key_in insertion.now.keyed) cursor }
     requires settled { IsSettled (tree_of pass.old) (shown_last pass.old).its }
     requires quiet { (tree_of pass.old).ranges.own ≡ Quiet }
+    requires unmet { IsAlone (sizes tree.now.space) (tree_of pass.old) → (tree_of pass.old).ranges.unfinished ≡ [] }
     requires keyed { IsKeyed (sizes tree.now.space).keypos insertion.now.keyed }
     requires place { IsPlace (map pair (shown_last pass.old).objects) (key_in insertion.now.keyed) insertion.now.place }
     requires call { IsFor insertion.now.why insertion.now.place }
@@ -368,6 +369,7 @@ fn remove_settled(
     requires looking { IsLooking (sizes tree.now.space) (tree_of pass.old) removal.now.key.now cursor }
     requires settled { IsSettled (tree_of pass.old) (shown_last pass.old).its }
     requires quiet { (tree_of pass.old).ranges.own ≡ Quiet }
+    requires unmet { IsAlone (sizes tree.now.space) (tree_of pass.old) → (tree_of pass.old).ranges.unfinished ≡ [] }
     requires place { IsPlace (map pair (shown_last pass.old).objects) removal.now.key.now (Ok removal.now.at) }
     ensures edited { HasEdited tree.now.space tree.now.tuning
         (λ event. event ≡ Remove removal.now.key.now (Some (object_at (Ok removal.now.at) (shown_last pass.old).objects))) removal.now.key.now None

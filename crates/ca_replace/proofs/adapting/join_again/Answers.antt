@@ -88,7 +88,7 @@ returns-clause-counted c = join_paid c.args.tree.now.space.table.shared.key c.ar
     c.walk-cursor.new.pass.seat.me c.try_join.new.pass.seat.me c.walk-cursor.result c.try_join.result c.requires.placed
     c.walk-cursor.ensures.walked c.if-cursor-placed.false c.try_join.ensures.steps c.args.spent.now c.try_join.new.spent
     (joined_on c.args.tree.now.space.table.shared.key c.walk-cursor.result.link (first_note c.walk-cursor.new.pass.seat.me.0.upper.notes)
-    c.try_join.result c.walk-cursor.new.pass.seat.me c.try_join.new.pass.seat.me c.try_join.ensures.joined) c.try_join.ensures.counted
+    c.try_join.result c.walk-cursor.new.pass.seat.me c.try_join.new.pass.seat.me c.try_join.ensures.joined).0 c.try_join.ensures.counted
 
 pub returns-clause-cut : goal.returns-clause-cut
 returns-clause-cut c = join_cut c.args.tree.now.space.table.shared.key c.args.placed.now.key c.args.placed.now.row c.args.pass.now.seat.me
@@ -110,6 +110,8 @@ returns-clause-won c alone = join_won c.args.tree.now.space.table.shared.key c.a
     c.walk-cursor.ensures.walked.known
     (walked_listed c.args.tree.now.space.table.shared.key (spot.At c.args.placed.now.key) c.args.pass.now.seat.me
     c.walk-cursor.new.pass.seat.me c.walk-cursor.result c.walk-cursor.ensures.walked alone))
+    (joined_on c.args.tree.now.space.table.shared.key c.walk-cursor.result.link (first_note c.walk-cursor.new.pass.seat.me.0.upper.notes)
+    c.try_join.result c.walk-cursor.new.pass.seat.me c.try_join.new.pass.seat.me c.try_join.ensures.joined)
 
 pub returns-clause-grows : goal.returns-clause-grows
 returns-clause-grows c alone = join_grows c.args.tree.now.space.table.shared.key c.args.placed.now.key c.args.placed.now.row c.args.pass.now.seat.me

@@ -317,7 +317,7 @@ returns-clause-edited c = record {
     grown = settled_grown (settling c) (Some (key_in c.args.insertion.now.keyed))
         c.requires.looking.listed c.settle.ensures.grows;
     won = settled_won (settling c) c.requires.looking.listed c.put_at-tried.ensures.won
-        c.settle.ensures.won;
+        c.settle.ensures.won c.requires.unmet;
     cut = settled_cut (settling c) (Some (key_in c.args.insertion.now.keyed)) c.settle.ensures.cut;
   };
 }

@@ -10,6 +10,7 @@ use Rattle.ca_replace.specs.declared.adapting.Course.{Course}
 use Rattle.ca_replace.specs.declared.attempting.Halt.{Halt}
 use Rattle.ca_replace.proofs.Again.{stays_behind}
 use Rattle.ca_replace.proofs.Behind.{crowds_tried, frame_behind, ready_behind, turn_marked, turn_tried}
+use Rattle.ca_replace.proofs.Growing.{alone_on}
 use Rattle.ca_replace.proofs.Helping.{edited_by_help, halt_of, help_not_deep, help_not_split, on_ok_too}
 use Rattle.ca_replace.proofs.Marking.{marked_look, same_note, still_unmet}
 use Rattle.ca_replace.proofs.Showing.{tried_on}
@@ -55,6 +56,13 @@ pub put_settled-done-requires-clause-quiet : goal.put_settled-done-requires-clau
 put_settled-done-requires-clause-quiet c =
     (marked_look c.in-Free.ensures.cleared.0 c.in-Free.ensures.cleared.2 c.args.tree.now.space (key_in c.args.insertion.now.keyed) c.args.cursor
     c.args.insertion.now.place c.requires.looking c.requires.place c.requires.unanswered).own_range ∙ c.requires.idle.quiet
+
+pub put_settled-done-requires-clause-unmet : goal.put_settled-done-requires-clause-unmet
+put_settled-done-requires-clause-unmet c = λ alone. let look = marked_look c.in-Free.ensures.cleared.0 c.in-Free.ensures.cleared.2 c.args.tree.now.space
+    (key_in c.args.insertion.now.keyed) c.args.cursor c.args.insertion.now.place c.requires.looking c.requires.place c.requires.unanswered in
+    c.in-Free.ensures.alone
+    (alone_on c.args.tree.now.space.table.shared.key c.clear.new.pass.seat.me.0.upper c.args.pass.now.seat.me.0.upper (sym look.further.number) alone)
+    c.requires.looking.known
 
 pub put_settled-done-requires-clause-place : goal.put_settled-done-requires-clause-place
 put_settled-done-requires-clause-place c =

@@ -219,7 +219,7 @@ returns-clause-edited c = record {
     loads = settled_loads c.remove_at-tried.result (settling c);
     grown = settled_grown (settling c) None c.requires.looking.listed c.settle.ensures.grows;
     won = settled_won (settling c) c.requires.looking.listed c.remove_at-tried.ensures.won
-        c.settle.ensures.won;
+        c.settle.ensures.won c.requires.unmet;
     cut = settled_cut (settling c) None c.settle.ensures.cut;
   };
 }

@@ -15,7 +15,7 @@ use Rattle.ca_replace.proofs.Alone.{alone_at, crowded_call, first_number, lone_c
 use Rattle.ca_replace.proofs.Growing.{refused_grows}
 use Rattle.ca_replace.proofs.OneHand.{refused_still, seen_still}
 use Rattle.ca_replace.proofs.Cutting.{refused_cuts}
-use Rattle.ca_replace.proofs.Winning.{refused_wins, won_lost}
+use Rattle.ca_replace.proofs.Winning.{refused_wins, won_lost, won_unhelped}
 use Rattle.ca_replace.proofs.Loads.{loads_told}
 use Rattle.ca_replace.proofs.calls.call.Goals as goal
 
@@ -45,6 +45,9 @@ returns-in-Ok-clause-told g c = let space = c.args.tree.now.space.table.shared i
       wins = λ one. turns.won
           (alone_at space.table_id space.key pass.number pass.tally pass.kept.rows pass.seat
           c.requires.resting one);
+      unhelped = λ one. won_unhelped (g.A.Attempt.edits c.args.order.now.what.now c.in-Ok.answer) pass.seat.me.0.upper last.seat.me.0.upper
+          (turns.won (alone_at space.table_id space.key pass.number pass.tally pass.kept.rows pass.seat
+          c.requires.resting one));
       unlost = λ one. lone_losses pass.seat.me last.seat.me (c.requires.resting.unlost one)
           (c.attempts.ensures.frame.resting.unlost one)
           (won_lost (g.A.Attempt.edits c.args.order.now.what.now c.in-Ok.answer) pass.seat.me.0.upper last.seat.me.0.upper
@@ -128,6 +131,7 @@ returns-in-Err-clause-told g c = let space = c.args.tree.now.space.table.shared 
       wins = λ one. refused_wins edits c.in-Err.why c.outcome_by.result pass.seat.me.0.upper
           behind.seat.me.0.upper c.outcome_by.ensures
           (subst (λ (m : MyTree). LosesNone pass.seat.me.0.upper m.0.upper) (sym c.give_up.ensures.counted) (turns.won (here one)));
+      unhelped = λ one. ap (λ (m : MyTree). m.0.upper.turns.helped) c.give_up.ensures.counted ∙ (turns.won (here one)).1.1;
       unlost = λ one. lone_losses pass.seat.me behind.seat.me (c.requires.resting.unlost one)
           (c.give_up.ensures.frame.resting.unlost one)
           (ap (λ (m : MyTree). m.0.upper.lost) c.give_up.ensures.counted ∙ (turns.won (here one)).0);
