@@ -7,6 +7,7 @@ pub mod Counts
 pub mod Edges
 pub mod Filled
 pub mod FirstBases
+pub mod FirstLooks
 pub mod FirstMarked
 pub mod FirstRuns
 pub mod Gaps

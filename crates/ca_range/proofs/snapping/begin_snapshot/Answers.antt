@@ -1,17 +1,16 @@
-use Rattle.std.proofs.Common.{◌≡◌, ◌<◌, ℕ, Option, List, false, vec_len, ◌+◌, ◌≤◌, sym, ap, subst, ◌∙◌, arith}
-use Rattle.ca_base.specs.Counting.{HasMet, losses}
+use Rattle.std.proofs.Common.{◌<◌, ℕ, Option, List, false, vec_len, ◌+◌, ◌≤◌, sym, ap, subst, ◌∙◌, arith}
+use Rattle.ca_base.specs.Counting.{HasMet}
 use Rattle.ca_base.specs.Putting.{first_note}
 use Rattle.ca_model.specs.Edges.{bound_of}
 use Rattle.ca_node.specs.Inventory.{IsListed}
-use Rattle.ca_node.specs.States.{IsAlone}
-use Rattle.ca_node.specs.Told.{MyTree, IsKnown, IsSettled}
+use Rattle.ca_node.specs.Told.{MyTree, IsSettled}
 use Rattle.ca_node.specs.TreeView.{Inventory, Note, TreeView}
 use Rattle.ca_range.specs.Attempts.{CountsJoin}
 use Rattle.ca_range.specs.Clearing.{HasGone}
 use Rattle.ca_range.specs.Filling.{IsUseOf}
 use Rattle.ca_range.specs.Loading.{begin_loads}
 use Rattle.ca_range.specs.Looking.{HasLooked, IsFirst, IsNotEnough}
-use Rattle.ca_range.specs.Snapping.{snapped_so}
+use Rattle.ca_range.specs.Snapping.{GoesOn, snapped_so}
 use Rattle.ca_range.specs.Snapshots.{HasRun, HasSnapped, IsInBudget}
 use Rattle.ca_range.specs.Using.{HasFoundOf}
 use Rattle.ca_range.specs.declared.account.Range.{Range}
@@ -23,10 +22,10 @@ use Rattle.ca_rows.specs.declared.kept.KeptRows.{KeptRows}
 use Rattle.ca_range.proofs.LoneSteps.{comes_from, nothing_ended}
 use Rattle.ca_range.proofs.Filled.{last_shown, raised_met}
 use Rattle.ca_range.proofs.FirstBases.{first_still}
+use Rattle.ca_range.proofs.FirstLooks.{first_goes, looks_alone}
 use Rattle.ca_range.proofs.FirstRuns.{first_run}
-use Rattle.ca_range.proofs.GoingOn.{begun_after, goes_steps, no_run_refused, no_run_so, stays_pinned}
-use Rattle.ca_range.proofs.OwnSteps.{goes_reads, pinned_both}
-use Rattle.ca_range.proofs.Readied.{ready_reads, ready_still}
+use Rattle.ca_range.proofs.GoingOn.{begun_after, no_run_refused, no_run_so, stays_pinned}
+use Rattle.ca_range.proofs.OwnSteps.{pinned_both}
 use Rattle.ca_range.proofs.SnapshotSteps.{budget_refused, budget_so, gone_snaps, met_on, more_turns, no_less_both, ranges_both, ranges_by_steps, refused_after, refused_so, snapped_after, spent_on, steps_on, walked_still}
 use Rattle.ca_range.proofs.Spends.{on_both}
 use Rattle.ca_range.proofs.Loaded.{begins_few, begins_helped, ends_few}
@@ -41,33 +40,40 @@ returns-in-Done-clause-begun g c = let z = c.args.space.now.table.shared.key in 
       first_run g.F.Fn c.args.search.now.sought.now z k.0.upper c.walk_to_first-first.result c.in-Done.whole _ e.first e.has c.in-Done.ensures.looked,
     )
 
+-- The steps before the last one leave the own range.
+helps_on : (g : _) → (c : goal.After-help_first g) → GoesOn c.args.space.now c.args.account.now.spent
+    c.range_in_use.new.account.spent c.args.pass.now c.range_in_use.new.pass
+helps_on g c = let e = c.walk_to_first-first.ensures in
+    first_goes c.args.space.now c.args.pass.now c.walk_to_first-first.new.pass c.look.new.pass
+    c.range_in_use.new.pass c.requires.ready e.frame e.raised e.steps e.no_join e.turns
+    c.look.ensures.frame c.in-Ok-Some.ensures.in_use.0 c.args.account.now.spent
+    c.range_in_use.new.account.spent c.range_in_use.ensures.counted
+
 pub returns-in-Ok-Some-clause-steps : goal.returns-in-Ok-Some-clause-steps
-returns-in-Ok-Some-clause-steps g c = let z = c.args.space.now.table.shared.key in let m = c.args.pass.now.seat.me in
-    let k = c.walk_to_first-first.new.pass.seat.me in let l = c.look.new.pass.seat.me in let n = c.range_in_use.new.pass.seat.me in
-    let e = c.walk_to_first-first.ensures in
-    ranges_both m.0.upper n.0.upper c.help_first.new.pass.seat.me.0.upper (ranges_by_steps m.0.upper n.0.upper
-    (steps_on z m k l n e.raised e.steps e.turns c.look.ensures.frame.still c.in-Ok-Some.ensures.in_use.0.steps)) c.help_first.ensures.steps
+returns-in-Ok-Some-clause-steps g c = ranges_both c.args.pass.now.seat.me.0.upper
+    c.range_in_use.new.pass.seat.me.0.upper c.help_first.new.pass.seat.me.0.upper
+    (helps_on g c).steps c.help_first.ensures.steps
 
 pub returns-in-Ok-Some-clause-counted : goal.returns-in-Ok-Some-clause-counted
-returns-in-Ok-Some-clause-counted g c = let z = c.args.space.now.table.shared.key in let m = c.args.pass.now.seat.me in
-    let k = c.walk_to_first-first.new.pass.seat.me in let l = c.look.new.pass.seat.me in let n = c.range_in_use.new.pass.seat.me in
-    let e = c.walk_to_first-first.ensures in
-    on_both c.args.account.now.spent c.range_in_use.new.account.spent c.help_first.new.account.spent m n c.help_first.new.pass.seat.me
-    (spent_on z m k l n e.raised e.steps e.turns c.look.ensures.frame.still c.args.account.now.spent c.range_in_use.new.account.spent
-    c.range_in_use.ensures.counted) c.help_first.ensures.counted
+returns-in-Ok-Some-clause-counted g c = on_both c.args.account.now.spent
+    c.range_in_use.new.account.spent c.help_first.new.account.spent c.args.pass.now.seat.me
+    c.range_in_use.new.pass.seat.me c.help_first.new.pass.seat.me (helps_on g c).counted
+    c.help_first.ensures.counted
 
 pub returns-in-Ok-Some-clause-begun : goal.returns-in-Ok-Some-clause-begun
-returns-in-Ok-Some-clause-begun g c = let z = c.args.space.now.table.shared.key in let m = c.args.pass.now.seat.me in
-    let k = c.walk_to_first-first.new.pass.seat.me in let l = c.look.new.pass.seat.me in let n = c.range_in_use.new.pass.seat.me in
+returns-in-Ok-Some-clause-begun g c = let z = c.args.space.now.table.shared.key in
+    let m = c.args.pass.now.seat.me in let k = c.walk_to_first-first.new.pass.seat.me in
+    let l = c.look.new.pass.seat.me in let n = c.range_in_use.new.pass.seat.me in
     let e = c.walk_to_first-first.ensures in let still = c.look.ensures.frame.still in
     let last = c.help_first.new.pass.seat.me in let spent = c.help_first.new.account.spent in
-    let less = more_turns c.args.account.now.spent c.range_in_use.new.account.spent m n
-    (spent_on z m k l n e.raised e.steps e.turns still c.args.account.now.spent c.range_in_use.new.account.spent
-    c.range_in_use.ensures.counted) in
-    refused_so g.F.Fn c.args.search.now.sought.now z c.args.search.now.budget spent c.help_first.result m last
-    (no_less_both m n last less (more_turns c.range_in_use.new.account.spent spent n last c.help_first.ensures.counted))
+    let then = c.range_in_use.new.account.spent in
+    let less = more_turns c.args.account.now.spent then m n (helps_on g c).counted in
+    refused_so g.F.Fn c.args.search.now.sought.now z c.args.search.now.budget spent
+    c.help_first.result m last
+    (no_less_both m n last less (more_turns then spent n last c.help_first.ensures.counted))
     (refused_after c.args.search.now.budget spent c.help_first.result m n last
-    (met_on z m k l n e.raised e.steps e.turns still c.in-Ok-Some.ensures.in_use.0.raised) less c.help_first.ensures.refused)
+    (met_on z m k l n e.raised e.steps e.turns still c.in-Ok-Some.ensures.in_use.0.raised) less
+    c.help_first.ensures.refused)
 
 pub begin_range-requires-clause-first : goal.begin_range-requires-clause-first
 begin_range-requires-clause-first g c = let z = c.args.space.now.table.shared.key in let e = c.walk_to_first-first.ensures in
@@ -100,44 +106,41 @@ begin_range-requires-clause-needed g c = let e = c.walk_to_first-first.ensures i
           ∙ sym (ap first_note c.in-Ok-None.ensures.in_use.0.all.notes))),
     )
 
+-- So it is where a range was begun.
+begins_on : (g : _) → (c : goal.After-begin_range g) → GoesOn c.args.space.now c.args.account.now.spent
+    c.range_in_use.new.account.spent c.args.pass.now c.range_in_use.new.pass
+begins_on g c = let e = c.walk_to_first-first.ensures in
+    first_goes c.args.space.now c.args.pass.now c.walk_to_first-first.new.pass c.look.new.pass
+    c.range_in_use.new.pass c.requires.ready e.frame e.raised e.steps e.no_join e.turns
+    c.look.ensures.frame c.in-Ok-None.ensures.in_use.0 c.args.account.now.spent
+    c.range_in_use.new.account.spent c.range_in_use.ensures.counted
+
 pub returns-clause-steps : goal.returns-clause-steps
-returns-clause-steps g c = let z = c.args.space.now.table.shared.key in let m = c.args.pass.now.seat.me in
-    let k = c.walk_to_first-first.new.pass.seat.me in let l = c.look.new.pass.seat.me in let n = c.range_in_use.new.pass.seat.me in
-    let e = c.walk_to_first-first.ensures in
-    ranges_both m.0.upper n.0.upper c.begin_range.new.pass.seat.me.0.upper (ranges_by_steps m.0.upper n.0.upper
-    (steps_on z m k l n e.raised e.steps e.turns c.look.ensures.frame.still c.in-Ok-None.ensures.in_use.0.steps)) c.begin_range.ensures.steps
+returns-clause-steps g c = ranges_both c.args.pass.now.seat.me.0.upper
+    c.range_in_use.new.pass.seat.me.0.upper c.begin_range.new.pass.seat.me.0.upper
+    (begins_on g c).steps c.begin_range.ensures.steps
 
 pub returns-clause-counted : goal.returns-clause-counted
-returns-clause-counted g c = let z = c.args.space.now.table.shared.key in let m = c.args.pass.now.seat.me in
-    let k = c.walk_to_first-first.new.pass.seat.me in let l = c.look.new.pass.seat.me in let n = c.range_in_use.new.pass.seat.me in
-    let e = c.walk_to_first-first.ensures in
-    on_both c.args.account.now.spent c.range_in_use.new.account.spent c.begin_range.new.account.spent m n c.begin_range.new.pass.seat.me
-    (spent_on z m k l n e.raised e.steps e.turns c.look.ensures.frame.still c.args.account.now.spent c.range_in_use.new.account.spent
-    c.range_in_use.ensures.counted) c.begin_range.ensures.counted
+returns-clause-counted g c = on_both c.args.account.now.spent c.range_in_use.new.account.spent
+    c.begin_range.new.account.spent c.args.pass.now.seat.me c.range_in_use.new.pass.seat.me
+    c.begin_range.new.pass.seat.me (begins_on g c).counted c.begin_range.ensures.counted
 
 pub returns-clause-begun : goal.returns-clause-begun
-returns-clause-begun g c = let z = c.args.space.now.table.shared.key in let m = c.args.pass.now.seat.me in
-    let k = c.walk_to_first-first.new.pass.seat.me in let l = c.look.new.pass.seat.me in let n = c.range_in_use.new.pass.seat.me in
-    let e = c.walk_to_first-first.ensures in let still = c.look.ensures.frame.still in
-    let last = c.begin_range.new.pass.seat.me in let spent = c.begin_range.new.account.spent in
-    begun_after g.F.Fn c.args.search.now.sought.now z c.args.search.now.budget spent c.begin_range.result m n last
-    (met_on z m k l n e.raised e.steps e.turns still c.in-Ok-None.ensures.in_use.0.raised)
+returns-clause-begun g c = let z = c.args.space.now.table.shared.key in
+    let m = c.args.pass.now.seat.me in let k = c.walk_to_first-first.new.pass.seat.me in
+    let l = c.look.new.pass.seat.me in let n = c.range_in_use.new.pass.seat.me in
+    let e = c.walk_to_first-first.ensures in
+    begun_after g.F.Fn c.args.search.now.sought.now z c.args.search.now.budget
+    c.begin_range.new.account.spent c.begin_range.result m n c.begin_range.new.pass.seat.me
+    (met_on z m k l n e.raised e.steps e.turns c.look.ensures.frame.still
+    c.in-Ok-None.ensures.in_use.0.raised)
     (more_turns c.args.account.now.spent c.range_in_use.new.account.spent m n
-    (spent_on z m k l n e.raised e.steps e.turns still c.args.account.now.spent c.range_in_use.new.account.spent
-    c.range_in_use.ensures.counted)) c.begin_range.ensures.begun
+    (begins_on g c).counted) c.begin_range.ensures.begun
 
 pub returns-clause-frame : goal.returns-clause-frame
-returns-clause-frame g c = let space = c.args.space.now in let z = space.table.shared.key in let p = c.args.pass.now in
-    let q = c.walk_to_first-first.new.pass in let r = c.look.new.pass in let t = c.range_in_use.new.pass in let e = c.walk_to_first-first.ensures in
-    let a = c.args.account.now.spent in let b = c.range_in_use.new.account.spent in let learns = c.in-Ok-None.ensures.in_use.0 in
-    let ready = ready_still space p q c.requires.ready e.frame e.raised e.steps in
-    let walked = walked_still z p.seat.me q.seat.me r.seat.me t.seat.me e.raised e.steps e.turns c.look.ensures.frame.still a in
-    pinned_both space p t c.begin_range.new.pass
-    (pinned_both space p r t
-    (pinned_both space p q r (goes_steps space a a p q c.requires.ready e.frame e.raised e.no_join e.steps walked).frame
-    (goes_reads space a q r ready c.look.ensures.frame).frame)
-    (goes_steps space a b r t (ready_reads space q r ready c.look.ensures.frame) learns.frame learns.raised learns.no_join learns.steps
-    c.range_in_use.ensures.counted).frame) c.begin_range.ensures.frame
+returns-clause-frame g c = pinned_both c.args.space.now c.args.pass.now
+    c.range_in_use.new.pass c.begin_range.new.pass (begins_on g c).frame
+    c.begin_range.ensures.frame
 
 pub returns-in-Err-clause-steps : goal.returns-in-Err-clause-steps
 returns-in-Err-clause-steps g c = let z = c.args.space.now.table.shared.key in let m = c.args.pass.now.seat.me in
@@ -198,84 +201,65 @@ returns-clause-loads g c = let few = c.walk_to_first-first.ensures.loads in
     begins_few c.args.space.now.table.shared.key c.begin_range.result c.args.pass.now.seat.me.0.upper c.begin_range.new.pass.seat.me.0.upper (omega arith)
 
 pub returns-in-Ok-Some-clause-frame : goal.returns-in-Ok-Some-clause-frame
-returns-in-Ok-Some-clause-frame g c = let space = c.args.space.now in let z = space.table.shared.key in let p = c.args.pass.now in
-    let q = c.walk_to_first-first.new.pass in let r = c.look.new.pass in let t = c.range_in_use.new.pass in let e = c.walk_to_first-first.ensures in
-    let a = c.args.account.now.spent in let b = c.range_in_use.new.account.spent in let learns = c.in-Ok-Some.ensures.in_use.0 in
-    let ready = ready_still space p q c.requires.ready e.frame e.raised e.steps in
-    let walked = walked_still z p.seat.me q.seat.me r.seat.me t.seat.me e.raised e.steps e.turns c.look.ensures.frame.still a in
-    pinned_both space p t c.help_first.new.pass
-    (pinned_both space p r t
-    (pinned_both space p q r (goes_steps space a a p q c.requires.ready e.frame e.raised e.no_join e.steps walked).frame
-    (goes_reads space a q r ready c.look.ensures.frame).frame)
-    (goes_steps space a b r t (ready_reads space q r ready c.look.ensures.frame) learns.frame learns.raised learns.no_join learns.steps
-    c.range_in_use.ensures.counted).frame) (stays_pinned space t c.help_first.new.pass c.help_first.ensures.frame)
+returns-in-Ok-Some-clause-frame g c = let space = c.args.space.now in
+    let t = c.range_in_use.new.pass in
+    pinned_both space c.args.pass.now t c.help_first.new.pass (helps_on g c).frame
+    (stays_pinned space t c.help_first.new.pass c.help_first.ensures.frame)
 
 pub returns-in-Done-clause-alone : goal.returns-in-Done-clause-alone
-returns-in-Done-clause-alone g c = λ alone unmet. let z = c.args.space.now.table.shared.key in let p = c.args.pass.now in
-    let q = c.walk_to_first-first.new.pass in let r = c.look.new.pass in let e = c.walk_to_first-first.ensures in
-    let still = c.look.ensures.frame.still in let w = e.alone alone in
-    let lost = (let pool = ap (λ (x : MyTree). x.0.lost) e.raised in let link = e.steps.lost_is in let read = ap losses still in
-    let same : losses r.seat.me ≡ losses p.seat.me = omega arith in same) in
-    let turns = ap (λ (x : MyTree). x.0.upper.turns) still ∙ e.turns in let tree = ap (λ (x : MyTree). x.0.upper.inventory) still ∙ w.tree in
-    let none = ap (λ (x : MyTree). x.0.upper.ranges.unfinished) still ∙ (e.unfinished ∙ unmet) in
-    let kept = c.look.ensures.frame.kept ∙ e.frame.kept in
-    let number = ap (λ (x : MyTree). x.0.upper.number) still ∙ ap (λ (u : TreeView). u.number) e.steps.only in
-    let only : IsAlone z r.seat.me.0.upper = (alone.0, subst (λ (n : ℕ). 0 < n) (sym number) alone.1) in
-    let known = subst (λ (x : MyTree). IsKnown z x.0.upper) (sym still) e.first.known in (
-      w.few,
-      nothing_ended z (snapped.Run (record { last = c.walk_to_first-first.result.base; chained = false; whole = c.in-Done.whole })) (vec_len p.kept.rows)
-          (vec_len r.kept.rows) p.seat.me r.seat.me (let same = ap (λ (x : KeptRows). vec_len x.rows) kept in omega arith) lost turns tree none
-          (λ e. absurd cc) (λ e. absurd cc),
+returns-in-Done-clause-alone g c = λ alone unmet. let z = c.args.space.now.table.shared.key in
+    let m = c.args.pass.now.seat.me in let l = c.look.new.pass.seat.me in
+    let e = c.walk_to_first-first.ensures in let walks = e.alone alone in
+    let looks = looks_alone z m c.walk_to_first-first.new.pass.seat.me l e.raised e.steps e.turns
+    (e.unfinished ∙ unmet) e.first.known walks c.look.ensures.frame.still alone in (
+      walks.few,
+      nothing_ended z (snapped.Run (record {
+        last = c.walk_to_first-first.result.base;
+        chained = false;
+        whole = c.in-Done.whole;
+      })) (vec_len c.args.pass.now.kept.rows) (vec_len c.look.new.pass.kept.rows) m l
+          (let same = ap (λ (x : KeptRows). vec_len x.rows) (c.look.ensures.frame.kept ∙ e.frame.kept) in
+          omega arith) looks.unlost looks.turns looks.tree looks.unmet (λ e. absurd cc) (λ e. absurd cc),
     )
 
 pub returns-in-Ok-Some-clause-alone : goal.returns-in-Ok-Some-clause-alone
-returns-in-Ok-Some-clause-alone g c = λ alone unmet. let z = c.args.space.now.table.shared.key in let p = c.args.pass.now in
-    let q = c.walk_to_first-first.new.pass in let r = c.look.new.pass in let e = c.walk_to_first-first.ensures in
-    let still = c.look.ensures.frame.still in let w = e.alone alone in
-    let lost = (let pool = ap (λ (x : MyTree). x.0.lost) e.raised in let link = e.steps.lost_is in let read = ap losses still in
-    let same : losses r.seat.me ≡ losses p.seat.me = omega arith in same) in
-    let turns = ap (λ (x : MyTree). x.0.upper.turns) still ∙ e.turns in let tree = ap (λ (x : MyTree). x.0.upper.inventory) still ∙ w.tree in
-    let none = ap (λ (x : MyTree). x.0.upper.ranges.unfinished) still ∙ (e.unfinished ∙ unmet) in
-    let kept = c.look.ensures.frame.kept ∙ e.frame.kept in
-    let number = ap (λ (x : MyTree). x.0.upper.number) still ∙ ap (λ (u : TreeView). u.number) e.steps.only in
-    let only : IsAlone z r.seat.me.0.upper = (alone.0, subst (λ (n : ℕ). 0 < n) (sym number) alone.1) in
-    let known = subst (λ (x : MyTree). IsKnown z x.0.upper) (sym still) e.first.known in
-    let no = sym c.in-Ok-Some.is ∙ (c.range_in_use.ensures.alone only known none).0 in absurd cc
+returns-in-Ok-Some-clause-alone g c = λ alone unmet. let z = c.args.space.now.table.shared.key in
+    let m = c.args.pass.now.seat.me in let l = c.look.new.pass.seat.me in
+    let e = c.walk_to_first-first.ensures in let walks = e.alone alone in
+    let looks = looks_alone z m c.walk_to_first-first.new.pass.seat.me l e.raised e.steps e.turns
+    (e.unfinished ∙ unmet) e.first.known walks c.look.ensures.frame.still alone in
+    let no = sym c.in-Ok-Some.is
+    ∙ (c.range_in_use.ensures.alone looks.alone looks.known looks.unmet).0 in absurd cc
 
 pub returns-in-Err-clause-alone : goal.returns-in-Err-clause-alone
-returns-in-Err-clause-alone g c = λ alone unmet. let z = c.args.space.now.table.shared.key in let p = c.args.pass.now in
-    let q = c.walk_to_first-first.new.pass in let r = c.look.new.pass in let e = c.walk_to_first-first.ensures in
-    let still = c.look.ensures.frame.still in let w = e.alone alone in
-    let lost = (let pool = ap (λ (x : MyTree). x.0.lost) e.raised in let link = e.steps.lost_is in let read = ap losses still in
-    let same : losses r.seat.me ≡ losses p.seat.me = omega arith in same) in
-    let turns = ap (λ (x : MyTree). x.0.upper.turns) still ∙ e.turns in let tree = ap (λ (x : MyTree). x.0.upper.inventory) still ∙ w.tree in
-    let none = ap (λ (x : MyTree). x.0.upper.ranges.unfinished) still ∙ (e.unfinished ∙ unmet) in
-    let kept = c.look.ensures.frame.kept ∙ e.frame.kept in
-    let number = ap (λ (x : MyTree). x.0.upper.number) still ∙ ap (λ (u : TreeView). u.number) e.steps.only in
-    let only : IsAlone z r.seat.me.0.upper = (alone.0, subst (λ (n : ℕ). 0 < n) (sym number) alone.1) in
-    let known = subst (λ (x : MyTree). IsKnown z x.0.upper) (sym still) e.first.known in
-    let no = sym c.in-Err.is ∙ (c.range_in_use.ensures.alone only known none).0 in absurd cc
+returns-in-Err-clause-alone g c = λ alone unmet. let z = c.args.space.now.table.shared.key in
+    let m = c.args.pass.now.seat.me in let l = c.look.new.pass.seat.me in
+    let e = c.walk_to_first-first.ensures in let walks = e.alone alone in
+    let looks = looks_alone z m c.walk_to_first-first.new.pass.seat.me l e.raised e.steps e.turns
+    (e.unfinished ∙ unmet) e.first.known walks c.look.ensures.frame.still alone in
+    let no = sym c.in-Err.is
+    ∙ (c.range_in_use.ensures.alone looks.alone looks.known looks.unmet).0 in absurd cc
 
 pub returns-clause-alone : goal.returns-clause-alone
-returns-clause-alone g c = λ alone unmet. let z = c.args.space.now.table.shared.key in let p = c.args.pass.now in
-    let q = c.walk_to_first-first.new.pass in let r = c.look.new.pass in let e = c.walk_to_first-first.ensures in
-    let still = c.look.ensures.frame.still in let w = e.alone alone in
-    let lost = (let pool = ap (λ (x : MyTree). x.0.lost) e.raised in let link = e.steps.lost_is in let read = ap losses still in
-    let same : losses r.seat.me ≡ losses p.seat.me = omega arith in same) in
-    let turns = ap (λ (x : MyTree). x.0.upper.turns) still ∙ e.turns in let tree = ap (λ (x : MyTree). x.0.upper.inventory) still ∙ w.tree in
-    let none = ap (λ (x : MyTree). x.0.upper.ranges.unfinished) still ∙ (e.unfinished ∙ unmet) in
-    let kept = c.look.ensures.frame.kept ∙ e.frame.kept in
-    let number = ap (λ (x : MyTree). x.0.upper.number) still ∙ ap (λ (u : TreeView). u.number) e.steps.only in
-    let only : IsAlone z r.seat.me.0.upper = (alone.0, subst (λ (n : ℕ). 0 < n) (sym number) alone.1) in
-    let known = subst (λ (x : MyTree). IsKnown z x.0.upper) (sym still) e.first.known in
-    let t = c.range_in_use.new.pass in let b = c.begin_range.new.pass in let learns = c.in-Ok-None.ensures.in_use.0 in
-    let found = (c.range_in_use.ensures.alone only known none).1 in
-    let number' = ap (λ (u : TreeView). u.number) learns.steps.only in
-    let notes = learns.all.notes ∙ ap (λ (x : MyTree). x.0.upper.notes) still in
+returns-clause-alone g c = λ alone unmet. let z = c.args.space.now.table.shared.key in
+    let m = c.args.pass.now.seat.me in let l = c.look.new.pass.seat.me in
+    let e = c.walk_to_first-first.ensures in let walks = e.alone alone in
+    let looks = looks_alone z m c.walk_to_first-first.new.pass.seat.me l e.raised e.steps e.turns
+    (e.unfinished ∙ unmet) e.first.known walks c.look.ensures.frame.still alone in
+    let p = c.args.pass.now in let t = c.range_in_use.new.pass in let b = c.begin_range.new.pass in
+    let learns = c.in-Ok-None.ensures.in_use.0 in let kept = c.look.ensures.frame.kept ∙ e.frame.kept in
+    let found = (c.range_in_use.ensures.alone looks.alone looks.known looks.unmet).1 in
+    let tree = found.tree ∙ looks.tree in
+    let number = ap (λ (u : TreeView). u.number) learns.steps.only in
+    let notes = learns.all.notes ∙ ap (λ (x : MyTree). x.0.upper.notes) c.look.ensures.frame.still in
     let kept' = ap (λ (x : KeptRows). vec_len x.rows) (learns.frame.kept ∙ kept) in (
-      w.few,
-      comes_from z c.begin_range.result (vec_len p.kept.rows) (vec_len t.kept.rows) (vec_len b.kept.rows) p.seat.me t.seat.me b.seat.me (omega arith)
-          (let pool = ap (λ (x : MyTree). x.0.lost) learns.raised in let link = learns.steps.lost_is in omega arith) (found.turns ∙ turns) (found.tree ∙ tree)
-          (c.begin_range.ensures.alone (only.0, subst (λ (n : ℕ). 0 < n) (sym number') only.1) found.unmet
-          (subst (λ (x : Inventory × List Note). IsListed x.0 (first_note x.1)) (λ i. (sym (found.tree ∙ tree) i, sym notes i)) w.listed)),
+      walks.few,
+      comes_from z c.begin_range.result (vec_len p.kept.rows) (vec_len t.kept.rows)
+          (vec_len b.kept.rows) m t.seat.me b.seat.me (omega arith)
+          (let pool = ap (λ (x : MyTree). x.0.lost) learns.raised in let link = learns.steps.lost_is in
+          let before = looks.unlost in omega arith) (found.turns ∙ looks.turns) tree
+          (c.begin_range.ensures.alone
+          (looks.alone.0, subst (λ (n : ℕ). 0 < n) (sym number) looks.alone.1) found.unmet
+          (subst (λ (x : Inventory × List Note). IsListed x.0 (first_note x.1))
+          (λ i. (sym tree i, sym notes i)) walks.listed)),
     )
