@@ -45,6 +45,7 @@ pub mod RunParts
 pub mod Settling
 pub mod Showing
 pub mod States
+pub mod StoreCalls
 pub mod Tallies
 pub mod Telling
 pub mod Tuning

@@ -1,4 +1,4 @@
-use Rattle.std.proofs.Common.{true, false, refl, ap, arith, inl, ◌∙◌, ◌≡◌, ◌+◌, None, sym, subst}
+use Rattle.std.proofs.Common.{true, false, refl, ap, arith, inl, ◌∙◌, ◌≡◌, ◌+◌, sym, subst}
 use Rattle.ca_node.specs.Place.{all_keys}
 use Rattle.ca_node.specs.Told.{MyTree}
 use Rattle.ca_rows.specs.Told.{begun_of, met_of}
@@ -9,9 +9,8 @@ use Rattle.ca_replace.proofs.Entries.{held_upper}
 use Rattle.ca_replace.proofs.ReadLoads.{led_once}
 use Rattle.ca_replace.proofs.Showing.{led_further}
 use Rattle.ca_replace.proofs.Turns.{is_lone, none_pinned, rests_as, rests_again}
-use Rattle.ca_replace.specs.Resting.{StoreAndRun, knows}
-use Rattle.ca_replace.specs.Seen.{store_of}
-use Rattle.ca_replace.proofs.OpenStores.{between_rests, closed_still, rests_of}
+use Rattle.ca_replace.specs.Resting.{StoreAndRun}
+use Rattle.ca_replace.proofs.StoreCalls.{closed_then, rests_first, rests_then}
 use Rattle.ca_replace.proofs.store.TreeStore.learn.Goals as goal
 use Rattle.ca_node.specs.Layout.{root_word}
 
@@ -19,8 +18,7 @@ pub load_link-requires-clause-known : goal.load_link-requires-clause-known
 load_link-requires-clause-known c = (0, all_keys, inl (refl, refl, refl))
 
 pub keep_few-requires : goal.keep_few-requires
-keep_few-requires c = let rests = rests_of (store_of c.self.inside.tree.now c.self.inside.pass c.self.inside.last) c.self.inside.run c.self.invariant
-    (subst (λ (s : StoreAndRun). (knows s).run ≡ None) (sym c.self.view_is) c.requires.closed) in
+keep_few-requires c = let rests = rests_first c.self.inside c.self.view_is c.requires.closed c.self.invariant in
     let tree = c.self.inside.tree.now in
     let z : Sizes = tree.space.table.shared.key in let table = tree.space.table.shared.table_id in
     let pass = c.self.inside.pass in let pin = c.pin.ensures.pinned.3 in
@@ -83,20 +81,18 @@ keep_few-requires c = let rests = rests_of (store_of c.self.inside.tree.now c.se
     }
 
 pub learn-requires-clause-own : goal.learn-requires-clause-own
-learn-requires-clause-own c = (rests_of (store_of c.self.inside.tree.now c.self.inside.pass c.self.inside.last) c.self.inside.run c.self.invariant
-    (subst (λ (s : StoreAndRun). (knows s).run ≡ None) (sym c.self.view_is) c.requires.closed)).of
+learn-requires-clause-own c = (rests_first c.self.inside c.self.view_is c.requires.closed c.self.invariant).of
 
 pub learn-requires-clause-unpinned : goal.learn-requires-clause-unpinned
-learn-requires-clause-unpinned c = (rests_of (store_of c.self.inside.tree.now c.self.inside.pass c.self.inside.last) c.self.inside.run c.self.invariant
-    (subst (λ (s : StoreAndRun). (knows s).run ≡ None) (sym c.self.view_is) c.requires.closed)).is_unpinned
+learn-requires-clause-unpinned c = (rests_first c.self.inside c.self.view_is c.requires.closed c.self.invariant).is_unpinned
 
 pub invariant_of-self : goal.invariant_of-self
-invariant_of-self c = between_rests (store_of c.self.inside.tree.now c.keep_few.new.pass c.self.inside.last) c.self.inside.pass.seat.me.0.upper
-    c.self.inside.run (subst (λ (s : StoreAndRun). (knows s).run ≡ None) (sym c.self.view_is) c.requires.closed) c.keep_few.ensures.frame.resting
+invariant_of-self c = rests_then c.self.inside c.self.view_is c.requires.closed
+    c.keep_few.new.pass c.self.inside.last c.keep_few.ensures.frame.resting
 
 pub returns-clause-closed : goal.returns-clause-closed
-returns-clause-closed c = closed_still c.self.inside.pass.seat.me.0.upper c.keep_few.new.pass.seat.me.0.upper c.self.inside.run
-    (subst (λ (s : StoreAndRun). (knows s).run ≡ None) (sym c.self.view_is) c.requires.closed)
+returns-clause-closed c = closed_then c.self.inside c.self.view_is c.requires.closed
+    c.keep_few.new.pass c.self.inside.last
 
 pub returns-clause-loads : goal.returns-clause-loads
 returns-clause-loads c = let one = led_once false root_word c.pin.new.pass.seat.me c.load_link.new.pass.seat.me c.load_link.result c.load_link.ensures.led in

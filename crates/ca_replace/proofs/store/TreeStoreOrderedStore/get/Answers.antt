@@ -1,4 +1,4 @@
-use Rattle.std.proofs.Common.{rules, ◌≡◌, Bool, true, false, ℕ, List, [], Ok, refl, sym, ap, subst, ◌∙◌, arith, None}
+use Rattle.std.proofs.Common.{rules, ◌≡◌, Bool, true, false, ℕ, List, [], Ok, refl, sym, ap, subst, ◌∙◌, arith}
 use Rattle.ca_model.specs.Answer.{Got}
 use Rattle.ca_base.specs.Progress.{HasDone}
 use Rattle.ca_model.specs.Event.{Event, effect}
@@ -17,12 +17,12 @@ use Rattle.ca_node.specs.declared.cursor.Spot.TheVariants as spot
 use Rattle.ca_replace.proofs.Showing.{looking, read_tried, walked_unanswered}
 use Rattle.ca_replace.proofs.States.{none_since, pinned_first}
 use Rattle.ca_replace.proofs.Turns.{is_lone, known_pinned, none_pinned, rests_as, rests_again, tried_known, tried_pinned}
-use Rattle.ca_replace.specs.Resting.{StoreAndRun, known_of, knows, run_left}
+use Rattle.ca_replace.specs.Resting.{StoreAndRun, known_of}
 use Rattle.ca_replace.specs.Seen.{store_of}
 use Rattle.ca_replace.specs.TreePromises.{OnlyLooks}
 use Rattle.ca_replace.proofs.Alone.{alone_at}
 use Rattle.ca_replace.proofs.OneHand.{read_still}
-use Rattle.ca_replace.proofs.OpenStores.{between_rests, closed_still, rests_of, knows_closed, of_both}
+use Rattle.ca_replace.proofs.StoreCalls.{closed_then, of_stores, rests_first, rests_then}
 use Rattle.ca_replace.proofs.store.TreeStoreOrderedStore.get.Goals as goal
 
 pub look_up-found-requires-clause-looking : goal.look_up-found-requires-clause-looking
@@ -35,8 +35,7 @@ look_up-found-requires-clause-looking c = let tree = c.self.inside.tree.now in
 
 pub look_up-found-requires-clause-unanswered : goal.look_up-found-requires-clause-unanswered
 look_up-found-requires-clause-unanswered c =
-    let rests = rests_of (store_of c.self.inside.tree.now c.self.inside.pass c.self.inside.last) c.self.inside.run c.self.invariant
-    (subst (λ (s : StoreAndRun). (knows s).run ≡ None) (sym c.self.view_is) c.requires.closed) in
+    let rests = rests_first c.self.inside c.self.view_is c.requires.closed c.self.invariant in
     let z : Sizes = c.self.inside.tree.now.space.table.shared.key in
     let u = c.self.inside.pass.seat.me.0.upper in let pinned_me = c.pin.new.pass.seat.me in
     let pin = ap (λ (m : MyTree). m.0.upper) c.pin.ensures.pinned.3 in
@@ -47,8 +46,7 @@ look_up-found-requires-clause-unanswered c =
     (pinned_first pinned_me.0.upper u pin))
 
 pub keep_few-requires : goal.keep_few-requires
-keep_few-requires c = let rests = rests_of (store_of c.self.inside.tree.now c.self.inside.pass c.self.inside.last) c.self.inside.run c.self.invariant
-    (subst (λ (s : StoreAndRun). (knows s).run ≡ None) (sym c.self.view_is) c.requires.closed) in
+keep_few-requires c = let rests = rests_first c.self.inside c.self.view_is c.requires.closed c.self.invariant in
     let tree = c.self.inside.tree.now in
     let z : Sizes = tree.space.table.shared.key in let table = tree.space.table.shared.table_id in
     let pass = c.self.inside.pass in let pin = c.pin.ensures.pinned.3 in
@@ -110,8 +108,7 @@ keep_few-requires c = let rests = rests_of (store_of c.self.inside.tree.now c.se
     }
 
 pub returns-clause-got : goal.returns-clause-got
-returns-clause-got c = let rests = rests_of (store_of c.self.inside.tree.now c.self.inside.pass c.self.inside.last) c.self.inside.run c.self.invariant
-    (subst (λ (s : StoreAndRun). (knows s).run ≡ None) (sym c.self.view_is) c.requires.closed) in
+returns-clause-got c = let rests = rests_first c.self.inside c.self.view_is c.requires.closed c.self.invariant in
     let tree = c.self.inside.tree.now in
     let table = tree.space.table.shared.table_id in
     let z : Sizes = tree.space.table.shared.key in let pass = c.self.inside.pass in
@@ -133,12 +130,9 @@ returns-clause-got c = let rests = rests_of (store_of c.self.inside.tree.now c.s
     (subst (λ (m : MyTree).
     HasTriedTo told z (Ok found) m.0.upper c.look_up-found.new.pass.seat.me.0.upper)
     c.pin.ensures.pinned.3 tried) in
-    let first = pass.seat.me.0.upper in let last = c.keep_few.new.pass.seat.me.0.upper in
-    let closed : run_left first c.self.inside.run ≡ None = subst (λ (s : StoreAndRun). (knows s).run ≡ None) (sym c.self.view_is) c.requires.closed in
-    let before = store_of tree pass c.self.inside.last in
-    of_both (λ (k l : Known). Got k l c.args.key.now found into) _ _ (known_of table z first) (known_of table z last)
-    (ap knows (sym c.self.view_is) ∙ knows_closed before first c.self.inside.run closed)
-    (knows_closed (store_of tree c.keep_few.new.pass c.self.inside.last) first c.self.inside.run closed)
+    let first = pass.seat.me.0.upper in
+    of_stores c.self.inside c.self.view_is c.requires.closed c.keep_few.new.pass c.self.inside.last
+    (λ (k l : Known). Got k l c.args.key.now found into)
     (subst (λ (u : TreeView). Got (known_of table z first) (known_of table z u) c.args.key.now found into)
     (sym c.keep_few.ensures.gave.upper)
     (got_is (known_of table z first) (known_of table z behind) c.args.key.now into
@@ -148,20 +142,18 @@ returns-clause-got c = let rests = rests_of (store_of c.self.inside.tree.now c.s
     c.look_up-found.ensures.emptied))
 
 pub pin-requires-clause-own : goal.pin-requires-clause-own
-pin-requires-clause-own c = (rests_of (store_of c.self.inside.tree.now c.self.inside.pass c.self.inside.last) c.self.inside.run c.self.invariant
-    (subst (λ (s : StoreAndRun). (knows s).run ≡ None) (sym c.self.view_is) c.requires.closed)).of
+pin-requires-clause-own c = (rests_first c.self.inside c.self.view_is c.requires.closed c.self.invariant).of
 
 pub pin-requires-clause-unpinned : goal.pin-requires-clause-unpinned
-pin-requires-clause-unpinned c = (rests_of (store_of c.self.inside.tree.now c.self.inside.pass c.self.inside.last) c.self.inside.run c.self.invariant
-    (subst (λ (s : StoreAndRun). (knows s).run ≡ None) (sym c.self.view_is) c.requires.closed)).is_unpinned
+pin-requires-clause-unpinned c = (rests_first c.self.inside c.self.view_is c.requires.closed c.self.invariant).is_unpinned
 
 pub invariant_of-self : goal.invariant_of-self
-invariant_of-self c = between_rests (store_of c.self.inside.tree.now c.keep_few.new.pass c.self.inside.last) c.self.inside.pass.seat.me.0.upper
-    c.self.inside.run (subst (λ (s : StoreAndRun). (knows s).run ≡ None) (sym c.self.view_is) c.requires.closed) c.keep_few.ensures.frame.resting
+invariant_of-self c = rests_then c.self.inside c.self.view_is c.requires.closed
+    c.keep_few.new.pass c.self.inside.last c.keep_few.ensures.frame.resting
 
 pub returns-clause-closed : goal.returns-clause-closed
-returns-clause-closed c = closed_still c.self.inside.pass.seat.me.0.upper c.keep_few.new.pass.seat.me.0.upper c.self.inside.run
-    (subst (λ (s : StoreAndRun). (knows s).run ≡ None) (sym c.self.view_is) c.requires.closed)
+returns-clause-closed c = closed_then c.self.inside c.self.view_is c.requires.closed
+    c.keep_few.new.pass c.self.inside.last
 
 -- A read of a key edits nothing.
 reads_only : (key : List ℕ) (found : Bool) (into : List ℕ) → effect (get_event key found into) ≡ []
@@ -171,9 +163,7 @@ reads_only key false into = refl
 pub returns-clause-promised : goal.returns-clause-promised
 returns-clause-promised c = let tree = c.self.inside.tree.now in let pass = c.self.inside.pass in
     let new = c.keep_few.new.pass in let behind = c.unpin.new.pass.seat.me.0.upper in
-    let before = store_of tree pass c.self.inside.last in
-    let rests = rests_of before c.self.inside.run c.self.invariant
-    (subst (λ (s : StoreAndRun). (knows s).run ≡ None) (sym c.self.view_is) c.requires.closed) in
+    let rests = rests_first c.self.inside c.self.view_is c.requires.closed c.self.invariant in
     let table = tree.space.table.shared.table_id in let z : Sizes = tree.space.table.shared.key in
     let found : Bool = c.look_up-found.result in let into : List ℕ = c.look_up-found.new.into.items in
     let event = get_event c.args.key.now found into in
