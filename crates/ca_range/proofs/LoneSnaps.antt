@@ -25,18 +25,19 @@ use Rattle.ca_range.proofs.LoneSteps.{nothing_ended}
 use Rattle.ca_range.proofs.LoneStops.{crowds_now, stopped_empty, stopped_told}
 
 -- What the pass with number 1 made, in order, where there is no other one.
-own_alone : (h : History) → AreByPasses 1 h → h ≡ by_pass 1 (edits_of_pass 1 h)
+pub own_alone : (h : History) → AreByPasses 1 h → h ≡ by_pass 1 (edits_of_pass 1 h)
 own_alone [] by = refl
 own_alone (step ∷ steps) by = let lo = by.0 in let hi = by.1 in let one : step.0 ≡ 1 = omega arith in
     ap (λ (n : ℕ). (n, step.1) ∷ steps) one
     ∙ (ap (λ (xs : History). (1, step.1) ∷ xs) (own_alone steps by.2)
     ∙ ap (λ b. by_pass 1 (if b then step.1 ∷ edits_of_pass 1 steps else edits_of_pass 1 steps)) (sym (eq-eqb step.0 1 one)))
 
+-- A pass that is alone has number 1.
 first_one : (z : Sizes) (u : TreeView) → IsAlone z u → IsKnown z u → u.number ≡ 1
 first_one z u a k = let one = a.0 in let pass = a.1 in let few = k.enrolled in omega arith
 
 -- What a pass that is alone has seen is what its log tells.
-seen_is : (z : Sizes) (u : TreeView) → IsAlone z u → IsKnown z u → u.seen ≡ by_pass 1 (edits_of_log u.log)
+pub seen_is : (z : Sizes) (u : TreeView) → IsAlone z u → IsKnown z u → u.seen ≡ by_pass 1 (edits_of_log u.log)
 seen_is z u a k = own_alone u.seen (subst (λ (n : ℕ). AreByPasses n u.seen) a.0 k.by_passes)
     ∙ ap (by_pass 1) (ap (λ (n : ℕ). edits_of_pass n u.seen) (sym (first_one z u a k)) ∙ k.lawful.edits)
 

@@ -16,7 +16,7 @@ use Rattle.ca_node.proofs.Logs.{after_more, state_there}
 use Rattle.ca_node.proofs.Looking.{further, starts_shorter}
 use Rattle.ca_base.specs.Progress.{IsFurther, HasDone, IsRefused}
 use Rattle.ca_replace.specs.Resting.{known_of}
-use Rattle.ca_replace.proofs.OneHand.{own_alone}
+use Rattle.ca_range.proofs.LoneSnaps.{own_alone}
 use Rattle.ca_rows.specs.declared.sizes.Sizes.{Sizes}
 
 -- What is known is what was seen.
