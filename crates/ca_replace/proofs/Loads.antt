@@ -3,7 +3,6 @@ use Rattle.std.proofs.Common.{◌≡◌, ℕ, ◌+◌, ◌-◌, ◌*◌, ◌<◌
 use Rattle.std.proofs.Math.Nat.{add-mul, mul-add, mul-le-mul_left, mul_comm}
 use Rattle.ca_adapt.specs.declared.tuning.Tuning.{Tuning}
 use Rattle.ca_base.specs.Counting.{losses}
-use Rattle.ca_base.specs.Putting.{HasTried, stopped}
 use Rattle.ca_base.specs.Splitting.{HasSplit}
 use Rattle.ca_base.specs.declared.stop.Stop.{Stop}
 use Rattle.ca_base.specs.declared.stop.Stop.TheVariants as stop
@@ -18,7 +17,7 @@ use Rattle.ca_range.specs.Loading.{help_loads}
 use Rattle.ca_range.specs.declared.helped.Helped.{Helped}
 use Rattle.ca_range.specs.declared.helped.Helped.TheVariants as helped
 use Rattle.ca_range.proofs.Loaded.{ends_few, stopped_loads}
-use Rattle.ca_replace.specs.Attempting.{HasNext, come_to, refused_as, split_to}
+use Rattle.ca_replace.specs.Attempting.{HasNext, refused_as, split_to}
 use Rattle.ca_replace.specs.Bounded.{pinned_in, spent_in}
 use Rattle.ca_replace.specs.Loading.{LoadsFew, LoadsInAttempts, LoadsInCall, loads_by, loads_until, most_loads, unpaid, unpaid_by}
 use Rattle.ca_replace.specs.Refusals.{outcome_by}

@@ -7,7 +7,7 @@ use Rattle.ca_base.specs.declared.stop.Stop.{Stop}
 use Rattle.ca_base.specs.declared.stop.Stop.TheVariants as stop
 use Rattle.ca_replace.specs.declared.attempting.Halt.{Halt}
 use Rattle.ca_model.specs.Event.{Event, Entry, WriteNew}
-use Rattle.ca_model.specs.History.{History, state}
+use Rattle.ca_model.specs.History.{state}
 use Rattle.ca_model.specs.Lawful.{IsPlaceFrom}
 use Rattle.ca_model.specs.StoreMap.{StoreMap, IsFound, IsStoreMap, get}
 use Rattle.ca_model.proofs.Edits.{found_pair}

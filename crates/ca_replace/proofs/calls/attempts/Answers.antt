@@ -29,7 +29,7 @@ use Rattle.ca_rows.specs.declared.sizes.Sizes.{Sizes}
 use Rattle.ca_model.specs.declared.outcome.Cause.{Cause}
 use Rattle.ca_range.specs.Loading.{help_loads}
 use Rattle.ca_replace.specs.Loading.{LoadsFew, LoadsInAttempts, loads_until, most_loads, unpaid}
-use Rattle.ca_replace.proofs.Loads.{HasLoadedYet, loads_come, loads_refused, none_loaded}
+use Rattle.ca_replace.proofs.Loads.{loads_come, loads_refused, none_loaded}
 use Rattle.ca_replace.proofs.calls.attempts.Goals as goal
 
 -- what an attempt comes to that found no row

@@ -1,4 +1,4 @@
-use Rattle.std.proofs.Common.{rules, ◌+◌, ◌*◌, ◌≤◌, refl, ap, arith}
+use Rattle.std.proofs.Common.{rules, ◌+◌, ◌*◌, refl, ap, arith}
 use Rattle.ca_model.specs.Edges.{bound_of}
 use Rattle.ca_replace.specs.LoneReads.{bases_at}
 use Rattle.ca_replace.specs.Within.{NeedsAbove, above_event}
