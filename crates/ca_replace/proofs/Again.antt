@@ -49,8 +49,10 @@ begin_as z u v span cursor same b = record {
 
 -- So it may begin with the link of the base that was looked at.
 stays_with : (z : Sizes) (key : List ℕ) (cursor : Cursor) (u v : TreeView)
-    → IsLooking z u key cursor → v.since ≡ u.since → v.ways ≡ u.ways → v.ranges.unfinished ≡ u.ranges.unfinished
-    → (v.since ≡ u.since) × BeginsAt z key v (Some cursor) × (v.ranges.unfinished ≡ u.ranges.unfinished)
+    → IsLooking z u key cursor → v.since ≡ u.since → v.ways ≡ u.ways
+    → v.ranges.unfinished ≡ u.ranges.unfinished
+    → (v.since ≡ u.since) × BeginsAt z key v (Some cursor)
+    × (v.ranges.unfinished ≡ u.ranges.unfinished)
 stays_with z key cursor u v l since ways met = (
   since,
   (
@@ -63,7 +65,8 @@ stays_with z key cursor u v l since ways met = (
 
 stopped_stays : (z : Sizes) (key : List ℕ) (cursor : Cursor) (why : Stop) (u v : TreeView)
     → IsLooking z u key cursor → v ≡ stopped why u
-    → (v.since ≡ u.since) × BeginsAt z key v (Some cursor) × (v.ranges.unfinished ≡ u.ranges.unfinished)
+    → (v.since ≡ u.since) × BeginsAt z key v (Some cursor)
+    × (v.ranges.unfinished ≡ u.ranges.unfinished)
 stopped_stays z key cursor why u v l is = let same = is ∙ stopped_same why u in
     stays_with z key cursor u v l (ap (λ (x : TreeView). x.since) same)
     (ap (λ (x : TreeView). x.ways) same) (ap (λ (x : TreeView). x.ranges.unfinished) same)
@@ -72,7 +75,8 @@ stopped_stays z key cursor why u v l is = let same = is ∙ stopped_same why u i
 pub split_stays : (z : Sizes) (key : List ℕ) (cursor : Cursor) (many attempt : ℕ)
     (r : Result (Unit {0}) Stop) (u v : TreeView) → IsLooking z u key cursor
     → HasSplit many attempt r u v
-    → (v.since ≡ u.since) × BeginsAt z key v (Some cursor) × (v.ranges.unfinished ≡ u.ranges.unfinished)
+    → (v.since ≡ u.since) × BeginsAt z key v (Some cursor)
+    × (v.ranges.unfinished ≡ u.ranges.unfinished)
 split_stays z key cursor many attempt (Ok x) u v l h = stays_with z key cursor u v l
     (ap (λ (x : TreeView). x.since) h.2) (ap (λ (x : TreeView). x.ways) h.2)
     (ap (λ (x : TreeView). x.ranges.unfinished) h.2)
@@ -81,7 +85,8 @@ split_stays z key cursor many attempt (Err why) u v l h = stopped_stays z key cu
 -- Behind none.
 pub deep_stays : (z : Sizes) (key : List ℕ) (cursor : Cursor) (u : TreeView)
     → IsLooking z u key cursor
-    → (u.since ≡ u.since) × BeginsAt z key u (Some cursor) × (u.ranges.unfinished ≡ u.ranges.unfinished)
+    → (u.since ≡ u.since) × BeginsAt z key u (Some cursor)
+    × (u.ranges.unfinished ≡ u.ranges.unfinished)
 deep_stays z key cursor u l = stays_with z key cursor u u l refl refl refl
 
 -- What is noted of a split of a full base is no cursor.
@@ -106,7 +111,8 @@ settled_stays {z} {k = k} {m'' = m''} (Err why) key cursor s l = subst
 
 -- Behind a look, and what followed it.
 pub stays_behind : {T : Type 0} (z : Sizes) (key : List ℕ) (r : Result T Halt) (u w v : TreeView)
-    (again : Option Cursor) (before marked : Bool) → w.since ≡ u.since → (marked ≡ false → before ≡ false)
+    (again : Option Cursor) (before marked : Bool) → w.since ≡ u.since
+    → (marked ≡ false → before ≡ false)
     → (marked ≡ false → w.ranges.unfinished ≡ u.ranges.unfinished)
     → StaysAt z key r w v again before → StaysAt z key r u v again marked
 stays_behind z key (Ok x) u w v again before marked since none met h = tt
@@ -173,7 +179,8 @@ known_since tells z (Err why) u v h = (h.1, h.0.number)
 -- An attempt that may be followed by another one.
 next_stays : {T : Type 0} (z : Sizes) (key : List ℕ) (r : Result T Halt) (u v : TreeView)
     (again : Option Cursor) (marked : Bool) → HasNext r → StaysAt z key r u v again marked
-    → (v.since ≡ u.since) × BeginsAt z key v again × (marked ≡ false → v.ranges.unfinished ≡ u.ranges.unfinished)
+    → (v.since ≡ u.since) × BeginsAt z key v again
+    × (marked ≡ false → v.ranges.unfinished ≡ u.ranges.unfinished)
 next_stays z key (Ok x) u v again marked next h = absurd next
 next_stays z key (Err why) u v again marked next h = h
 

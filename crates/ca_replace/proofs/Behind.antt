@@ -61,7 +61,8 @@ other_cut edits edits' z adds adds' halt.Helped u v same h = h
 other_cut edits edits' z adds adds' (halt.Stopped why) u v same h = h
 
 -- Whether a mark was met is nothing to what an attempt comes to.
-pub turn_marked : {T : Type 0} {links : ℕ} (edits : T → Bool) (adds : Option (List ℕ)) (z : Sizes) (t : Tuning)
+pub turn_marked : {T : Type 0} {links : ℕ} (edits : T → Bool) (adds : Option (List ℕ)) (z : Sizes)
+    (t : Tuning)
     (a b : Course) (met : Met) (r : Result T Halt) (m m' : MyTree) (marked : Bool)
     → IsTurn edits adds z t links a b met r m m'
     → IsTurn edits adds z t links a (record b { marked = marked }) met r m m'
@@ -107,7 +108,8 @@ module _ {R : Type 0} {space : Space R TreeView} {key : List ℕ} {cursor : Curs
   }
 
   -- It has no range still.
-  pub idle_behind : {marked : Bool} → mid.seat.me.0.upper.ranges.unfinished ≡ pass.seat.me.0.upper.ranges.unfinished
+  pub idle_behind : {marked : Bool}
+      → mid.seat.me.0.upper.ranges.unfinished ≡ pass.seat.me.0.upper.ranges.unfinished
       → IsIdle marked pass → IsIdle marked mid
   idle_behind met i = record {
     number = l.number ∙ (i.number ∙ sym l.further.number);
@@ -116,17 +118,23 @@ module _ {R : Type 0} {space : Space R TreeView} {key : List ℕ} {cursor : Curs
   }
 
   -- It keeps as few rows by the look and what it does then as by that alone.
-  pub crowds_behind : (why : Halt) (new : Pass R TreeView) → Crowds {T = Unit {0}} space (Err why) mid new
+  pub crowds_behind : (why : Halt) (new : Pass R TreeView) → Crowds {T = Unit {0}} space (Err why)
+      mid new
       → Crowds {T = Unit {0}} space (Err why) pass new
-  crowds_behind why new crowds alone = let did = crowds (alone_on z pass.seat.me.0.upper mid.seat.me.0.upper l.further.number alone) in
+  crowds_behind why new crowds alone = let did =
+      crowds (alone_on z pass.seat.me.0.upper mid.seat.me.0.upper l.further.number alone) in
       let lost = l.quiet.lost in let cut = l.quiet.splits_are in
-      let same = ap (λ (k : KeptRows). vec_len k.rows) l.kept in let few = did.0 in (omega arith, did.1)
+      let same = ap (λ (k : KeptRows). vec_len k.rows) l.kept in let few = did.0 in
+      (omega arith, did.1)
 
-  pub few_behind : {T : Type 0} (r : Result T Halt) → IfErr r (λ _. HasFewAlone z pass.seat.me.0.upper)
+  pub few_behind : {T : Type 0} (r : Result T Halt)
+      → IfErr r (λ _. HasFewAlone z pass.seat.me.0.upper)
   few_behind (Ok x) = tt
-  few_behind (Err why) = few_looked z pass.seat.me mid.seat.me l.quiet l.further.number l.looking.few_rows
+  few_behind (Err why) = few_looked z pass.seat.me mid.seat.me l.quiet l.further.number
+      l.looking.few_rows
 
-  pub crowds_tried : (r : Result (Unit {0}) Halt) (new : Pass R TreeView) → Crowds space r mid new → Crowds space r pass new
+  pub crowds_tried : (r : Result (Unit {0}) Halt) (new : Pass R TreeView) → Crowds space r mid new
+      → Crowds space r pass new
   crowds_tried (Ok x) new crowds alone = tt
   crowds_tried (Err why) new crowds alone = crowds_behind why new crowds alone
 
@@ -159,7 +167,8 @@ module _ {R : Type 0} {space : Space R TreeView} {key : List ℕ} {cursor : Curs
               (none_paid a.spent pass.seat.me new.seat.me (ap losses e.now ∙ l.quiet.lost)
               (ap (λ (m : MyTree). m.0.upper.turns) e.now ∙ l.quiet.same_turns));
           found = tt;
-          loads = loads_entered (help_loads z) links (edits x) pass.seat.me mid.seat.me new.seat.me idle few
+          loads = loads_entered (help_loads z) links (edits x) pass.seat.me mid.seat.me new.seat.me
+              idle few
               (ap (λ (m : MyTree). m.0.upper.loads) e.now);
           grown = λ alone. entered_grown pass.seat.me mid.seat.me new.seat.me event l.quiet e;
           won = λ alone. subst (λ b. HasWon b u v) (sym idle)
@@ -181,14 +190,18 @@ module _ {R : Type 0} {space : Space R TreeView} {key : List ℕ} {cursor : Curs
               (λ b'. IfTrue b' (IsCauseMet b.adapting.last.adapted met v)) (sym did) i.met_as;
           gone_on = subst (λ b'. Goes b' z t a.adapting b.adapting u v) (sym did)
               (adapts_after z t a.adapting b.adapting.last u w v l.quiet.idle i.gone_on);
-          counted = paid_looked {T = Unit {0}} {E = Halt} (Ok tt) a.spent b.spent pass.seat.me mid.seat.me new.seat.me l.quiet
+          counted = paid_looked {T = Unit {0}} {E = Halt} (Ok tt) a.spent b.spent pass.seat.me
+              mid.seat.me new.seat.me l.quiet
               i.counted;
           found = tt;
-          loads = subst (λ b'. LoadsFew (help_loads z) (links + 0) (loads_by b' v) pass.seat.me new.seat.me) (sym did)
-              (loads_behind (help_loads z) links 0 v.renewal.loads pass.seat.me mid.seat.me new.seat.me few l.quiet.lost l.quiet.same_turns i.loads);
+          loads = subst (λ b'. LoadsFew (help_loads z) (links + 0) (loads_by b' v) pass.seat.me
+              new.seat.me) (sym did)
+              (loads_behind (help_loads z) links 0 v.renewal.loads pass.seat.me mid.seat.me
+              new.seat.me few l.quiet.lost l.quiet.same_turns i.loads);
           grown = looked_grown {T = Unit {0}} z adds (Ok tt) pass.seat.me mid.seat.me v known
               l.looking.known l.further l.quiet i.grown;
-          won = λ alone. subst (λ b'. HasWon b' u v) (sym did) (won_on true u w v (quiet_won pass.seat.me mid.seat.me l.quiet)
+          won = λ alone. subst (λ b'. HasWon b' u v) (sym did)
+              (won_on true u w v (quiet_won pass.seat.me mid.seat.me l.quiet)
               (i.won (alone_on z u w l.further.number alone)));
           cut = subst (λ b'. HasCutBehind b' z u.cuts v) (sym did)
               (looked_cut (λ (_ : Unit {0}). true) z adds (Ok tt) pass.seat.me mid.seat.me v
@@ -207,11 +220,13 @@ module _ {R : Type 0} {space : Space R TreeView} {key : List ℕ} {cursor : Curs
           counted = paid_looked r a.spent b.spent pass.seat.me mid.seat.me new.seat.me l.quiet
               i.counted;
           found = stopped_behind r pass.seat.me mid.seat.me new.seat.me l.quiet i.found;
-          loads = loads_behind (help_loads z) links (unpaid z r) (loads_until (λ (_ : Unit {0}). true) r v) pass.seat.me mid.seat.me new.seat.me few
+          loads = loads_behind (help_loads z) links (unpaid z r)
+              (loads_until (λ (_ : Unit {0}). true) r v) pass.seat.me mid.seat.me new.seat.me few
               l.quiet.lost l.quiet.same_turns i.loads;
           grown = looked_grown z adds r pass.seat.me mid.seat.me v known l.looking.known l.further
               l.quiet i.grown;
-          won = λ alone. won_behind (λ (_ : Unit {0}). true) r u w v (quiet_won pass.seat.me mid.seat.me l.quiet)
+          won = λ alone. won_behind (λ (_ : Unit {0}). true) r u w v
+              (quiet_won pass.seat.me mid.seat.me l.quiet)
               (i.won (alone_on z u w l.further.number alone));
           cut = looked_cut (λ (_ : Unit {0}). true) z adds r pass.seat.me mid.seat.me v l.quiet
               i.cut;
@@ -221,7 +236,8 @@ module _ {R : Type 0} {space : Space R TreeView} {key : List ℕ} {cursor : Curs
         → IsTurn {T = Unit {0}} (λ _. true) adds z t 0 a b met (Err why) mid.seat.me new.seat.me
         → (links : ℕ) → mid.seat.me.0.upper.loads ≤ pass.seat.me.0.upper.loads + links
         → IsTurn edits adds' z t links a b met (Err why) pass.seat.me new.seat.me
-    turn_halted why same i links few = let u = pass.seat.me.0.upper in let w = mid.seat.me.0.upper in
+    turn_halted why same i links few = let u = pass.seat.me.0.upper in
+        let w = mid.seat.me.0.upper in
         let v = new.seat.me.0.upper in record {
           met_as = tt;
           gone_on = gone_after edits z t a.adapting b.adapting (Err why) u w v l.quiet.idle
@@ -230,7 +246,8 @@ module _ {R : Type 0} {space : Space R TreeView} {key : List ℕ} {cursor : Curs
               i.counted;
           found = stopped_behind {T = T} (Err why) pass.seat.me mid.seat.me new.seat.me l.quiet
               i.found;
-          loads = loads_behind (help_loads z) links (unpaid_by z why) v.loads pass.seat.me mid.seat.me new.seat.me few l.quiet.lost l.quiet.same_turns
+          loads = loads_behind (help_loads z) links (unpaid_by z why) v.loads pass.seat.me
+              mid.seat.me new.seat.me few l.quiet.lost l.quiet.same_turns
               i.loads;
           grown = looked_grown {T = T} z adds' (Err why) pass.seat.me mid.seat.me v known
               l.looking.known l.further l.quiet

@@ -73,16 +73,24 @@ anew m k n told moment out in_ = subst (λ (x : MyTree). n ≡ announced told mo
 
 module _ {R : Type 0} (space : Space R TreeView) (pass new : Pass R TreeView) where
   -- A pass that pinned may begin an attempt, at the root.
-  pub may_pinned : (key : List ℕ) (pin : Pin) (notes : List Note) (ways : List Way) (ranges : KnownRanges)
-      → IsOn space pass → IsNumbered pass.number pass.seat.me.0.pin → 0 < pass.seat.me.0.upper.number
-      → AreHeld space.table.shared.key.rows pass.kept.rows pass.seat.me.0 [] → pass.seat.me.0.upper.ranges.own ≡ Quiet → IsKnown space.table.shared.key pass.seat.me.0.upper
-      → IsTallied pass.tally pass.seat.me.0.upper → IsSame pass.seat new.seat → new.number ≡ pass.number
+  pub may_pinned : (key : List ℕ) (pin : Pin) (notes : List Note) (ways : List Way)
+      (ranges : KnownRanges)
+      → IsOn space pass → IsNumbered pass.number pass.seat.me.0.pin
+      → 0 < pass.seat.me.0.upper.number
+      → AreHeld space.table.shared.key.rows pass.kept.rows pass.seat.me.0 []
+      → pass.seat.me.0.upper.ranges.own ≡ Quiet → IsKnown space.table.shared.key
+      pass.seat.me.0.upper
+      → IsTallied pass.tally pass.seat.me.0.upper → IsSame pass.seat new.seat
+      → new.number ≡ pass.number
       → new.kept ≡ pass.kept → new.tally ≡ pass.tally → pin.pinned ≡ true
       → pin.number ≡ pass.seat.me.0.pin.number → ranges.unfinished ≡ [] → ranges.own ≡ Quiet
       → pass.number ≡ pass.seat.me.0.upper.number
-      → new.seat.me ≡ moved pass.seat.me pin pass.seat.me.0.upper.seen notes ways ranges → MayBegin space key None false new
-  may_pinned key pin notes ways ranges own numbered some none was_quiet known tallied same number kept tally is_pinned
-      pin_number unmet quiet is_number is = let now : IsKnown space.table.shared.key new.seat.me.0.upper = subst
+      → new.seat.me ≡ moved pass.seat.me pin pass.seat.me.0.upper.seen notes ways ranges
+      → MayBegin space key None false new
+  may_pinned key pin notes ways ranges own numbered some none was_quiet known tallied same number
+      kept tally is_pinned
+      pin_number unmet quiet is_number is =
+      let now : IsKnown space.table.shared.key new.seat.me.0.upper = subst
       (λ (x : MyTree). IsKnown space.table.shared.key x.0.upper) (sym is)
       record {
         lawful =
@@ -98,7 +106,8 @@ module _ {R : Type 0} (space : Space R TreeView) (pass new : Pass R TreeView) wh
               (ap (λ (x : MyTree). x.0.pin.number) is ∙ pin_number) numbered;
           pinned = ap (λ (x : MyTree). x.0.pin.pinned) is ∙ is_pinned;
           number = subst (λ (x : MyTree). 0 < x.0.upper.number) (sym is) some;
-          none = held_looked space.table.shared.key.rows pass.kept new.kept pass.seat.me new.seat.me [] none kept
+          none = held_looked space.table.shared.key.rows pass.kept new.kept pass.seat.me new.seat.me
+              [] none kept
               (ap (λ (x : MyTree). x.0.claims) is) (ap (λ (x : MyTree). x.0.most) is)
               (ap (λ (x : MyTree). x.0.upper.ranges.own) is ∙ (quiet ∙ sym was_quiet));
         };
@@ -126,25 +135,30 @@ module _ {R : Type 0} (space : Space R TreeView) (pass new : Pass R TreeView) wh
       may_pinned key (announced told moment pass.seat.me).0.pin [] []
       (announced told moment pass.seat.me).0.upper.ranges r.of
       r.numbered (subst (λ n. 0 < n) (sym r.same_number) r.numbered.1)
-      (holds_none space.table.shared.table_id space.table.shared.key pass.number pass.kept.rows pass.seat r) r.quiet r.known
+      (holds_none space.table.shared.table_id space.table.shared.key pass.number pass.kept.rows
+      pass.seat r) r.quiet r.known
       r.tallied same number kept tally refl refl refl (ap left_over r.quiet) (sym r.same_number) is
 
   -- So may one that pinned anew.
-  pub may_anew : {before marked : _} (key : List ℕ) (told moment : ℕ) → MayBegin space key before marked pass
+  pub may_anew : {before marked : _} (key : List ℕ) (told moment : ℕ)
+      → MayBegin space key before marked pass
       → IsSame pass.seat new.seat → new.number ≡ pass.number → new.kept ≡ pass.kept
       → new.tally ≡ pass.tally → new.seat.me ≡ announced told moment (left pass.seat.me)
       → MayBegin space key None false new
   may_anew key told moment may same number kept tally is =
       may_pinned key (announced told moment (left pass.seat.me)).0.pin [] []
       (announced told moment (left pass.seat.me)).0.upper.ranges may.ready.own
-      may.ready.numbered may.ready.number may.ready.none may.idle.quiet may.known may.tallied same number kept
+      may.ready.numbered may.ready.number may.ready.none may.idle.quiet may.known may.tallied same
+      number kept
       tally refl refl refl (ap left_over (ap left_over may.idle.quiet)) may.idle.number is
 
   -- What it knows is what it knew, but for the pin.
-  pub goes_anew : {before marked : _} (key : List ℕ) (told moment : ℕ) → MayBegin space key before marked pass
+  pub goes_anew : {before marked : _} (key : List ℕ) (told moment : ℕ)
+      → MayBegin space key before marked pass
       → IsSame pass.seat new.seat → new.number ≡ pass.number → new.kept ≡ pass.kept
       → new.seat.me ≡ announced told moment (left pass.seat.me) → GoesOn pass new
-  goes_anew key told moment may same number kept is = let pin = (announced told moment (left pass.seat.me)).0.pin in
+  goes_anew key told moment may same number kept is = let pin =
+      (announced told moment (left pass.seat.me)).0.pin in
       let seen = pass.seat.me.0.upper.seen in
       let ranges = (announced told moment (left pass.seat.me)).0.upper.ranges in record {
         same = same;
@@ -159,7 +173,8 @@ module _ {R : Type 0} (space : Space R TreeView) (pass new : Pass R TreeView) wh
         since = subst
             (λ (x : MyTree). IsFurther (at_pin pass.seat.me.0.upper) (at_pin x.0.upper)) (sym is)
             record { number = refl; seen = may.asking.before; log = refl; counts = refl };
-        pinned = λ m x. pinned_both m pass.seat.me new.seat.me x (pinned_once pass.seat.me new.seat.me
+        pinned = λ m x. pinned_both m pass.seat.me new.seat.me x
+            (pinned_once pass.seat.me new.seat.me
             (ap (λ (y : MyTree). y.0.pin.lags) is) (ap (λ (y : MyTree). y.0.pin.looks) is)
             (ap (λ (y : MyTree). y.0.pin.entered.lags) is)
             (ap (λ (y : MyTree). y.0.pin.begun_at) is) (ap (λ (y : MyTree). y.0.pin.begun) is));
@@ -194,7 +209,8 @@ goes_still pass same = let u = pass.seat.me.0.upper in record {
 }
 
 -- What was seen as the pass pinned is what had been seen before.
-pub first_since : (k m : MyTree) (pin : Pin) (notes : List Note) (ways : List Way) (ranges : KnownRanges)
+pub first_since : (k m : MyTree) (pin : Pin) (notes : List Note) (ways : List Way)
+    (ranges : KnownRanges)
     → m ≡ moved k pin k.0.upper.seen notes ways ranges → IsFurther k.0.upper (at_pin m.0.upper)
 first_since k m pin notes ways ranges is = subst
     (λ (x : MyTree). IsFurther k.0.upper (at_pin x.0.upper)) (sym is)

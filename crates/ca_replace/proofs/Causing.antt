@@ -118,7 +118,8 @@ caused_as z number budget adds tried r now m m' kept kept' refused e =
 
 -- What was added up is less than the budget, and so are the exchanges that were lost and the
 -- splits.
-pub unspent : (budget : ℕ) (now : Spent) (m m' : MyTree) → HasSpentInAll now m m' → total now < budget
+pub unspent : (budget : ℕ) (now : Spent) (m m' : MyTree) → HasSpentInAll now m m'
+    → total now < budget
     → IsUnspent budget m m'
 unspent budget now m m' paid room = let none = paid.none in let counted = paid.counted in
     let zero = none.0 in let zero' = none.1 in let zero'' = none.2 in
@@ -225,12 +226,16 @@ deep_adds {T} z number budget adds why o m m' kept kept' is h = subst
     by (cause.Worn counter) h = tt
 
 -- One that is busy spent its budget.
-pub busy_spent : {T : Type 0} (z : Sizes) (number budget : ℕ) (adds : Option (List ℕ)) (why : Cause) (o : Outcome T) (m m' : MyTree)
-    (kept kept' : Vec Kept Global) → o ≡ outcome_by why → IsCaused z number budget adds why m kept m' kept'
+pub busy_spent : {T : Type 0} (z : Sizes) (number budget : ℕ) (adds : Option (List ℕ)) (why : Cause)
+    (o : Outcome T) (m m' : MyTree)
+    (kept kept' : Vec Kept Global) → o ≡ outcome_by why → IsCaused z number budget adds why m kept
+    m' kept'
     → IfBusy o (λ spent. budget ≤ spent)
-busy_spent {T} z number budget adds why o m m' kept kept' is h = subst (λ (x : Outcome T). IfBusy x (λ spent. budget ≤ spent)) (sym is) (by why h)
+busy_spent {T} z number budget adds why o m m' kept kept' is h =
+    subst (λ (x : Outcome T). IfBusy x (λ spent. budget ≤ spent)) (sym is) (by why h)
   where
-    by : (why : Cause) → IsCaused z number budget adds why m kept m' kept' → IfBusy {T = T} (outcome_by why) (λ spent. budget ≤ spent)
+    by : (why : Cause) → IsCaused z number budget adds why m kept m' kept'
+        → IfBusy {T = T} (outcome_by why) (λ spent. budget ≤ spent)
     by (cause.Busy spent) h = h.0
     by (cause.Full full) h = tt
     by (cause.Deep level) h = tt

@@ -1,4 +1,5 @@
--- A command carries out one update at most; so a pass that is alone finds its space short of rows only behind many commands, or where it has few.
+-- A command carries out one update at most; so a pass that is alone finds its space short of rows
+-- only behind many commands, or where it has few.
 use Rattle.std.proofs.Common.{◌≡◌, ◌⊎◌, ℕ, zero, suc, ◌+◌, ◌≤◌, List, Bool, true, false, ap, ◌∙◌, ⊎_elim, arith}
 use Rattle.std.specs.declared.option.Option.{Option}
 use Rattle.ca_adapt.specs.declared.tuning.Tuning.{Tuning}
@@ -16,7 +17,8 @@ use Rattle.ca_replace.specs.TreePromises.{MakesNoUpdate}
 use Rattle.ca_replace.proofs.Levels.{reads_none, reads_of, reads_on, splits_then}
 
 -- It carried out no update; any call carried out one at most.
-no_update : {T : Type 0} (edits : T → Bool) (z : Sizes) (tuning : Tuning) (last last' : Last) (o : Outcome T) (u v : TreeView)
+no_update : {T : Type 0} (edits : T → Bool) (z : Sizes) (tuning : Tuning) (last last' : Last)
+    (o : Outcome T) (u v : TreeView)
     → ¬ IsDone o → LeavesInCall edits z tuning last last' o u v → v.renewal ≡ u.renewal
 no_update edits z tuning last last' (outcome.Done x) u v none h = absurd (none tt)
 no_update edits z tuning last last' (outcome.Busy spent) u v none h = h.1
@@ -27,15 +29,22 @@ no_update edits z tuning last last' (outcome.Worn counter) u v none h = h.1
 updates_by : (edits : Bool) (z : Sizes) (tuning : Tuning) (last last' : Last) (u v : TreeView)
     → Leaves edits z tuning last last' u v → v.renewal.count ≤ u.renewal.count + 1
 updates_by true z tuning last last' u v h = let one = h.one_more in omega arith
-updates_by false z tuning last last' u v h = let same = ap (λ (r : Renewal). r.count) h.1 in omega arith
+updates_by false z tuning last last' u v h = let same = ap (λ (r : Renewal). r.count) h.1 in
+    omega arith
 
-one_update : {T : Type 0} (edits : T → Bool) (z : Sizes) (tuning : Tuning) (last last' : Last) (o : Outcome T) (u v : TreeView)
+one_update : {T : Type 0} (edits : T → Bool) (z : Sizes) (tuning : Tuning) (last last' : Last)
+    (o : Outcome T) (u v : TreeView)
     → LeavesInCall edits z tuning last last' o u v → v.renewal.count ≤ u.renewal.count + 1
-one_update edits z tuning last last' (outcome.Done x) u v h = updates_by (edits x) z tuning last last' u v h
-one_update edits z tuning last last' (outcome.Busy spent) u v h = updates_by false z tuning last last' u v h
-one_update edits z tuning last last' (outcome.Full full) u v h = updates_by false z tuning last last' u v h
-one_update edits z tuning last last' (outcome.Deep level) u v h = updates_by false z tuning last last' u v h
-one_update edits z tuning last last' (outcome.Worn counter) u v h = updates_by false z tuning last last' u v h
+one_update edits z tuning last last' (outcome.Done x) u v h = updates_by (edits x) z tuning last
+    last' u v h
+one_update edits z tuning last last' (outcome.Busy spent) u v h = updates_by false z tuning last
+    last' u v h
+one_update edits z tuning last last' (outcome.Full full) u v h = updates_by false z tuning last
+    last' u v h
+one_update edits z tuning last last' (outcome.Deep level) u v h = updates_by false z tuning last
+    last' u v h
+one_update edits z tuning last last' (outcome.Worn counter) u v h = updates_by false z tuning last
+    last' u v h
 
 -- No update was carried out, or so many, at most.
 abbrev IsUnrenewed : StoreView → StoreView → Type 0
@@ -51,10 +60,13 @@ counted_then : (s u t : StoreView) (n : ℕ) → Updates n s u → IsUnrenewed u
 counted_then s u t n few same = let count = ap (λ (r : Renewal). r.count) same in omega arith
 
 -- Calls that may edit.
-refused_by : {T : Type 0} (adds : Option (List ℕ)) (s t : StoreView) → HasAnswered Refused adds s t T → IsUnrenewed s t
-refused_by adds s t h = no_update h.2 s.z s.tuning s.last t.last h.0 s.seat.me.0.upper t.seat.me.0.upper h.1 h.4.adapted
+refused_by : {T : Type 0} (adds : Option (List ℕ)) (s t : StoreView) → HasAnswered Refused adds s t
+    T → IsUnrenewed s t
+refused_by adds s t h = no_update h.2 s.z s.tuning s.last t.last h.0 s.seat.me.0.upper
+    t.seat.me.0.upper h.1 h.4.adapted
 
-was_refused : (adds : Option (List ℕ)) (s t : StoreView) → HasCalled Refused adds s t → IsUnrenewed s t
+was_refused : (adds : Option (List ℕ)) (s t : StoreView) → HasCalled Refused adds s t
+    → IsUnrenewed s t
 was_refused adds s t h = ⊎_elim
     (λ (c : HasAnswered Refused adds s t (Unit {0})). refused_by adds s t c)
     (λ (o : HasAnswered Refused adds s t Bool ⊎ HasAnswered Refused adds s t Changed). ⊎_elim
@@ -63,8 +75,10 @@ was_refused adds s t h = ⊎_elim
     o)
     h
 
-called_by : {T : Type 0} (adds : Option (List ℕ)) (s t : StoreView) → HasAnswered Any adds s t T → Updates 1 s t
-called_by adds s t h = one_update h.2 s.z s.tuning s.last t.last h.0 s.seat.me.0.upper t.seat.me.0.upper h.4.adapted
+called_by : {T : Type 0} (adds : Option (List ℕ)) (s t : StoreView) → HasAnswered Any adds s t T
+    → Updates 1 s t
+called_by adds s t h = one_update h.2 s.z s.tuning s.last t.last h.0 s.seat.me.0.upper
+    t.seat.me.0.upper h.4.adapted
 
 called : (adds : Option (List ℕ)) (s t : StoreView) → HasCalled Any adds s t → Updates 1 s t
 called adds s t h = ⊎_elim
@@ -78,16 +92,20 @@ called adds s t h = ⊎_elim
 -- Tries.
 one_try : (adds : Option (List ℕ)) (s t : StoreView) → IsTry adds s t → IsUnrenewed s t
 one_try adds s t h = ⊎_elim (λ (read : HasReadFor adds s t). (reads_of adds s t read).unrenewed)
-    (λ (c : HasReadAndCalled Refused adds s t). was_refused adds c.0 t c.2 ∙ (reads_of adds s c.0 c.1).unrenewed) h
+    (λ (c : HasReadAndCalled Refused adds s t). was_refused adds c.0 t c.2
+    ∙ (reads_of adds s c.0 c.1).unrenewed) h
 
-tried : (tries : ℕ) (adds : Option (List ℕ)) (s t : StoreView) → HasTried tries adds s t → IsUnrenewed s t
+tried : (tries : ℕ) (adds : Option (List ℕ)) (s t : StoreView) → HasTried tries adds s t
+    → IsUnrenewed s t
 tried zero adds s t is = ap (λ (v : StoreView). v.seat.me.0.upper.renewal) is
 tried (suc tries) adds s t h = one_try adds h.0 t h.2 ∙ tried tries adds s h.0 h.1
 
 last_try : (adds : Option (List ℕ)) (s t : StoreView) → IsLastTry adds s t → Updates 1 s t
 last_try adds s t h = ⊎_elim
-    (λ (read : MakesNoUpdate s t). let same = ap (λ (r : Renewal). r.count) read.unrenewed in omega arith)
-    (λ (c : HasReadAndCalled Any adds s t). counted s c.0 t 1 (reads_of adds s c.0 c.1).unrenewed (called adds c.0 t c.2)) h
+    (λ (read : MakesNoUpdate s t). let same = ap (λ (r : Renewal). r.count) read.unrenewed in
+    omega arith)
+    (λ (c : HasReadAndCalled Any adds s t). counted s c.0 t 1 (reads_of adds s c.0 c.1).unrenewed
+    (called adds c.0 t c.2)) h
 
 answered : (adds : Option (List ℕ)) (s t : StoreView) → HasBeenAnswered adds s t → Updates 1 s t
 answered adds s t h = counted s h.1 t 1 (tried h.0 adds s h.1 h.2) (last_try adds h.1 t h.3)
@@ -99,23 +117,29 @@ update_by_commands (suc commands) s t h = let few = update_by_commands commands 
     let one = counted_then h.1 h.2 t 1 (answered h.0 h.1 h.2 h.4) h.5.unrenewed in omega arith
 
 -- As a command is tried no more updates were carried out than by those before it.
-updates_then : (commands tries : ℕ) (s t v w : StoreView) (adds : Option (List ℕ)) → HasPlayed commands s t → HasTried tries adds t v
+updates_then : (commands tries : ℕ) (s t v w : StoreView) (adds : Option (List ℕ))
+    → HasPlayed commands s t → HasTried tries adds t v
     → HasReadFor adds v w → Updates commands s w
-updates_then commands tries s t v w adds before refused read = counted_then s t w commands (update_by_commands commands s t before)
+updates_then commands tries s t v w adds before refused read = counted_then s t w commands
+    (update_by_commands commands s t before)
     ((reads_of adds v w read).unrenewed ∙ tried tries adds t v refused)
 
 -- The space has few rows, where it is short of them then.
 pub full_late : FullComesLate
 full_late commands tries s t v w adds one none unrenewed before refused read short =
-    let grew = splits_then commands tries s t v w adds one before refused read in let cuts = grew.1 in
+    let grew = splits_then commands tries s t v w adds one before refused read in
+    let cuts = grew.1 in
     let updates = updates_then commands tries s t v w adds before refused read in
-    let same = ap (λ (z : Sizes). z.rows) grew.0.sizes in let rows = short.0 in let linked = short.1.0 in let bases = short.1.1 in omega arith
+    let same = ap (λ (z : Sizes). z.rows) grew.0.sizes in let rows = short.0 in
+    let linked = short.1.0 in let bases = short.1.1 in omega arith
 
 -- Commands that are followed by a read, or by one more.
-pub plays_read : (commands : ℕ) (s u t : StoreView) → HasPlayed commands s u → MakesNoUpdate u t → HasPlayed commands s t
+pub plays_read : (commands : ℕ) (s u t : StoreView) → HasPlayed commands s u → MakesNoUpdate u t
+    → HasPlayed commands s t
 plays_read zero s u t h read = reads_on s u t h read
 plays_read (suc commands) s u t h read = (h.0, h.1, h.2, h.3, h.4, reads_on h.2 u t h.5 read)
 
-pub plays_more : (commands : ℕ) (adds : Option (List ℕ)) (s u t : StoreView) → HasPlayed commands s u → HasBeenAnswered adds u t
+pub plays_more : (commands : ℕ) (adds : Option (List ℕ)) (s u t : StoreView)
+    → HasPlayed commands s u → HasBeenAnswered adds u t
     → HasPlayed (suc commands) s t
 plays_more commands adds s u t before h = (adds, u, t, before, h, reads_none t)

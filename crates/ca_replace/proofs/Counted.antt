@@ -39,7 +39,8 @@ met_then (Err why) k m n a more on help b = halted_then why k m n a more on help
 -- An attempt after which another one may follow met nothing; an exchange was lost, or the pass
 -- passed on, or a turn was spent.
 next_met : (why : Halt) (m m' : MyTree) → MayFollow why → HasHalted why m m'
-    → HasMet 0 0 m m' × ((losses m < losses m') ⊎ (passes m < passes m') ⊎ (turns_at m < turns_at m'))
+    → HasMet 0 0 m m' × ((losses m < losses m') ⊎ (passes m < passes m')
+    ⊎ (turns_at m < turns_at m'))
 next_met (halt.Stopped (stop.Lost x)) m m' next h = (h.1, inl h.0)
 next_met (halt.Stopped stop.Empty) m m' next h = absurd next
 next_met (halt.Stopped stop.Worn) m m' next h = absurd next
@@ -48,7 +49,8 @@ next_met halt.Split m m' next h = (h.0, inr (inl h.1))
 next_met halt.Helped m m' next h = (h.0, inr (inr h.1))
 
 pub met_turn : {T : Type 0} (r : Result T Halt) (m m' : MyTree) → HasNext r → HasStopped r m m'
-    → HasMet 0 0 m m' × ((losses m < losses m') ⊎ (passes m < passes m') ⊎ (turns_at m < turns_at m'))
+    → HasMet 0 0 m m' × ((losses m < losses m') ⊎ (passes m < passes m')
+    ⊎ (turns_at m < turns_at m'))
 met_turn (Ok x) m m' next h = absurd next
 met_turn (Err why) m m' next h = next_met why m m' next h
 
@@ -80,7 +82,8 @@ rises_both a b c k m n x y = let up = x.more in let up' = y.more in record {
   now_is = λ fits. let one = x.now_is fits in let two = y.now_is (omega arith) in omega arith;
 }
 
-but_both : (a b c : Spent) (k m n : MyTree) → IsPaidBut a b k m → IsPaidBut b c m n → IsPaidBut a c k n
+but_both : (a b c : Spent) (k m n : MyTree) → IsPaidBut a b k m → IsPaidBut b c m n
+    → IsPaidBut a c k n
 but_both a b c k m n x y = record {
   more_helped = let one = x.more_helped in let two = y.more_helped in omega arith;
   lost = rises_both a.lost b.lost c.lost (losses k) (losses m) (losses n) x.lost y.lost;
@@ -88,23 +91,28 @@ but_both a b c k m n x y = record {
 }
 
 -- So it is by what an attempt comes to: with what was paid before it, or behind it.
-pub paid_to : {T E : Type 0} (r : Result T E) (a b : Spent) (m m' : MyTree) → IsPaid a b m m' → IsPaidTo r a b m m'
+pub paid_to : {T E : Type 0} (r : Result T E) (a b : Spent) (m m' : MyTree) → IsPaid a b m m'
+    → IsPaidTo r a b m m'
 paid_to (Ok x) a b m m' h = paid_but a b m m' h
 paid_to (Err why) a b m m' h = h
 
-pub paid_before : {T E : Type 0} (r : Result T E) (a b c : Spent) (k m n : MyTree) → IsPaid a b k m → IsPaidTo r b c m n → IsPaidTo r a c k n
+pub paid_before : {T E : Type 0} (r : Result T E) (a b c : Spent) (k m n : MyTree) → IsPaid a b k m
+    → IsPaidTo r b c m n → IsPaidTo r a c k n
 paid_before (Ok x) a b c k m n h t = but_both a b c k m n (paid_but a b k m h) t
 paid_before (Err why) a b c k m n h t = paid_both a b c k m n h t
 
-pub paid_after : {T E : Type 0} (r : Result T E) (a b c : Spent) (k m n : MyTree) → IsPaidTo r a b k m → IsPaid b c m n → IsPaidTo r a c k n
+pub paid_after : {T E : Type 0} (r : Result T E) (a b c : Spent) (k m n : MyTree)
+    → IsPaidTo r a b k m → IsPaid b c m n → IsPaidTo r a c k n
 paid_after (Ok x) a b c k m n t h = but_both a b c k m n t (paid_but b c m n h)
 paid_after (Err why) a b c k m n t h = paid_both a b c k m n t h
 
-pub paid_stopped : {T E : Type 0} (r : Result T E) (why : E) (a b : Spent) (m m' : MyTree) → r ≡ Err why → IsPaidTo r a b m m' → IsPaid a b m m'
+pub paid_stopped : {T E : Type 0} (r : Result T E) (why : E) (a b : Spent) (m m' : MyTree)
+    → r ≡ Err why → IsPaidTo r a b m m' → IsPaid a b m m'
 paid_stopped {T} {E} r why a b m m' e h = subst (λ (x : Result T E). IsPaidTo x a b m m') e h
 
 -- An attempt behind which another one may follow did not do the call.
-pub paid_turn : {T : Type 0} (r : Result T Halt) (a b : Spent) (m m' : MyTree) → HasNext r → IsPaidTo r a b m m' → IsPaid a b m m'
+pub paid_turn : {T : Type 0} (r : Result T Halt) (a b : Spent) (m m' : MyTree) → HasNext r
+    → IsPaidTo r a b m m' → IsPaid a b m m'
 paid_turn (Ok x) a b m m' next h = absurd next
 paid_turn (Err why) a b m m' next h = h
 
@@ -122,8 +130,10 @@ none_paid a m m' same turns = let pass = ap (λ (t : Turns). t.passed) turns in
     }
 
 -- An entry in the log costs nothing.
-pub paid_entered : (a : Spent) (m m' : MyTree) (event : Event) → IsEntered event m m' → IsPaid a a m m'
-paid_entered a m m' event e = none_paid a m m' (ap losses e.now) (ap (λ (x : MyTree). x.0.upper.turns) e.now)
+pub paid_entered : (a : Spent) (m m' : MyTree) (event : Event) → IsEntered event m m'
+    → IsPaid a a m m'
+paid_entered a m m' event e = none_paid a m m' (ap losses e.now)
+    (ap (λ (x : MyTree). x.0.upper.turns) e.now)
 
 -- Exchanges alone were lost, and no other turn was taken.
 pub paid_of : (a b : Spent) (m m' : MyTree) → IsSpent a b m m'
@@ -152,7 +162,8 @@ one_turn_less a b budget m m' room most paid more = let sum = paid.lost (omega a
     (λ (o : (passes m < passes m') ⊎ (turns_at m < turns_at m')). ⊎_elim
     (λ (l : passes m < passes m'). let less : budget - total b < budget - total a = omega arith in
     less)
-    (λ (l : turns_at m < turns_at m'). let less : budget - total b < budget - total a = omega arith in
+    (λ (l : turns_at m < turns_at m'). let less : budget - total b < budget - total a =
+    omega arith in
     less) o) more
 
 -- What was spent doesn't fall.

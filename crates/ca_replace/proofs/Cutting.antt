@@ -176,7 +176,8 @@ tried_cut met z adds event edit word (Err why) u w v h renewed then
 
 -- So it is with what its exchange and what followed it came to, given that the pass knew as much of
 -- the tree at first as this one.
-pub settled_cut : {z : Sizes} {t : Tuning} {tried : Result (Unit {0}) Stop} {r : Result (Unit {0}) Halt}
+pub settled_cut : {z : Sizes} {t : Tuning} {tried : Result (Unit {0}) Stop}
+    {r : Result (Unit {0}) Halt}
     {a b : Adapting} {k m m' m'' : MyTree}
     (s : IsSettling z t tried r a b k m m' m'') (adds : Option (List ℕ))
     → HasCutDue z m'.0.upper.cuts m''.0.upper
@@ -221,7 +222,8 @@ pub cut_unpinned : {T : Type 0} (edits : T → Bool) (z : Sizes) (adds : Option 
 cut_unpinned {T} edits z adds r u v w same h = subst
     (λ (x : TreeView). HasCut edits z adds r u x) (sym same) (by r h)
   where
-    if_edits : (edited : Bool) → HasCutBehind edited z u.cuts v → HasCutBehind edited z u.cuts (unpinned v)
+    if_edits : (edited : Bool) → HasCutBehind edited z u.cuts v → HasCutBehind edited z u.cuts
+        (unpinned v)
     if_edits true h = h
     if_edits false h = h
 
@@ -267,7 +269,8 @@ cuts_so_far {T} {E} edits z adds r u w v before h = by r h
     if_edits true h = (h.0, full_both z adds u.cuts w.cuts h.0 before h.1, h.2)
     if_edits false h = full_both z adds u.cuts w.cuts v.cuts before h
 
-    by : (r : Result T E) → HasCutInAttempts edits z adds r w v → HasCutInAttempts edits z adds r u v
+    by : (r : Result T E) → HasCutInAttempts edits z adds r w v → HasCutInAttempts edits z adds r u
+        v
     by (Ok x) h = if_edits (edits x) h
     by (Err why) h = full_both z adds u.cuts w.cuts v.cuts before h
 

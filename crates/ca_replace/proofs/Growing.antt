@@ -503,7 +503,8 @@ one_more_attempt {T} tells z adds (Err why) u w v k l f before tried h a =
 pub has_waited : {T E : Type 0} (z : Sizes) (adds : Option (List ℕ)) (r : Result T E) (why : E)
     (u v : TreeView) → r ≡ Err why → HasGrownInAttempts z adds r u v
     → HasWaited z adds u v
-has_waited {T} {E} z adds r why u v e h = subst (λ (x : Result T E). HasGrownInAttempts z adds x u v) e h
+has_waited {T} {E} z adds r why u v e h = subst (λ (x : Result T E). HasGrownInAttempts z adds x u
+    v) e h
 
 pub turn_waited : {T : Type 0} (z : Sizes) (adds : Option (List ℕ)) (r : Result T Halt)
     (u v : TreeView) → HasNext r → HasGrownInAttempts z adds r u v → HasWaited z adds u v
@@ -570,12 +571,15 @@ grown_refused {T} z adds tried r spent levels u w v same is h = subst
     by (Err why) h = h
 
 -- One that is refused is counted then.
-pub refused_grows : {T : Type 0} (z : Sizes) (adds : Option (List ℕ)) (counts : Counts) (why : Cause)
-    (o : Outcome T) (u : TreeView) (m m' : MyTree) → o ≡ outcome_by why → HasWaited z adds u m.0.upper
+pub refused_grows : {T : Type 0} (z : Sizes) (adds : Option (List ℕ)) (counts : Counts)
+    (why : Cause)
+    (o : Outcome T) (u : TreeView) (m m' : MyTree) → o ≡ outcome_by why
+    → HasWaited z adds u m.0.upper
     → m' ≡ with_upper m (record m.0.upper { counts = counts }) → GrowsInCall z adds o u m'.0.upper
 refused_grows {T} z adds counts why o u m m' is h now = subst
     (λ (x : Outcome T). GrowsInCall z adds x u m'.0.upper) (sym is)
-    (subst (λ (x : MyTree). GrowsInCall {T = T} z adds (outcome_by why) u x.0.upper) (sym now) (by why))
+    (subst (λ (x : MyTree). GrowsInCall {T = T} z adds (outcome_by why) u x.0.upper) (sym now)
+    (by why))
   where
     waited : HasWaited z adds u (record m.0.upper { counts = counts })
     waited = ⊎_elim (λ (same : IsSameTree u m.0.upper). inl (same.0, same.1))
@@ -591,7 +595,8 @@ refused_grows {T} z adds counts why o u m m' is h now = subst
         ))
         h
 
-    by : (why : Cause) → GrowsInCall {T = T} z adds (outcome_by why) u (record m.0.upper { counts = counts })
+    by : (why : Cause) → GrowsInCall {T = T} z adds (outcome_by why) u
+        (record m.0.upper { counts = counts })
     by (cause.Busy spent) = waited
     by (cause.Full full) = waited
     by (cause.Deep level) = waited

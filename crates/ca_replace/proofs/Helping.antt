@@ -1,4 +1,5 @@
--- What an attempt comes to that helped another pass's range in place of its edit, or gave up or carried out an attempt to join.
+-- What an attempt comes to that helped another pass's range in place of its edit, or gave up or
+-- carried out an attempt to join.
 use Rattle.std.proofs.Common.{◌≡◌, ◌≢◌, ℕ, ◌+◌, true, false, List, Option, Result, Ok, Err, OnOk, refl, ap, inl, inr, arith}
 use Rattle.ca_adapt.specs.declared.tuning.Tuning.{Tuning}
 use Rattle.ca_base.specs.declared.stop.Exchange.TheVariants as exchange
@@ -61,7 +62,8 @@ halted_by helped.NoRow m m' h = h
 halted_by (helped.Worn counter) m m' h = h
 
 -- No base was split.
-cut_by : {T : Type 0} (edits : T → _) (z : Sizes) (adds : Option (List ℕ)) (how : Helped) (u v : TreeView) → v.cuts ≡ u.cuts
+cut_by : {T : Type 0} (edits : T → _) (z : Sizes) (adds : Option (List ℕ)) (how : Helped)
+    (u v : TreeView) → v.cuts ≡ u.cuts
     → HasCut edits z adds (Err (helped_to how)) u v
 cut_by edits z adds helped.Finished u v h = h
 cut_by edits z adds (helped.Lost exchange) u v h = h
@@ -70,7 +72,8 @@ cut_by edits z adds helped.NoRow u v h = h
 cut_by edits z adds (helped.Worn counter) u v h = h
 
 -- Whether an exchange of a link was lost is kept.
-lost_since : (how : Helped) (a : Adapting) (few many : ℕ) → many ≡ few + links_lost how → HasLostSince a.lost (noted_help how a).lost few many
+lost_since : (how : Helped) (a : Adapting) (few many : ℕ) → many ≡ few + links_lost how
+    → HasLostSince a.lost (noted_help how a).lost few many
 lost_since helped.Finished a few many is = inl (refl, omega arith)
 lost_since (helped.Lost exchange.Link) a few many is = inr (refl, omega arith)
 lost_since (helped.Lost exchange.Head) a few many is = inl (refl, omega arith)
@@ -87,18 +90,22 @@ same_last helped.NoRow a = refl
 same_last (helped.Worn counter) a = refl
 
 -- What was spent was added.
-paid_help : (a more : Spent) (m m' : MyTree) → IsSpentOn none_spent more m m' → IsPaid a (paid a more) m m'
-paid_help a more m m' s = let x = s.lost.more in let y = s.helped.more in let w = s.passed.more in record {
-  more = s.lost.more;
-  lost = λ fits. let is = s.lost.now_is (omega arith) in omega arith;
-  more_helped = s.helped.more;
-  helped = λ fits. let is = s.helped.now_is (omega arith) in omega arith;
-  more_passed = s.passed.more;
-  passed = λ fits. let is = s.passed.now_is (omega arith) in omega arith;
-}
+paid_help : (a more : Spent) (m m' : MyTree) → IsSpentOn none_spent more m m'
+    → IsPaid a (paid a more) m m'
+paid_help a more m m' s = let x = s.lost.more in let y = s.helped.more in let w = s.passed.more in
+    record {
+      more = s.lost.more;
+      lost = λ fits. let is = s.lost.now_is (omega arith) in omega arith;
+      more_helped = s.helped.more;
+      helped = λ fits. let is = s.helped.now_is (omega arith) in omega arith;
+      more_passed = s.passed.more;
+      passed = λ fits. let is = s.passed.now_is (omega arith) in omega arith;
+    }
 
-module _ {R : Type 0} (space : Space R TreeView) (t : Tuning) (tells : Event → Type 0) (key : List ℕ) (adds : Option (List ℕ)) (a : Course) (how : Helped)
-    (spent : Spent) (pass new : Pass R TreeView) (h : HasHelpedWith space how spent pass new) (known : IsKnown space.table.shared.key pass.seat.me.0.upper) where
+module _ {R : Type 0} (space : Space R TreeView) (t : Tuning) (tells : Event → Type 0)
+    (key : List ℕ) (adds : Option (List ℕ)) (a : Course) (how : Helped)
+    (spent : Spent) (pass new : Pass R TreeView) (h : HasHelpedWith space how spent pass new)
+    (known : IsKnown space.table.shared.key pass.seat.me.0.upper) where
   abbrev u : TreeView
   u = pass.seat.me.0.upper
 
@@ -117,7 +124,8 @@ module _ {R : Type 0} (space : Space R TreeView) (t : Tuning) (tells : Event →
     counts = ap (λ (x : TreeView). x.counts) h.steps.only;
   }
 
-  pub edited_by_help : HasEdited space t tells key adds true a (course_helped how spent a) (Err (helped_to how)) pass new
+  pub edited_by_help : HasEdited space t tells key adds true a (course_helped how spent a)
+      (Err (helped_to how)) pass new
   edited_by_help = record {
     frame = h.frame;
     tried = (further, h.steps.known known);
@@ -136,6 +144,7 @@ module _ {R : Type 0} (space : Space R TreeView) (t : Tuning) (tells : Event →
       loads = loads_by_help space how spent pass new h;
       grown = λ alone. absurd (not_alone alone);
       won = λ alone. absurd (not_alone alone);
-      cut = cut_by (λ (_ : Unit {0}). true) space.table.shared.key adds how u v (ap (λ (x : TreeView). x.cuts) h.steps.only);
+      cut = cut_by (λ (_ : Unit {0}). true) space.table.shared.key adds how u v
+          (ap (λ (x : TreeView). x.cuts) h.steps.only);
     };
   }

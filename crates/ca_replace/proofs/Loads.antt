@@ -192,7 +192,8 @@ pub loads_last : {T : Type 0} (edits : T → Bool) (z : Sizes) (r : Result T Hal
 loads_last edits z r k m n before more yet h = all_paid z ((z.levels + 1) + unpaid z r)
     (loads_until edits r n.0.upper) k m n before more yet h
 
--- Before the attempts of a pin: each turn and each pin pays for as many links as an attempt that helps loads.
+-- Before the attempts of a pin: each turn and each pin pays for as many links as an attempt that
+-- helps loads.
 pub record HasLoadedYet (z : Sizes) (k m : MyTree) : Type 0 where
   pub pins : k.0.pin.pins ≤ m.0.pin.pins
   pub turns : turns_at k ≤ turns_at m

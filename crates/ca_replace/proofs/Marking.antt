@@ -22,7 +22,8 @@ use Rattle.ca_rows.specs.declared.tally.Tally.{Tally}
 use Rattle.ca_rows.specs.Passes.{KeepsList}
 
 -- The base is looked at still.
-looking_still : (z : Sizes) (key : List ℕ) (cursor : Cursor) (u : TreeView) (ranges : KnownRanges) → IsLooking z u key cursor
+looking_still : (z : Sizes) (key : List ℕ) (cursor : Cursor) (u : TreeView) (ranges : KnownRanges)
+    → IsLooking z u key cursor
     → IsLooking z (record u { ranges = ranges }) key cursor
 looking_still z key cursor u ranges l = record {
   readable = record {
@@ -50,7 +51,8 @@ looking_still z key cursor u ranges l = record {
 }
 
 -- Nothing was lost or counted.
-quiet_still : (m : MyTree) (ranges : KnownRanges) → IsQuiet m (with_upper m (record m.0.upper { ranges = ranges }))
+quiet_still : (m : MyTree) (ranges : KnownRanges)
+    → IsQuiet m (with_upper m (record m.0.upper { ranges = ranges }))
 quiet_still m ranges = record {
   lost = refl;
   met = none_met m;
@@ -62,31 +64,47 @@ quiet_still m ranges = record {
   same_cuts = refl;
 }
 
-module _ {R : Type 0} {pass new : Pass R TreeView} {marked : Bool} (keeps : KeepsList pass new) (l : LearnsOfRanges marked pass.seat.me new.seat.me) where
+module _ {R : Type 0} {pass new : Pass R TreeView} {marked : Bool} (keeps : KeepsList pass new)
+    (l : LearnsOfRanges marked pass.seat.me new.seat.me) where
   abbrev u : TreeView
   u = pass.seat.me.0.upper
 
   pub same_note : first_note new.seat.me.0.upper.notes ≡ first_note u.notes
   same_note = ap (λ (x : MyTree). first_note x.0.upper.notes) l.3
 
-  pub still_unmet : u.ranges.unfinished ≡ [] → marked ≡ false → new.seat.me.0.upper.ranges.unfinished ≡ u.ranges.unfinished
+  pub still_unmet : u.ranges.unfinished ≡ [] → marked ≡ false
+      → new.seat.me.0.upper.ranges.unfinished ≡ u.ranges.unfinished
   still_unmet none e = ap (λ (x : MyTree). x.0.upper.ranges.unfinished) l.3 ∙ (l.1 e ∙ sym none)
 
   -- It is a look, like one that a walk begins with.
-  pub marked_look : (space : Space R TreeView) (key : List ℕ) (cursor : Cursor) (found : Result ℕ ℕ) → IsLooking space.table.shared.key u key cursor
-      → IsPlace (map pair (first_note u.notes).objects) key found → IsUnanswered u → HasLooked space key cursor found pass new
+  pub marked_look : (space : Space R TreeView) (key : List ℕ) (cursor : Cursor) (found : Result ℕ ℕ)
+      → IsLooking space.table.shared.key u key cursor
+      → IsPlace (map pair (first_note u.notes).objects) key found → IsUnanswered u
+      → HasLooked space key cursor found pass new
   marked_look space key cursor found looking place unanswered = record {
     same = keeps.same;
     number = keeps.number;
-    tally = λ h. subst (λ (x : MyTree). IsTallied new.tally x.0.upper) (sym l.3) (subst (λ (t : Tally). IsTallied t u) (sym keeps.tally) h);
+    tally = λ h. subst (λ (x : MyTree). IsTallied new.tally x.0.upper) (sym l.3)
+        (subst (λ (t : Tally). IsTallied t u) (sym keeps.tally) h);
     kept = keeps.kept;
     own_range = ap (λ (x : MyTree). x.0.upper.ranges.own) l.3 ∙ l.2;
-    still = (ap (λ (x : MyTree). x.0.sizes) l.3, ap (λ (x : MyTree). x.0.pin) l.3, ap (λ (x : MyTree). x.0.claims) l.3);
+    still = (
+      ap (λ (x : MyTree). x.0.sizes) l.3,
+      ap (λ (x : MyTree). x.0.pin) l.3,
+      ap (λ (x : MyTree). x.0.claims) l.3,
+    );
     quiet = subst (IsQuiet pass.seat.me) (sym l.3) (quiet_still pass.seat.me l.0);
-    looking = subst (λ (x : MyTree). IsLooking space.table.shared.key x.0.upper key cursor) (sym l.3)
+    looking = subst (λ (x : MyTree). IsLooking space.table.shared.key x.0.upper key cursor)
+        (sym l.3)
         (looking_still space.table.shared.key key cursor u l.0 looking);
     place = subst (λ (n : Note). IsPlace (map pair n.objects) key found) (sym same_note) place;
-    further = subst (λ (x : MyTree). IsFurther u x.0.upper) (sym l.3) record { number = refl; seen = starts_whole u.seen; log = refl; counts = refl };
+    further = subst (λ (x : MyTree). IsFurther u x.0.upper) (sym l.3) record {
+      number = refl;
+      seen =
+          starts_whole u.seen;
+      log = refl;
+      counts = refl;
+    };
     since = ap (λ (x : MyTree). x.0.upper.since) l.3;
     unanswered = subst (λ (x : MyTree). IsUnanswered x.0.upper) (sym l.3) unanswered;
   }

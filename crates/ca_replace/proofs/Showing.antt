@@ -240,7 +240,8 @@ pub read_done : {T : Type 0} (tells : T → Event → Type 0) (z : Sizes) (u : T
     (m m' : MyTree) (x : T) (event : Event) → tells x event → IsFurther u m.0.upper
     → IsKnown z m.0.upper → length u.seen ≤ length m.0.upper.since → IsEntered event m m'
     → HasTriedTo tells z (Ok x) u m'.0.upper
-read_done tells z u m m' x event t f k before e = let d = entered_done z u m m' event f k before e in
+read_done tells z u m m' x event t f k before e = let d = entered_done z u m m' event f k before
+    e in
     ((event, t, d.0), d.1)
 
 -- A read of a key is done, after a walk to its base.

@@ -70,7 +70,8 @@ holds_none table z number kept seat r = (
     are_kept = r.are_kept;
     only = λ row c e. inl (r.only_keeps row c e);
     each = λ row i. absurd (in_nothing row [] refl i);
-    lends = λ row i. absurd (in_nothing row (lent_of seat.me.0.upper.ranges.own) (ap lent_of r.quiet) i);
+    lends = λ row i. absurd (in_nothing row (lent_of seat.me.0.upper.ranges.own)
+        (ap lent_of r.quiet) i);
   },
   r.few,
 )
@@ -133,7 +134,8 @@ attempted_as {T} tells z tried r spent levels u w v same is h = subst
 
 -- A pass of a space with rows that is for one pass knows that.
 pub is_lone : (z : Sizes) (m : MyTree) → m.0.sizes ≡ z → 0 < z.rows → z.passes ≡ 1 → IsOnly m
-is_lone z m same rows one = subst (λ (y : Sizes). (0 < y.rows) × (y.passes ≡ 1)) (sym same) (rows, one)
+is_lone z m same rows one = subst (λ (y : Sizes). (0 < y.rows) × (y.passes ≡ 1)) (sym same)
+    (rows, one)
 
 -- A pass that was pinned, tried, and unpinned rests again.
 pub rests_again : {tally tally' : Tally} (table : TableId) (z : Sizes) (number : ℕ)
@@ -158,7 +160,8 @@ pub rests_again : {tally tally' : Tally} (table : TableId) (z : Sizes) (number :
       two.me.1,
     )
     → (IsTallied tally seat.me.0.upper → IsTallied tally' two.me.0.upper)
-    → two.me.0.upper.ranges.own ≡ Quiet → (z.passes ≡ 1 → last.me.0.lost ≡ 0) → IsResting table z number tally' kept' last
+    → two.me.0.upper.ranges.own ≡ Quiet → (z.passes ≡ 1 → last.me.0.lost ≡ 0)
+    → IsResting table z number tally' kept' last
 rests_again {tally' = tally'} table z number kept kept' seat one two last r pin table_two work held
     known table_last unpin counted quiet unlost = record {
       quiet = ap (λ (m : MyTree). m.0.upper.ranges.own) unpin ∙ ap left_over quiet;
@@ -173,17 +176,22 @@ rests_again {tally' = tally'} table z number kept kept' seat one two last r pin 
         r.numbered.1,
         r.numbered.2,
       );
-      same_number = ap (λ (m : MyTree). m.0.upper.number) unpin ∙ (known.1 ∙ (pin.2 ∙ r.same_number));
+      same_number = ap (λ (m : MyTree). m.0.upper.number) unpin
+          ∙ (known.1 ∙ (pin.2 ∙ r.same_number));
       is_unpinned = ap (λ (m : MyTree). m.0.pin.pinned) unpin;
-      only_keeps = λ row c e. ⊎_elim (λ k. k) (λ is. ⊎_elim (λ (i : IsIn row []). absurd (in_nothing row [] refl i))
-          (λ (l : IsIn row (lent_of two.me.0.upper.ranges.own)). absurd (in_nothing row (lent_of two.me.0.upper.ranges.own) (ap lent_of quiet) l)) is)
+      only_keeps = λ row c e. ⊎_elim (λ k. k)
+          (λ is. ⊎_elim (λ (i : IsIn row []). absurd (in_nothing row [] refl i))
+          (λ (l : IsIn row (lent_of two.me.0.upper.ranges.own)). absurd
+          (in_nothing row (lent_of two.me.0.upper.ranges.own) (ap lent_of quiet) l)) is)
           (held.0.only row c (sym (ap (λ (m : MyTree). claim_of m.0.claims row) unpin) ∙ e));
-      are_kept = subst (λ (m : MyTree). AreKept z.rows m.0.claims kept') (sym unpin) held.0.are_kept;
+      are_kept = subst (λ (m : MyTree). AreKept z.rows m.0.claims kept') (sym unpin)
+          held.0.are_kept;
       few = subst
           (λ (m : MyTree). HoldsFew 0 m.0) (sym unpin)
           (record { now = held.1.now; ever = held.1.ever });
       known = subst
-          (λ (m : MyTree). IsKnown z m.0.upper) (sym unpin) (known_unpinned z two.me.0.upper known.0);
+          (λ (m : MyTree). IsKnown z m.0.upper) (sym unpin)
+          (known_unpinned z two.me.0.upper known.0);
       left_before = subst
           (λ (m : MyTree). m.0.pin.left.lost ≤ m.0.lost) (sym unpin) (le_refl two.me.0.lost);
       unlost = unlost;
@@ -242,13 +250,15 @@ rests_as table z number number' kept kept' seat a t b r = subst
 pub none_pinned : {tally : Tally} (table : TableId) (z : Sizes) (number : ℕ) (kept kept' : KeptRows)
     (seat one : MySeat) (e : Pin) (u : TreeView)
     → IsResting table z number tally kept.rows seat
-    → one.me ≡ (record seat.me.0 { pin = e; upper = u }, seat.me.1) → u.ranges.own ≡ Quiet → kept' ≡ kept
+    → one.me ≡ (record seat.me.0 { pin = e; upper = u }, seat.me.1) → u.ranges.own ≡ Quiet
+    → kept' ≡ kept
     → AreHeld z.rows kept'.rows one.me.0 []
 none_pinned table z number kept kept' seat one e u r is quiet same =
     let none = holds_none table z number kept.rows seat r in
     subst (λ (x : MyTree × KeptRows). AreHeld z.rows x.1.rows x.0.0 [])
     (λ i. (sym is i, sym same i)) (
-      subst (λ (own : Ranging). HasHeld z.rows kept.rows seat.me.0.claims (lent_of own) []) (r.quiet ∙ sym quiet) none.0,
+      subst (λ (own : Ranging). HasHeld z.rows kept.rows seat.me.0.claims (lent_of own) [])
+          (r.quiet ∙ sym quiet) none.0,
       record { now = none.1.now; ever = none.1.ever },
     )
 

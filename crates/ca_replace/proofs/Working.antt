@@ -26,7 +26,8 @@ use Rattle.ca_rows.specs.Passes.{KeepsList}
 use Rattle.ca_rows.specs.Told.{IsOnly}
 
 -- A pass that may begin an attempt is at work.
-work_of : {R : Type 0} {space : Space R TreeView} {pass : Pass R TreeView} {key : List ℕ} {again : Option Cursor} {marked : Bool}
+work_of : {R : Type 0} {space : Space R TreeView} {pass : Pass R TreeView} {key : List ℕ}
+    {again : Option Cursor} {marked : Bool}
     → MayBegin space key again marked pass → IsAtWork space pass
 work_of may = record {
   ready = may.ready;
@@ -37,19 +38,24 @@ work_of may = record {
 }
 
 -- A row of a pass that holds none, and has no range, is one that it keeps.
-pub only_kept : (row : ℕ) (c : Claim) (own : Ranging) → own ≡ Quiet → ((at : ℕ) × (c ≡ Keeps at)) ⊎ (IsIn row [] ⊎ IsIn row (lent_of own))
+pub only_kept : (row : ℕ) (c : Claim) (own : Ranging) → own ≡ Quiet → ((at : ℕ) × (c ≡ Keeps at))
+    ⊎ (IsIn row [] ⊎ IsIn row (lent_of own))
     → (at : ℕ) × (c ≡ Keeps at)
-only_kept row c own quiet is = ⊎_elim (λ k. k) (λ is'. ⊎_elim (λ (i : IsIn row []). absurd (in_nothing row [] refl i))
-    (λ (i : IsIn row (lent_of own)). absurd (in_nothing row (lent_of own) (ap lent_of quiet) i)) is') is
+only_kept row c own quiet is = ⊎_elim (λ k. k)
+    (λ is'. ⊎_elim (λ (i : IsIn row []). absurd (in_nothing row [] refl i))
+    (λ (i : IsIn row (lent_of own)). absurd (in_nothing row (lent_of own) (ap lent_of quiet) i))
+    is') is
 
 module _ {R : Type 0} {space : Space R TreeView} {pass new : Pass R TreeView} where
   -- One that rested and pinned is at work.
   pub work_first : (told moment : ℕ) → IsAtRest space pass → KeepsList pass new
       → new.seat.me ≡ announced told moment pass.seat.me → IsAtWork space new
-  work_first told moment r f is = work_of (may_first space pass new [] told moment r f.same f.number f.kept f.tally is)
+  work_first told moment r f is = work_of (may_first space pass new [] told moment r f.same f.number
+      f.kept f.tally is)
 
   -- It is so still behind what leaves it ready.
-  pub work_after : IsAtWork space pass → StaysReady space pass new → IsKnown space.table.shared.key new.seat.me.0.upper
+  pub work_after : IsAtWork space pass → StaysReady space pass new → IsKnown space.table.shared.key
+      new.seat.me.0.upper
       → new.seat.me.0.upper.number ≡ pass.seat.me.0.upper.number → IsAtWork space new
   work_after w s known number = record {
     ready = ready_after w.ready s (subst (λ n. 0 < n) (sym number) w.ready.number);
@@ -70,14 +76,19 @@ module _ {R : Type 0} {space : Space R TreeView} {pass new : Pass R TreeView} wh
     is_unpinned = ap (λ (m : MyTree). m.0.pin.pinned) is;
     only_keeps = λ row c e. only_kept row c pass.seat.me.0.upper.ranges.own w.quiet
         (none.0.only row c (sym (ap (λ (m : MyTree). claim_of m.0.claims row) is) ∙ e));
-    are_kept = subst (λ (x : MyTree × KeptRows). AreKept space.table.shared.key.rows x.0.0.claims x.1.rows)
+    are_kept = subst (λ (x : MyTree × KeptRows). AreKept space.table.shared.key.rows x.0.0.claims
+        x.1.rows)
         (λ i. (sym is i, sym f.kept i)) none.0.are_kept;
-    few = subst (λ (m : MyTree). HoldsFew 0 m.0) (sym is) (record { now = none.1.now; ever = none.1.ever });
+    few = subst (λ (m : MyTree). HoldsFew 0 m.0) (sym is)
+        (record { now = none.1.now; ever = none.1.ever });
     known = subst (λ (m : MyTree). IsKnown space.table.shared.key m.0.upper) (sym is)
         (known_unpinned space.table.shared.key pass.seat.me.0.upper w.known);
-    left_before = subst (λ (m : MyTree). m.0.pin.left.lost ≤ m.0.lost) (sym is) (le_refl pass.seat.me.0.lost);
-    unlost = λ one. only (is_lone space.table.shared.key pass.seat.me w.ready.own.1 space.few.0 one);
+    left_before = subst (λ (m : MyTree). m.0.pin.left.lost ≤ m.0.lost) (sym is)
+        (le_refl pass.seat.me.0.lost);
+    unlost = λ one. only (is_lone space.table.shared.key pass.seat.me w.ready.own.1 space.few.0
+        one);
     quiet = ap (λ (m : MyTree). m.0.upper.ranges.own) is ∙ ap left_over w.quiet;
     tallied = tallied_still pass.tally new.tally pass.seat.me.0.upper new.seat.me.0.upper f.tally
-        (ap (λ (m : MyTree). m.0.upper.splits) is) (ap (λ (m : MyTree). m.0.upper.joins) is) w.tallied;
+        (ap (λ (m : MyTree). m.0.upper.splits) is) (ap (λ (m : MyTree). m.0.upper.joins) is)
+        w.tallied;
   }

@@ -69,8 +69,10 @@ turns-come-requires-clause-resting g c = c.loop-come.invariant.resting
 
 pub loop-come-smaller : goal.loop-come-smaller
 loop-come-smaller g c = let again = c.in_default.ensures.again refl in
-    let i = c.loop-come.invariant in let turns = paid_stopped c.turns-come.result empty_halt c.loop-come.course.spent c.turns-come.new.course.spent
-    c.loop-come.pass.seat.me c.turns-come.new.pass.seat.me (c.if-is_empty.ensures.0 refl) c.turns-come.ensures.counted in
+    let i = c.loop-come.invariant in let turns = paid_stopped c.turns-come.result empty_halt
+    c.loop-come.course.spent c.turns-come.new.course.spent
+    c.loop-come.pass.seat.me c.turns-come.new.pass.seat.me (c.if-is_empty.ensures.0 refl)
+    c.turns-come.ensures.counted in
     let so_far =
     paid_both c.args.course.now.spent c.loop-come.course.spent c.turns-come.new.course.spent
     c.args.pass.now.seat.me c.loop-come.pass.seat.me
@@ -100,8 +102,11 @@ loop-come-preserved g c = let i = c.loop-come.invariant in
     let emptied = empty_before (vec_len c.loop-come.pass.kept.rows) c.kept-kept.result
     (vec_len c.refill.new.pass.kept.rows) start before behind last
     c.args.pass.now.kept.rows c.kept-kept.ensures (c.in_default.ensures.again refl).some
-    (let one = i.counted.more in let two = (paid_stopped c.turns-come.result empty_halt c.loop-come.course.spent c.turns-come.new.course.spent
-    c.loop-come.pass.seat.me c.turns-come.new.pass.seat.me (c.if-is_empty.ensures.0 refl) c.turns-come.ensures.counted).more in
+    (let one = i.counted.more in
+    let two = (paid_stopped c.turns-come.result empty_halt c.loop-come.course.spent
+    c.turns-come.new.course.spent
+    c.loop-come.pass.seat.me c.turns-come.new.pass.seat.me (c.if-is_empty.ensures.0 refl)
+    c.turns-come.ensures.counted).more in
     omega arith)
     (c.in_default.ensures.again refl).begins i.first met given
     c.turns-come.ensures.pinned c.refill.ensures.gave.lags c.refill.ensures.looked in record {
@@ -115,8 +120,10 @@ loop-come-preserved g c = let i = c.loop-come.invariant in
       counted = paid_both c.args.course.now.spent c.turns-come.new.course.spent c.refill.new.spent
           start behind last
           (paid_both c.args.course.now.spent c.loop-come.course.spent c.turns-come.new.course.spent
-          start before behind i.counted (paid_stopped c.turns-come.result empty_halt c.loop-come.course.spent c.turns-come.new.course.spent
-          c.loop-come.pass.seat.me c.turns-come.new.pass.seat.me (c.if-is_empty.ensures.0 refl) c.turns-come.ensures.counted))
+          start before behind i.counted (paid_stopped c.turns-come.result empty_halt
+          c.loop-come.course.spent c.turns-come.new.course.spent
+          c.loop-come.pass.seat.me c.turns-come.new.pass.seat.me (c.if-is_empty.ensures.0 refl)
+          c.turns-come.ensures.counted))
           c.refill.ensures.counted;
       looks = let before = i.looks in let same = c.turns-come.ensures.pinned.looks in
           let more = c.refill.ensures.looked in omega arith;
@@ -138,7 +145,8 @@ loop-come-preserved g c = let i = c.loop-come.invariant in
           alone))));
       waited = λ alone.
           subst (HasWaited c.args.tree.now.space.table.shared.key
-          (g.A.Attempt.adds c.args.order.now.what.now) start.0.upper) (sym c.refill.ensures.gave.upper)
+          (g.A.Attempt.adds c.args.order.now.what.now) start.0.upper)
+          (sym c.refill.ensures.gave.upper)
           (has_waited c.args.tree.now.space.table.shared.key
           (g.A.Attempt.adds c.args.order.now.what.now) c.turns-come.result empty_halt
           start.0.upper behind.0.upper
@@ -148,7 +156,9 @@ loop-come-preserved g c = let i = c.loop-come.invariant in
           before.0.upper
           behind.0.upper c.requires.resting.known i.resting.known i.further i.waited
           c.turns-come.ensures.tried c.turns-come.ensures.turns.grown alone));
-      few_rows = λ _. i.few_rows (subst (λ (x : Result _ Halt). IfErr x (λ _. HasFewAlone c.args.tree.now.space.table.shared.key before.0.upper))
+      few_rows = λ _. i.few_rows
+          (subst (λ (x : Result _ Halt). IfErr x
+          (λ _. HasFewAlone c.args.tree.now.space.table.shared.key before.0.upper))
           empty c.turns-come.ensures.few_rows);
       full = let edits = λ (x : _). g.A.Attempt.edits c.args.order.now.what.now x in
           let z = c.args.tree.now.space.table.shared.key in
@@ -163,41 +173,59 @@ loop-come-preserved g c = let i = c.loop-come.invariant in
       lags = (c.in_default.ensures.again refl).unlagged
           ∙ (c.turns-come.ensures.pinned.lags ∙ i.lags);
       first = inr emptied;
-      loads = let z = c.args.tree.now.space.table.shared.key in let m = c.loop-come.pass.seat.me in let n = c.turns-come.new.pass.seat.me in
-          let p = c.refill.new.pass.seat.me in let edits = λ (x : _). g.A.Attempt.edits c.args.order.now.what.now x in
-          loads_refused z c.args.pass.now.seat.me m n p c.loop-come.invariant.loads c.turns-come.ensures.paced.pins c.turns-come.ensures.paced.more
+      loads = let z = c.args.tree.now.space.table.shared.key in let m = c.loop-come.pass.seat.me in
+          let n = c.turns-come.new.pass.seat.me in
+          let p = c.refill.new.pass.seat.me in let edits = λ (x : _). g.A.Attempt.edits
+          c.args.order.now.what.now x in
+          loads_refused z c.args.pass.now.seat.me m n p c.loop-come.invariant.loads
+          c.turns-come.ensures.paced.pins c.turns-come.ensures.paced.more
           c.refill.ensures.gave.upper c.refill.ensures.gave.bounded.0
-          (paid_more c.turns-come.new.course.spent c.refill.new.spent n p c.refill.ensures.counted) (help_loads z) n.0.upper.loads (omega arith) refl
-          (subst (λ (x : Result _ Halt). LoadsFew (most_loads z) ((z.levels + 1) + unpaid z x) (loads_until edits x n.0.upper) m n)
+          (paid_more c.turns-come.new.course.spent c.refill.new.spent n p c.refill.ensures.counted)
+          (help_loads z) n.0.upper.loads (omega arith) refl
+          (subst (λ (x : Result _ Halt). LoadsFew (most_loads z) ((z.levels + 1) + unpaid z x)
+          (loads_until edits x n.0.upper) m n)
           (c.if-is_empty.ensures.0 refl) c.turns-come.ensures.loads);
-      yet = bounded_yet (vec_len c.loop-come.pass.kept.rows) (vec_len c.args.pass.now.kept.rows) start before behind last i.yet
-          c.turns-come.ensures.paced c.turns-come.ensures.pinned.looks c.refill.ensures.gave.bounded.0 c.refill.ensures.gave.bounded.1
+      yet = bounded_yet (vec_len c.loop-come.pass.kept.rows) (vec_len c.args.pass.now.kept.rows)
+          start before behind last i.yet
+          c.turns-come.ensures.paced c.turns-come.ensures.pinned.looks
+          c.refill.ensures.gave.bounded.0 c.refill.ensures.gave.bounded.1
           c.refill.ensures.gave.lags.1
-          (paid_more c.turns-come.new.course.spent c.refill.new.spent behind last c.refill.ensures.counted)
+          (paid_more c.turns-come.new.course.spent c.refill.new.spent behind last
+          c.refill.ensures.counted)
           (vec_len c.refill.new.pass.kept.rows)
           (subst (λ n. 0 < n) c.kept-kept.ensures (c.in_default.ensures.again refl).some)
-          (c.in_default.ensures.again refl).begins c.refill.ensures.gave.upper (let found = emptied.0 in omega arith) emptied.1
+          (c.in_default.ensures.again refl).begins c.refill.ensures.gave.upper
+          (let found = emptied.0 in omega arith) emptied.1
           (let looked = c.refill.ensures.looked in omega arith);
     }
 
 pub returns-in-Err-clause-frame : goal.returns-in-Err-clause-frame
 returns-in-Err-clause-frame g c = record {
-  number = c.refill.ensures.frame.number ∙ (c.turns-come.ensures.frame.number ∙ c.loop-come.invariant.number);
+  number = c.refill.ensures.frame.number ∙ (c.turns-come.ensures.frame.number
+      ∙ c.loop-come.invariant.number);
   resting = c.refill.ensures.frame.resting;
 }
 
 pub returns-in-Err-clause-bounded : goal.returns-in-Err-clause-bounded
-returns-in-Err-clause-bounded g c = bounded_by (vec_len c.loop-come.pass.kept.rows) (vec_len c.args.pass.now.kept.rows) c.args.pass.now.seat.me
-    c.loop-come.pass.seat.me c.turns-come.new.pass.seat.me c.refill.new.pass.seat.me c.loop-come.invariant.yet c.turns-come.ensures.paced
-    c.turns-come.ensures.pinned.looks c.refill.ensures.gave.bounded.0 c.refill.ensures.gave.bounded.1 c.refill.ensures.gave.lags.1
-    (paid_more c.turns-come.new.course.spent c.refill.new.spent c.turns-come.new.pass.seat.me c.refill.new.pass.seat.me c.refill.ensures.counted)
+returns-in-Err-clause-bounded g c = bounded_by (vec_len c.loop-come.pass.kept.rows)
+    (vec_len c.args.pass.now.kept.rows) c.args.pass.now.seat.me
+    c.loop-come.pass.seat.me c.turns-come.new.pass.seat.me c.refill.new.pass.seat.me
+    c.loop-come.invariant.yet c.turns-come.ensures.paced
+    c.turns-come.ensures.pinned.looks c.refill.ensures.gave.bounded.0
+    c.refill.ensures.gave.bounded.1 c.refill.ensures.gave.lags.1
+    (paid_more c.turns-come.new.course.spent c.refill.new.spent c.turns-come.new.pass.seat.me
+    c.refill.new.pass.seat.me c.refill.ensures.counted)
 
 pub returns-else-is_empty-clause-bounded : goal.returns-else-is_empty-clause-bounded
-returns-else-is_empty-clause-bounded g c = bounded_by (vec_len c.loop-come.pass.kept.rows) (vec_len c.args.pass.now.kept.rows)
-    c.args.pass.now.seat.me c.loop-come.pass.seat.me c.turns-come.new.pass.seat.me c.keep_few.new.pass.seat.me c.loop-come.invariant.yet
-    c.turns-come.ensures.paced c.turns-come.ensures.pinned.looks c.keep_few.ensures.gave.bounded.0 c.keep_few.ensures.gave.bounded.1
+returns-else-is_empty-clause-bounded g c = bounded_by (vec_len c.loop-come.pass.kept.rows)
+    (vec_len c.args.pass.now.kept.rows)
+    c.args.pass.now.seat.me c.loop-come.pass.seat.me c.turns-come.new.pass.seat.me
+    c.keep_few.new.pass.seat.me c.loop-come.invariant.yet
+    c.turns-come.ensures.paced c.turns-come.ensures.pinned.looks c.keep_few.ensures.gave.bounded.0
+    c.keep_few.ensures.gave.bounded.1
     c.keep_few.ensures.gave.lags.1
-    (kept_more c.keep_few.result c.turns-come.new.pass.seat.me c.keep_few.new.pass.seat.me c.keep_few.ensures.gave c.keep_few.ensures.lost)
+    (kept_more c.keep_few.result c.turns-come.new.pass.seat.me c.keep_few.new.pass.seat.me
+    c.keep_few.ensures.gave c.keep_few.ensures.lost)
 
 pub returns-in-Err-clause-few : goal.returns-in-Err-clause-few
 returns-in-Err-clause-few g c =
@@ -253,14 +281,18 @@ returns-in-Err-clause-caused g c = let i = c.loop-come.invariant in
           start behind last
           (paid_both c.args.course.now.spent c.loop-come.course.spent c.turns-come.new.course.spent
           start before behind i.counted
-          (paid_stopped c.turns-come.result empty_halt c.loop-come.course.spent c.turns-come.new.course.spent
-          c.loop-come.pass.seat.me c.turns-come.new.pass.seat.me (c.if-is_empty.ensures.0 refl) c.turns-come.ensures.counted)) c.refill.ensures.counted;
+          (paid_stopped c.turns-come.result empty_halt c.loop-come.course.spent
+          c.turns-come.new.course.spent
+          c.loop-come.pass.seat.me c.turns-come.new.pass.seat.me (c.if-is_empty.ensures.0 refl)
+          c.turns-come.ensures.counted)) c.refill.ensures.counted;
     }
     (begun_with z.rows c.kept-kept.result start before behind last
     c.args.pass.now.kept.rows c.loop-come.pass.kept.rows c.kept-kept.ensures i.resting.are_kept
     i.first
-    (let two = (paid_stopped c.turns-come.result empty_halt c.loop-come.course.spent c.turns-come.new.course.spent
-    c.loop-come.pass.seat.me c.turns-come.new.pass.seat.me (c.if-is_empty.ensures.0 refl) c.turns-come.ensures.counted).more in let three = c.refill.ensures.counted.more in
+    (let two = (paid_stopped c.turns-come.result empty_halt c.loop-come.course.spent
+    c.turns-come.new.course.spent
+    c.loop-come.pass.seat.me c.turns-come.new.pass.seat.me (c.if-is_empty.ensures.0 refl)
+    c.turns-come.ensures.counted).more in let three = c.refill.ensures.counted.more in
     omega arith) met c.refill.ensures.gave.met c.turns-come.ensures.pinned
     c.refill.ensures.gave.lags)
     (let more = i.looks in let same = c.turns-come.ensures.pinned.looks in omega arith)
@@ -299,7 +331,8 @@ returns-else-is_empty-clause-caused g c = let i = c.loop-come.invariant in
             last
             (paid_both c.args.course.now.spent c.loop-come.course.spent
             c.turns-come.new.course.spent start before behind i.counted
-            (paid_stopped c.turns-come.result why c.loop-come.course.spent c.turns-come.new.course.spent before behind e
+            (paid_stopped c.turns-come.result why c.loop-come.course.spent
+            c.turns-come.new.course.spent before behind e
             c.turns-come.ensures.counted))
             (paid_given c.turns-come.new.course.spent c.keep_few.result c.add-course.result behind
             last c.add-course.ensures.sum
@@ -310,28 +343,44 @@ returns-else-is_empty-clause-caused g c = let i = c.loop-come.invariant in
     }
 
 pub returns-in-Err-clause-crowded : goal.returns-in-Err-clause-crowded
-returns-in-Err-clause-crowded g c one = let i = c.loop-come.invariant in let space = c.args.tree.now.space.table.shared in let z = space.key in
-    let start = c.args.pass.now in let before = c.loop-come.pass in let behind = c.turns-come.new.pass in
-    let adds = g.A.Attempt.adds c.args.order.now.what.now in let edits = λ (x : _). g.A.Attempt.edits c.args.order.now.what.now x in
+returns-in-Err-clause-crowded g c one = let i = c.loop-come.invariant in
+    let space = c.args.tree.now.space.table.shared in let z = space.key in
+    let start = c.args.pass.now in let before = c.loop-come.pass in
+    let behind = c.turns-come.new.pass in
+    let adds = g.A.Attempt.adds c.args.order.now.what.now in
+    let edits = λ (x : _). g.A.Attempt.edits c.args.order.now.what.now x in
     let tells = λ (x : _). g.A.Attempt.tells c.args.order.now.what.now x c.turns-come.new.left in
-    let empty = c.if-is_empty.ensures.0 refl in let resting = c.turns-come.ensures.frame.resting in let turns = c.turns-come.ensures.turns in
-    let here = alone_at space.table_id z before.number before.tally before.kept.rows before.seat i.resting one in
-    let first = alone_at space.table_id z start.number start.tally start.kept.rows start.seat c.requires.resting one in
-    refill_crowded z behind.number c.args.order.now.budget c.kept-kept.result _ _ adds c.refill.new.spent c.in-Err.why start.seat.me.0.upper
+    let empty = c.if-is_empty.ensures.0 refl in let resting = c.turns-come.ensures.frame.resting in
+    let turns = c.turns-come.ensures.turns in
+    let here = alone_at space.table_id z before.number before.tally before.kept.rows before.seat
+    i.resting one in
+    let first = alone_at space.table_id z start.number start.tally start.kept.rows start.seat
+    c.requires.resting one in
+    refill_crowded z behind.number c.args.order.now.budget c.kept-kept.result _ _ adds
+    c.refill.new.spent c.in-Err.why start.seat.me.0.upper
     before.seat.me behind.seat.me c.refill.new.pass.seat.me c.refill.new.pass.kept.rows one
-    (first_number space.table_id z behind.number behind.tally behind.kept.rows behind.seat resting one) c.kept-kept.ensures c.in-Err.ensures.refused
-    (subst (λ (x : Result _ Halt). HasCrowded x z.rows (vec_len before.kept.rows) (vec_len behind.kept.rows) before.seat.me behind.seat.me) empty
+    (first_number space.table_id z behind.number behind.tally behind.kept.rows behind.seat resting
+    one) c.kept-kept.ensures c.in-Err.ensures.refused
+    (subst (λ (x : Result _ Halt). HasCrowded x z.rows (vec_len before.kept.rows)
+    (vec_len behind.kept.rows) before.seat.me behind.seat.me) empty
     (c.turns-come.ensures.crowds here))
     (lone_losses before.seat.me behind.seat.me (i.resting.unlost one) (resting.unlost one)
-    (stop_won edits c.turns-come.result empty_halt before.seat.me.0.upper behind.seat.me.0.upper empty (turns.won here)).0)
-    (has_waited z adds c.turns-come.result empty_halt before.seat.me.0.upper behind.seat.me.0.upper empty (turns.grown here))
-    (has_waited z adds c.turns-come.result empty_halt start.seat.me.0.upper behind.seat.me.0.upper empty
-    (attempts_so_far tells z adds c.turns-come.result start.seat.me.0.upper before.seat.me.0.upper behind.seat.me.0.upper
-    c.requires.resting.known i.resting.known i.further i.waited c.turns-come.ensures.tried turns.grown first))
-    (i.few_rows (subst (λ (x : Result _ Halt). IfErr x (λ _. HasFewAlone z before.seat.me.0.upper)) empty c.turns-come.ensures.few_rows) first)
+    (stop_won edits c.turns-come.result empty_halt before.seat.me.0.upper behind.seat.me.0.upper
+    empty (turns.won here)).0)
+    (has_waited z adds c.turns-come.result empty_halt before.seat.me.0.upper behind.seat.me.0.upper
+    empty (turns.grown here))
+    (has_waited z adds c.turns-come.result empty_halt start.seat.me.0.upper behind.seat.me.0.upper
+    empty
+    (attempts_so_far tells z adds c.turns-come.result start.seat.me.0.upper before.seat.me.0.upper
+    behind.seat.me.0.upper
+    c.requires.resting.known i.resting.known i.further i.waited c.turns-come.ensures.tried
+    turns.grown first))
+    (i.few_rows (subst (λ (x : Result _ Halt). IfErr x (λ _. HasFewAlone z before.seat.me.0.upper))
+    empty c.turns-come.ensures.few_rows) first)
 
 pub returns-else-is_empty-clause-crowded : goal.returns-else-is_empty-clause-crowded
-returns-else-is_empty-clause-crowded g c one = refused_uncrowded c.args.tree.now.space.table.shared.key 11 c.args.pass.now.seat.me.0.upper
+returns-else-is_empty-clause-crowded g c one = refused_uncrowded
+    c.args.tree.now.space.table.shared.key 11 c.args.pass.now.seat.me.0.upper
     c.turns-come.result c.or_refusal.result _ _ c.or_refusal.ensures
 
 pub returns-in-Err-clause-lags : goal.returns-in-Err-clause-lags
@@ -378,7 +427,8 @@ returns-in-Err-clause-turns g c = record {
       c.turns-come.ensures.turns.grown alone));
   won = λ alone. let i = c.loop-come.invariant in let u = c.args.pass.now.seat.me.0.upper in
       subst (LosesNone u) (sym c.refill.ensures.gave.upper)
-      (loses_both u c.loop-come.pass.seat.me.0.upper c.turns-come.new.pass.seat.me.0.upper (i.won alone)
+      (loses_both u c.loop-come.pass.seat.me.0.upper c.turns-come.new.pass.seat.me.0.upper
+      (i.won alone)
       (stop_won
       (λ (x : _). g.A.Attempt.edits c.args.order.now.what.now x) c.turns-come.result empty_halt
       c.loop-come.pass.seat.me.0.upper c.turns-come.new.pass.seat.me.0.upper
@@ -453,19 +503,28 @@ returns-else-is_empty-clause-turns g c = record {
 }
 
 pub returns-in-Err-clause-loads : goal.returns-in-Err-clause-loads
-returns-in-Err-clause-loads g c = (let z = c.args.tree.now.space.table.shared.key in let m = c.loop-come.pass.seat.me in let n = c.turns-come.new.pass.seat.me in
-    let p = c.refill.new.pass.seat.me in let edits = λ (x : _). g.A.Attempt.edits c.args.order.now.what.now x in
-    loads_refused z c.args.pass.now.seat.me m n p c.loop-come.invariant.loads c.turns-come.ensures.paced.pins c.turns-come.ensures.paced.more
+returns-in-Err-clause-loads g c = (let z = c.args.tree.now.space.table.shared.key in
+    let m = c.loop-come.pass.seat.me in let n = c.turns-come.new.pass.seat.me in
+    let p = c.refill.new.pass.seat.me in let edits = λ (x : _). g.A.Attempt.edits
+    c.args.order.now.what.now x in
+    loads_refused z c.args.pass.now.seat.me m n p c.loop-come.invariant.loads
+    c.turns-come.ensures.paced.pins c.turns-come.ensures.paced.more
     c.refill.ensures.gave.upper c.refill.ensures.gave.bounded.0
-    (paid_more c.turns-come.new.course.spent c.refill.new.spent n p c.refill.ensures.counted) (help_loads z) n.0.upper.loads (omega arith) refl
-    (subst (λ (x : Result _ Halt). LoadsFew (most_loads z) ((z.levels + 1) + unpaid z x) (loads_until edits x n.0.upper) m n)
+    (paid_more c.turns-come.new.course.spent c.refill.new.spent n p c.refill.ensures.counted)
+    (help_loads z) n.0.upper.loads (omega arith) refl
+    (subst (λ (x : Result _ Halt). LoadsFew (most_loads z) ((z.levels + 1) + unpaid z x)
+    (loads_until edits x n.0.upper) m n)
     (c.if-is_empty.ensures.0 refl) c.turns-come.ensures.loads)).few
 
 pub returns-else-is_empty-clause-loads : goal.returns-else-is_empty-clause-loads
-returns-else-is_empty-clause-loads g c = let z = c.args.tree.now.space.table.shared.key in let k = c.args.pass.now.seat.me in
-    let m = c.loop-come.pass.seat.me in let n = c.turns-come.new.pass.seat.me in let p = c.keep_few.new.pass.seat.me in
+returns-else-is_empty-clause-loads g c = let z = c.args.tree.now.space.table.shared.key in
+    let k = c.args.pass.now.seat.me in
+    let m = c.loop-come.pass.seat.me in let n = c.turns-come.new.pass.seat.me in
+    let p = c.keep_few.new.pass.seat.me in
     let edits = λ (x : _). g.A.Attempt.edits c.args.order.now.what.now x in
     subst (λ (x : Result _ Cause). LoadsInAttempts edits z x k p) (sym c.or_refusal.ensures)
-    (loads_come z k m n p c.loop-come.invariant.loads c.turns-come.ensures.paced.pins c.turns-come.ensures.paced.more c.keep_few.ensures.gave.upper
-    c.keep_few.ensures.gave.bounded.0 (kept_more c.keep_few.result n p c.keep_few.ensures.gave c.keep_few.ensures.lost) edits c.turns-come.result _ _
+    (loads_come z k m n p c.loop-come.invariant.loads c.turns-come.ensures.paced.pins
+    c.turns-come.ensures.paced.more c.keep_few.ensures.gave.upper
+    c.keep_few.ensures.gave.bounded.0 (kept_more c.keep_few.result n p c.keep_few.ensures.gave
+    c.keep_few.ensures.lost) edits c.turns-come.result _ _
     c.turns-come.ensures.loads)

@@ -288,9 +288,12 @@ loop-answer-preserved g c = let i = c.loop-answer.invariant in let
       first = inr emptied;
       alone = λ alone. let z = c.args.tree.now.space.table.shared.key in
           let here = alone_on z start.0.upper before.0.upper i.further.number alone in
-          begins_next z (vec_len c.loop-answer.pass.kept.rows) _ start before behind last (subst (λ n. 0 < n) c.kept-kept.ensures again.some) again.begins
-          (passes_given behind last (c.in-Err.ensures.rests.resting.unlost alone.0) (c.refill.ensures.frame.resting.unlost alone.0) c.refill.ensures.gave.upper)
-          (subst (λ (x : Miss). LooksAlone {T = Unit {0}} z (2 * bases_at before) (vec_len c.loop-answer.pass.kept.rows) (Err x) before behind)
+          begins_next z (vec_len c.loop-answer.pass.kept.rows) _ start before behind last
+          (subst (λ n. 0 < n) c.kept-kept.ensures again.some) again.begins
+          (passes_given behind last (c.in-Err.ensures.rests.resting.unlost alone.0)
+          (c.refill.ensures.frame.resting.unlost alone.0) c.refill.ensures.gave.upper)
+          (subst (λ (x : Miss). LooksAlone {T = Unit {0}} z (2 * bases_at before)
+          (vec_len c.loop-answer.pass.kept.rows) (Err x) before behind)
           (c.if-not-is_without_row.ensures.0 refl) (c.in-Err.ensures.alone here)) (i.alone alone);
       yet = bounded_yet (vec_len c.loop-answer.pass.kept.rows) (vec_len c.args.pass.now.kept.rows)
           start before behind last i.yet
@@ -367,34 +370,50 @@ returns-in-Err-refill-clause-loads g
     })).few
 
 pub returns-in-Ok-clause-alone : goal.returns-in-Ok-clause-alone
-returns-in-Ok-clause-alone g c alone = let z = c.args.tree.now.space.table.shared.key in let i = c.loop-answer.invariant in
+returns-in-Ok-clause-alone g c alone = let z = c.args.tree.now.space.table.shared.key in
+    let i = c.loop-answer.invariant in
     let start = c.args.pass.now.seat.me in let before = c.loop-answer.pass.seat.me in (
-      begun_passes (vec_len c.loop-answer.pass.kept.rows) start before c.tries.new.pass.seat.me (i.alone alone)
-          (c.in-Ok.ensures.alone (alone_on z start.0.upper before.0.upper i.further.number alone)).0,
+      begun_passes (vec_len c.loop-answer.pass.kept.rows) start before c.tries.new.pass.seat.me
+          (i.alone alone)
+          (c.in-Ok.ensures.alone (alone_on z start.0.upper before.0.upper i.further.number
+          alone)).0,
       tt,
     )
 
 pub returns-then-not-is_without_row-clause-alone : goal.returns-then-not-is_without_row-clause-alone
-returns-then-not-is_without_row-clause-alone g c alone = let z = c.args.tree.now.space.table.shared.key in let i = c.loop-answer.invariant in
-    let start = c.args.pass.now.seat.me in let before = c.loop-answer.pass.seat.me in let behind = c.tries.new.pass.seat.me in
+returns-then-not-is_without_row-clause-alone g c alone = let z =
+    c.args.tree.now.space.table.shared.key in let i = c.loop-answer.invariant in
+    let start = c.args.pass.now.seat.me in let before = c.loop-answer.pass.seat.me in
+    let behind = c.tries.new.pass.seat.me in
     let last = c.keep_few.new.pass.seat.me in (
       passes_then (4 * bases_at start) start behind last
           (begun_passes (vec_len c.loop-answer.pass.kept.rows) start before behind (i.alone alone)
-          (c.in-Err.ensures.alone (alone_on z start.0.upper before.0.upper i.further.number alone)).0)
-          (passes_given behind last (c.in-Err.ensures.rests.resting.unlost alone.0) (c.keep_few.ensures.frame.resting.unlost alone.0) c.keep_few.ensures.gave.upper),
-      refused_other z (bases_at start + 11) start.0.upper c.in-Err.why _ c.refusal.result c.refusal.ensures,
+          (c.in-Err.ensures.alone (alone_on z start.0.upper before.0.upper i.further.number
+          alone)).0)
+          (passes_given behind last (c.in-Err.ensures.rests.resting.unlost alone.0)
+          (c.keep_few.ensures.frame.resting.unlost alone.0) c.keep_few.ensures.gave.upper),
+      refused_other z (bases_at start + 11) start.0.upper c.in-Err.why _ c.refusal.result
+          c.refusal.ensures,
     )
 
 pub returns-in-Err-refill-clause-alone : goal.returns-in-Err-refill-clause-alone
-returns-in-Err-refill-clause-alone g c alone = let space = c.args.tree.now.space.table.shared in let z = space.key in let i = c.loop-answer.invariant in
-    let start = c.args.pass.now.seat.me in let before = c.loop-answer.pass.seat.me in let behind = c.tries.new.pass in
+returns-in-Err-refill-clause-alone g c alone = let space = c.args.tree.now.space.table.shared in
+    let z = space.key in let i = c.loop-answer.invariant in
+    let start = c.args.pass.now.seat.me in let before = c.loop-answer.pass.seat.me in
+    let behind = c.tries.new.pass in
     let last = c.refill.new.pass in let resting = c.in-Err.ensures.rests.resting in
-    let did = subst (λ (x : Miss). LooksAlone {T = Unit {0}} z (2 * bases_at before) (vec_len c.loop-answer.pass.kept.rows) (Err x) before behind.seat.me)
-    (c.if-not-is_without_row.ensures.0 refl) (c.in-Err.ensures.alone (alone_on z start.0.upper before.0.upper i.further.number alone)) in (
+    let did = subst (λ (x : Miss). LooksAlone {T = Unit {0}} z (2 * bases_at before)
+    (vec_len c.loop-answer.pass.kept.rows) (Err x) before behind.seat.me)
+    (c.if-not-is_without_row.ensures.0 refl)
+    (c.in-Err.ensures.alone (alone_on z start.0.upper before.0.upper i.further.number alone)) in (
       passes_then (4 * bases_at start) start behind.seat.me last.seat.me
-          (begun_passes (vec_len c.loop-answer.pass.kept.rows) start before behind.seat.me (i.alone alone) did.0)
-          (passes_given behind.seat.me last.seat.me (resting.unlost alone.0) (c.refill.ensures.frame.resting.unlost alone.0) c.refill.ensures.gave.upper),
-      refill_short z behind.number c.args.order.now.budget c.kept-kept.result _ c.refill.new.spent c.in-Err-refill.cause start before behind.seat.me
-          last.seat.me last.kept.rows alone.0 (first_number space.table_id z behind.number behind.tally behind.kept.rows behind.seat resting alone.0)
+          (begun_passes (vec_len c.loop-answer.pass.kept.rows) start before behind.seat.me
+          (i.alone alone) did.0)
+          (passes_given behind.seat.me last.seat.me (resting.unlost alone.0)
+          (c.refill.ensures.frame.resting.unlost alone.0) c.refill.ensures.gave.upper),
+      refill_short z behind.number c.args.order.now.budget c.kept-kept.result _ c.refill.new.spent
+          c.in-Err-refill.cause start before behind.seat.me
+          last.seat.me last.kept.rows alone.0 (first_number space.table_id z behind.number
+          behind.tally behind.kept.rows behind.seat resting alone.0)
           c.kept-kept.ensures c.in-Err-refill.ensures.refused (i.alone alone) did.1,
     )

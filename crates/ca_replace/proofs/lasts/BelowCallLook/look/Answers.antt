@@ -415,78 +415,111 @@ take_run-requires-clause-work c = let z = c.args.tree.now.space.table.shared.key
     (ap (λ (u : TreeView). u.number) looked.steps.only)
 
 pub returns-then-near-clause-alone : goal.returns-then-near-clause-alone
-returns-then-near-clause-alone c alone = let z = c.args.tree.now.space.table.shared.key in let m = c.args.pass.now.seat.me in
+returns-then-near-clause-alone c alone = let z = c.args.tree.now.space.table.shared.key in
+    let m = c.args.pass.now.seat.me in
     let n = c.look_near-near.new.pass.seat.me in let p = c.enter_last.new.pass.seat.me in (
       passes_within 0 (2 * bases_at m) m p (omega arith)
           (passes_both 0 0 m n p
-          (passes_walked z (spot_at c.args.self.now.hi) m n c.look_near-near.result.0 c.look_near-near.ensures.walked alone c.requires.work.known)
+          (passes_walked z (spot_at c.args.self.now.hi) m n c.look_near-near.result.0
+          c.look_near-near.ensures.walked alone c.requires.work.known)
           (passes_entered _ n p c.enter_last.ensures.entered)),
       tt,
     )
 
 pub returns-in_default-clause-alone : goal.returns-in_default-clause-alone
-returns-in_default-clause-alone c alone = let z = c.args.tree.now.space.table.shared.key in let m = c.args.pass.now.seat.me in
+returns-in_default-clause-alone c alone = let z = c.args.tree.now.space.table.shared.key in
+    let m = c.args.pass.now.seat.me in
     let n = c.look_near-near.new.pass.seat.me in let p = c.enter_last-in_default.new.pass.seat.me in (
       passes_within 0 (2 * bases_at m) m p (omega arith)
           (passes_both 0 0 m n p
-          (passes_walked z (spot_at c.args.self.now.hi) m n c.look_near-near.result.0 c.look_near-near.ensures.walked alone c.requires.work.known)
+          (passes_walked z (spot_at c.args.self.now.hi) m n c.look_near-near.result.0
+          c.look_near-near.ensures.walked alone c.requires.work.known)
           (passes_entered _ n p c.enter_last-in_default.ensures.entered)),
       tt,
     )
 
 pub returns-in_default-look_left-clause-counted : goal.returns-in_default-look_left-clause-counted
-returns-in_default-look_left-clause-counted c = (left_behind c.args.tree.now.space.table.shared.key c.args.spent.now c.look_left.new.spent
-    (spot_at c.args.self.now.hi) c.args.pass.now.seat.me c.look_near-near.new.pass.seat.me c.look_left.new.pass.seat.me c.look_near-near.result.0
+returns-in_default-look_left-clause-counted c = (left_behind c.args.tree.now.space.table.shared.key
+    c.args.spent.now c.look_left.new.spent
+    (spot_at c.args.self.now.hi) c.args.pass.now.seat.me c.look_near-near.new.pass.seat.me
+    c.look_left.new.pass.seat.me c.look_near-near.result.0
     c.look_near-near.ensures.walked c.look_left.ensures.looked).paid
 
 pub returns-in_default-look_left-clause-alone : goal.returns-in_default-look_left-clause-alone
-returns-in_default-look_left-clause-alone c alone = let z = c.args.tree.now.space.table.shared.key in let m = c.args.pass.now.seat.me in
+returns-in_default-look_left-clause-alone c alone = let z =
+    c.args.tree.now.space.table.shared.key in let m = c.args.pass.now.seat.me in
     let n = c.look_near-near.new.pass.seat.me in let k = c.look_left.new.pass.seat.me in
-    let left = left_of_walk z c.args.self.now.hi m n k c.look_near-near.result.0 c.look_near-near.ensures.walked alone c.requires.work.known
-    c.look_left.ensures.alone in (passes_within (bases_at m) (2 * bases_at m) m k (omega arith) left.2, tt)
+    let left = left_of_walk z c.args.self.now.hi m n k c.look_near-near.result.0
+    c.look_near-near.ensures.walked alone c.requires.work.known
+    c.look_left.ensures.alone in
+    (passes_within (bases_at m) (2 * bases_at m) m k (omega arith) left.2, tt)
 
 pub returns-then-not-found-clause-alone : goal.returns-then-not-found-clause-alone
-returns-then-not-found-clause-alone c alone = let z = c.args.tree.now.space.table.shared.key in let m = c.args.pass.now.seat.me in
-    let n = c.look_near-near.new.pass.seat.me in let k = c.look_left.new.pass.seat.me in let v = c.take_run.new.pass.seat.me in
-    let hi = c.args.self.now.hi in let a = c.args.spent.now in let b = c.look_left.new.spent in let low = c.look_left.new.low.items in
+returns-then-not-found-clause-alone c alone = let z = c.args.tree.now.space.table.shared.key in
+    let m = c.args.pass.now.seat.me in
+    let n = c.look_near-near.new.pass.seat.me in let k = c.look_left.new.pass.seat.me in
+    let v = c.take_run.new.pass.seat.me in
+    let hi = c.args.self.now.hi in let a = c.args.spent.now in let b = c.look_left.new.spent in
+    let low = c.look_left.new.low.items in
     let cursor = c.look_near-near.result.0 in let walk = c.look_near-near.ensures.walked in
-    let left = left_of_walk z hi m n k cursor walk alone c.requires.work.known c.look_left.ensures.alone in
+    let left = left_of_walk z hi m n k cursor walk alone c.requires.work.known
+    c.look_left.ensures.alone in
     let begins : bound_of c.edge_at-lo.result ≡ Included low = c.edge_at-lo.ensures
-    ∙ (ap (λ (x : Bool). cond x (Included c.deref.result.now) Unbounded) c.if-bounded.true ∙ ap (λ (x : List ℕ). Included x) c.deref.ensures.0) in
-    let ends = subst (λ (r : Option Bool). IsEndOfLooks c.args.budget c.look_left.new.spent r low k.0.upper)
-    (c.in-Some-look_left.is ∙ ap (λ (x : Bool). Some x) c.if-bounded.true) c.look_left.ensures.ends in
+    ∙ (ap (λ (x : Bool). cond x (Included c.deref.result.now) Unbounded) c.if-bounded.true
+    ∙ ap (λ (x : List ℕ). Included x) c.deref.ensures.0) in
+    let ends = subst (λ (r : Option Bool). IsEndOfLooks c.args.budget c.look_left.new.spent r low
+    k.0.upper)
+    (c.in-Some-look_left.is ∙ ap (λ (x : Bool). Some x) c.if-bounded.true)
+    c.look_left.ensures.ends in
     let looked = left_behind z a b (spot_at hi) m n k cursor walk c.look_left.ensures.looked in
-    let learnt = learnt_both z m.0.upper k.0.upper v.0.upper (left_learnt z a b m k looked c.requires.work.known) c.take_run.ensures.learnt in
-    absurd (never_vanishes z hi m n k cursor walk c.in-Some.route c.in-Some.is alone left.0 low v.0.upper c.in-Ok.run'
+    let learnt = learnt_both z m.0.upper k.0.upper v.0.upper
+    (left_learnt z a b m k looked c.requires.work.known) c.take_run.ensures.learnt in
+    absurd (never_vanishes z hi m n k cursor walk c.in-Some.route c.in-Some.is alone left.0 low
+    v.0.upper c.in-Ok.run'
     (left_alone z m k a b looked alone) c.requires.at_pin c.requires.work.known learnt ends.0 ends.1
-    (subst (λ (x : Bound). HasAllUpTo x (bound_of hi) z v.0.upper c.in-Ok.run') begins c.in-Ok.ensures.run)
-    (c.last_within-found.ensures.last ∙ ap (λ (x : Bool). cond x (Some c.last_within-found.new.into.items) None) c.if-not-found.true))
+    (subst (λ (x : Bound). HasAllUpTo x (bound_of hi) z v.0.upper c.in-Ok.run') begins
+    c.in-Ok.ensures.run)
+    (c.last_within-found.ensures.last
+    ∙ ap (λ (x : Bool). cond x (Some c.last_within-found.new.into.items) None)
+    c.if-not-found.true))
 
 pub returns-else-bounded-clause-alone : goal.returns-else-bounded-clause-alone
-returns-else-bounded-clause-alone c alone = let z = c.args.tree.now.space.table.shared.key in let m = c.args.pass.now.seat.me in
-    let n = c.look_near-near.new.pass.seat.me in let k = c.look_left.new.pass.seat.me in let v = c.take_run.new.pass.seat.me in
-    let read = c.last_within-found.new.pass.seat.me in let p = c.enter_last-in-Ok.new.pass.seat.me in
-    let left = left_of_walk z c.args.self.now.hi m n k c.look_near-near.result.0 c.look_near-near.ensures.walked alone c.requires.work.known
+returns-else-bounded-clause-alone c alone = let z = c.args.tree.now.space.table.shared.key in
+    let m = c.args.pass.now.seat.me in
+    let n = c.look_near-near.new.pass.seat.me in let k = c.look_left.new.pass.seat.me in
+    let v = c.take_run.new.pass.seat.me in
+    let read = c.last_within-found.new.pass.seat.me in
+    let p = c.enter_last-in-Ok.new.pass.seat.me in
+    let left = left_of_walk z c.args.self.now.hi m n k c.look_near-near.result.0
+    c.look_near-near.ensures.walked alone c.requires.work.known
     c.look_left.ensures.alone in let bases = left.2.bases in
     let run = c.take_run.ensures.alone left.1 in (
       passes_within ((bases_at m + bases_at k) + 0) (2 * bases_at m) m p (omega arith)
           (passes_both (bases_at m + bases_at k) 0 m read p
-          (subst (λ (x : MyTree). PassesAlone (bases_at m + bases_at k) m x) (sym c.last_within-found.ensures.frame.still)
+          (subst (λ (x : MyTree). PassesAlone (bases_at m + bases_at k) m x)
+          (sym c.last_within-found.ensures.frame.still)
           (passes_both (bases_at m) (bases_at k) m k v left.2 run.0))
           (passes_entered _ read p c.enter_last-in-Ok.ensures.entered)),
       tt,
     )
 
 pub returns-in-Err-clause-alone : goal.returns-in-Err-clause-alone
-returns-in-Err-clause-alone c alone = let z = c.args.tree.now.space.table.shared.key in let m = c.args.pass.now.seat.me in
-    let n = c.look_near-near.new.pass.seat.me in let k = c.look_left.new.pass.seat.me in let v = c.take_run.new.pass.seat.me in
+returns-in-Err-clause-alone c alone = let z = c.args.tree.now.space.table.shared.key in
+    let m = c.args.pass.now.seat.me in
+    let n = c.look_near-near.new.pass.seat.me in let k = c.look_left.new.pass.seat.me in
+    let v = c.take_run.new.pass.seat.me in
     let walk = c.look_near-near.ensures.walked in
-    let left = left_of_walk z c.args.self.now.hi m n k c.look_near-near.result.0 walk alone c.requires.work.known
+    let left = left_of_walk z c.args.self.now.hi m n k c.look_near-near.result.0 walk alone
+    c.requires.work.known
     c.look_left.ensures.alone in let bases = left.2.bases in
     let run = c.in-Err.ensures.alone left.1 in
-    let kept = ap (λ (x : KeptRows). vec_len x.rows) (c.look_left.ensures.frame.kept ∙ c.look_near-near.ensures.frame.kept) in (
-      passes_within (bases_at m + bases_at k) (2 * bases_at m) m v (omega arith) (passes_both (bases_at m) (bases_at k) m k v left.2 run.0),
-      missed_alone {T = Bool} z (vec_len c.args.pass.now.kept.rows) (Err c.in-Err.why) m.0.upper k.0.upper
+    let kept = ap (λ (x : KeptRows). vec_len x.rows) (c.look_left.ensures.frame.kept
+    ∙ c.look_near-near.ensures.frame.kept) in (
+      passes_within (bases_at m + bases_at k) (2 * bases_at m) m v (omega arith)
+          (passes_both (bases_at m) (bases_at k) m k v left.2 run.0),
+      missed_alone {T = Bool} z (vec_len c.args.pass.now.kept.rows) (Err c.in-Err.why) m.0.upper
+          k.0.upper
           (left.0.same ∙ ap (λ (x : MyTree). x.0.upper.inventory) walk.now) (walk.few_rows alone)
-          (subst (λ (count : ℕ). HasMissedAlone {T = Bool} z count (Err c.in-Err.why) k.0.upper) kept run.1),
+          (subst (λ (count : ℕ). HasMissedAlone {T = Bool} z count (Err c.in-Err.why) k.0.upper)
+          kept run.1),
     )

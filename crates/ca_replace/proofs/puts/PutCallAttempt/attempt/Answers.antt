@@ -24,7 +24,8 @@ find-place-requires-clause-unanswered c = c.requires.asking.unanswered
 
 pub returns-clause-frame : goal.returns-clause-frame
 returns-clause-frame c =
-    frame_behind c.find-place.ensures.looked c.requires.ready c.requires.known c.put_there.new.pass c.put_there.ensures.edited.frame
+    frame_behind c.find-place.ensures.looked c.requires.ready c.requires.known c.put_there.new.pass
+    c.put_there.ensures.edited.frame
 
 pub returns-clause-deep : goal.returns-clause-deep
 returns-clause-deep c = c.put_there.ensures.full
@@ -34,27 +35,36 @@ put_there-requires-clause-ready c =
     ready_behind c.find-place.ensures.looked c.requires.ready c.requires.known
 
 pub returns-clause-few_rows : goal.returns-clause-few_rows
-returns-clause-few_rows c = few_behind c.find-place.ensures.looked c.requires.ready c.requires.known c.put_there.result
+returns-clause-few_rows c = few_behind c.find-place.ensures.looked c.requires.ready c.requires.known
+    c.put_there.result
 
 pub returns-clause-crowds : goal.returns-clause-crowds
-returns-clause-crowds c = crowds_tried c.find-place.ensures.looked c.requires.ready c.requires.known c.put_there.result c.put_there.new.pass c.put_there.ensures.edited.crowds
+returns-clause-crowds c = crowds_tried c.find-place.ensures.looked c.requires.ready c.requires.known
+    c.put_there.result c.put_there.new.pass c.put_there.ensures.edited.crowds
 
 pub returns-clause-turn : goal.returns-clause-turn
 returns-clause-turn c =
-    turn_tried c.find-place.ensures.looked c.requires.ready c.requires.known c.put_there.new.pass (λ (_ : Unit {0}). true)
-    (Some (slice_range c.args.self.now.keyed.object.now c.args.self.now.keyed.key_at c.args.self.now.keyed.key_end)) (Some (slice_range c.args.self.now.keyed.object.now c.args.self.now.keyed.key_at c.args.self.now.keyed.key_end))
-    c.args.tree.now.tuning c.args.course.now c.put_there.new.course _ c.put_there.result c.put_there.ensures.edited.turn _ c.find-place.ensures.loads
+    turn_tried c.find-place.ensures.looked c.requires.ready c.requires.known c.put_there.new.pass
+    (λ (_ : Unit {0}). true)
+    (Some (slice_range c.args.self.now.keyed.object.now c.args.self.now.keyed.key_at
+    c.args.self.now.keyed.key_end))
+    (Some (slice_range c.args.self.now.keyed.object.now c.args.self.now.keyed.key_at
+    c.args.self.now.keyed.key_end))
+    c.args.tree.now.tuning c.args.course.now c.put_there.new.course _ c.put_there.result
+    c.put_there.ensures.edited.turn _ c.find-place.ensures.loads
 
 pub returns-clause-stays : goal.returns-clause-stays
 returns-clause-stays c = stays_behind c.args.tree.now.space.table.shared.key
     (key_in c.args.self.now.keyed) c.put_there.result c.args.pass.now.seat.me.0.upper
     c.find-place.new.pass.seat.me.0.upper c.put_there.new.pass.seat.me.0.upper
     c.put_there.new.course.again c.put_there.new.course.marked c.put_there.new.course.marked
-    c.find-place.ensures.looked.since (λ e. e) (λ _. c.find-place.ensures.met) c.put_there.ensures.edited.stays
+    c.find-place.ensures.looked.since (λ e. e) (λ _. c.find-place.ensures.met)
+    c.put_there.ensures.edited.stays
 
 pub put_there-requires-clause-unanswered : goal.put_there-requires-clause-unanswered
 put_there-requires-clause-unanswered c = c.find-place.ensures.looked.unanswered
 
 pub put_there-requires-clause-idle : goal.put_there-requires-clause-idle
-put_there-requires-clause-idle c = idle_behind c.find-place.ensures.looked c.requires.ready c.requires.known c.find-place.ensures.met
+put_there-requires-clause-idle c = idle_behind c.find-place.ensures.looked c.requires.ready
+    c.requires.known c.find-place.ensures.met
     c.requires.idle

@@ -29,7 +29,8 @@ returns-then-is_ok-clause-tried c = let o = c.args.self.now.keyed in
     (e : Event). e ≡ WriteNew k o.object.now new) z (at_pin c.args.pass.now.seat.me.0.upper)
     c.find-place.new.pass.seat.me c.enter.new.pass.seat.me false event refl
     (further_since c.args.pass.now.seat.me.0.upper
-    c.find-place.new.pass.seat.me.0.upper c.requires.asking c.find-place.ensures.looked.further) c.find-place.ensures.looked.looking.known
+    c.find-place.new.pass.seat.me.0.upper c.requires.asking c.find-place.ensures.looked.further)
+    c.find-place.ensures.looked.looking.known
     (since_before c.args.pass.now.seat.me.0.upper c.find-place.new.pass.seat.me.0.upper
     c.find-place.ensures.looked.since) c.enter.ensures.entered
 
@@ -45,7 +46,8 @@ returns-in-Ok-clause-tried c = let o = c.args.self.now.keyed in
     (at_pin c.args.pass.now.seat.me.0.upper)
     c.find-place.new.pass.seat.me.0.upper c.put_there.new.pass.seat.me.0.upper refl
     (further_since c.args.pass.now.seat.me.0.upper
-    c.find-place.new.pass.seat.me.0.upper c.requires.asking c.find-place.ensures.looked.further) c.in-Ok.ensures.edited.tried
+    c.find-place.new.pass.seat.me.0.upper c.requires.asking c.find-place.ensures.looked.further)
+    c.in-Ok.ensures.edited.tried
 
 -- what an attempt came to
 abbrev why_of : Result Bool Halt → Halt
@@ -60,15 +62,18 @@ returns-in-Err-clause-deep c deep = c.in-Err.ensures.full (ap stopped_so (ap why
 
 pub returns-then-is_ok-clause-frame : goal.returns-then-is_ok-clause-frame
 returns-then-is_ok-clause-frame c =
-    frame_entered c.find-place.ensures.looked c.requires.ready c.requires.known c.enter.new.pass _ c.enter.ensures.frame c.enter.ensures.entered
+    frame_entered c.find-place.ensures.looked c.requires.ready c.requires.known c.enter.new.pass _
+    c.enter.ensures.frame c.enter.ensures.entered
 
 pub returns-in-Ok-clause-frame : goal.returns-in-Ok-clause-frame
 returns-in-Ok-clause-frame c =
-    frame_behind c.find-place.ensures.looked c.requires.ready c.requires.known c.put_there.new.pass c.put_there.ensures.edited.frame
+    frame_behind c.find-place.ensures.looked c.requires.ready c.requires.known c.put_there.new.pass
+    c.put_there.ensures.edited.frame
 
 pub returns-in-Err-clause-frame : goal.returns-in-Err-clause-frame
 returns-in-Err-clause-frame c =
-    frame_behind c.find-place.ensures.looked c.requires.ready c.requires.known c.put_there.new.pass c.put_there.ensures.edited.frame
+    frame_behind c.find-place.ensures.looked c.requires.ready c.requires.known c.put_there.new.pass
+    c.put_there.ensures.edited.frame
 
 pub returns-in-Err-clause-tried : goal.returns-in-Err-clause-tried
 returns-in-Err-clause-tried c = (
@@ -84,24 +89,39 @@ put_there-requires-clause-ready c =
 
 pub returns-then-is_ok-clause-turn : goal.returns-then-is_ok-clause-turn
 returns-then-is_ok-clause-turn c =
-    turn_entered c.find-place.ensures.looked c.requires.ready c.requires.known c.enter.new.pass _ c.enter.ensures.frame c.enter.ensures.entered
-    (λ (new : Bool). new) (Some (slice_range c.args.self.now.keyed.object.now c.args.self.now.keyed.key_at c.args.self.now.keyed.key_end)) c.args.tree.now.tuning c.args.course.now _ false refl _ c.find-place.ensures.loads
+    turn_entered c.find-place.ensures.looked c.requires.ready c.requires.known c.enter.new.pass _
+    c.enter.ensures.frame c.enter.ensures.entered
+    (λ (new : Bool). new) (Some (slice_range c.args.self.now.keyed.object.now
+    c.args.self.now.keyed.key_at c.args.self.now.keyed.key_end)) c.args.tree.now.tuning
+    c.args.course.now _ false refl _ c.find-place.ensures.loads
 
 pub returns-in-Ok-clause-turn : goal.returns-in-Ok-clause-turn
 returns-in-Ok-clause-turn c =
-    turn_edited c.find-place.ensures.looked c.requires.ready c.requires.known c.put_there.new.pass (λ (new : Bool). new) (Some (slice_range c.args.self.now.keyed.object.now c.args.self.now.keyed.key_at c.args.self.now.keyed.key_end)) (Some (slice_range c.args.self.now.keyed.object.now c.args.self.now.keyed.key_at c.args.self.now.keyed.key_end))
-    c.args.tree.now.tuning c.args.course.now c.put_there.new.course _ true refl c.in-Ok.ensures.edited.turn _ c.find-place.ensures.loads
+    turn_edited c.find-place.ensures.looked c.requires.ready c.requires.known c.put_there.new.pass
+    (λ (new : Bool). new) (Some (slice_range c.args.self.now.keyed.object.now
+    c.args.self.now.keyed.key_at c.args.self.now.keyed.key_end))
+    (Some (slice_range c.args.self.now.keyed.object.now c.args.self.now.keyed.key_at
+    c.args.self.now.keyed.key_end))
+    c.args.tree.now.tuning c.args.course.now c.put_there.new.course _ true refl
+    c.in-Ok.ensures.edited.turn _ c.find-place.ensures.loads
 
 pub returns-in-Err-clause-few_rows : goal.returns-in-Err-clause-few_rows
-returns-in-Err-clause-few_rows c = few_behind c.find-place.ensures.looked c.requires.ready c.requires.known {T = Unit {0}} (Err c.in-Err.stop)
+returns-in-Err-clause-few_rows c = few_behind c.find-place.ensures.looked c.requires.ready
+    c.requires.known {T = Unit {0}} (Err c.in-Err.stop)
 
 pub returns-in-Err-clause-crowds : goal.returns-in-Err-clause-crowds
-returns-in-Err-clause-crowds c = crowds_behind c.find-place.ensures.looked c.requires.ready c.requires.known c.in-Err.stop c.put_there.new.pass c.in-Err.ensures.edited.crowds
+returns-in-Err-clause-crowds c = crowds_behind c.find-place.ensures.looked c.requires.ready
+    c.requires.known c.in-Err.stop c.put_there.new.pass c.in-Err.ensures.edited.crowds
 
 pub returns-in-Err-clause-turn : goal.returns-in-Err-clause-turn
 returns-in-Err-clause-turn c =
-    turn_halted c.find-place.ensures.looked c.requires.ready c.requires.known c.put_there.new.pass (λ (new : Bool). new) (Some (slice_range c.args.self.now.keyed.object.now c.args.self.now.keyed.key_at c.args.self.now.keyed.key_end)) (Some (slice_range c.args.self.now.keyed.object.now c.args.self.now.keyed.key_at c.args.self.now.keyed.key_end))
-    c.args.tree.now.tuning c.args.course.now c.put_there.new.course _ c.in-Err.stop (λ _. refl) c.in-Err.ensures.edited.turn _ c.find-place.ensures.loads
+    turn_halted c.find-place.ensures.looked c.requires.ready c.requires.known c.put_there.new.pass
+    (λ (new : Bool). new) (Some (slice_range c.args.self.now.keyed.object.now
+    c.args.self.now.keyed.key_at c.args.self.now.keyed.key_end))
+    (Some (slice_range c.args.self.now.keyed.object.now c.args.self.now.keyed.key_at
+    c.args.self.now.keyed.key_end))
+    c.args.tree.now.tuning c.args.course.now c.put_there.new.course _ c.in-Err.stop (λ _. refl)
+    c.in-Err.ensures.edited.turn _ c.find-place.ensures.loads
 
 pub returns-in-Err-clause-stays : goal.returns-in-Err-clause-stays
 returns-in-Err-clause-stays c = (
@@ -114,5 +134,6 @@ pub put_there-requires-clause-unanswered : goal.put_there-requires-clause-unansw
 put_there-requires-clause-unanswered c = c.find-place.ensures.looked.unanswered
 
 pub put_there-requires-clause-idle : goal.put_there-requires-clause-idle
-put_there-requires-clause-idle c = idle_behind c.find-place.ensures.looked c.requires.ready c.requires.known c.find-place.ensures.met
+put_there-requires-clause-idle c = idle_behind c.find-place.ensures.looked c.requires.ready
+    c.requires.known c.find-place.ensures.met
     c.requires.idle

@@ -35,12 +35,14 @@ returns-in_default-clause-tried c = let key : List ℕ = c.args.self.now.key.now
     let none = subst
     (λ (p : Result ℕ ℕ). HasFetched z w key p old) c.in_default.is
     c.fetch-place.ensures.fetched in
-    read_done (λ (x : Bool) (e : Event). Removes key x old e) z (at_pin c.args.pass.now.seat.me.0.upper)
+    read_done (λ (x : Bool) (e : Event). Removes key x old e) z
+    (at_pin c.args.pass.now.seat.me.0.upper)
     c.fetch-place.new.pass.seat.me c.enter.new.pass.seat.me false (Remove key None) (
       refl,
       none.1,
     ) (further_since c.args.pass.now.seat.me.0.upper
-    c.fetch-place.new.pass.seat.me.0.upper c.requires.asking c.fetch-place.ensures.looked.further) c.fetch-place.ensures.looked.looking.known
+    c.fetch-place.new.pass.seat.me.0.upper c.requires.asking c.fetch-place.ensures.looked.further)
+    c.fetch-place.ensures.looked.looking.known
     (since_before c.args.pass.now.seat.me.0.upper c.fetch-place.new.pass.seat.me.0.upper
     c.fetch-place.ensures.looked.since) c.enter.ensures.entered
 
@@ -66,15 +68,18 @@ returns-in-Ok-remove_there-clause-tried c = let key : List ℕ = c.args.self.now
 
 pub returns-in_default-clause-frame : goal.returns-in_default-clause-frame
 returns-in_default-clause-frame c =
-    frame_entered c.fetch-place.ensures.looked c.requires.ready c.requires.known c.enter.new.pass _ c.enter.ensures.frame c.enter.ensures.entered
+    frame_entered c.fetch-place.ensures.looked c.requires.ready c.requires.known c.enter.new.pass _
+    c.enter.ensures.frame c.enter.ensures.entered
 
 pub returns-in-Ok-remove_there-clause-frame : goal.returns-in-Ok-remove_there-clause-frame
 returns-in-Ok-remove_there-clause-frame c =
-    frame_behind c.fetch-place.ensures.looked c.requires.ready c.requires.known c.remove_there.new.pass c.remove_there.ensures.edited.frame
+    frame_behind c.fetch-place.ensures.looked c.requires.ready c.requires.known
+    c.remove_there.new.pass c.remove_there.ensures.edited.frame
 
 pub returns-in-Err-clause-frame : goal.returns-in-Err-clause-frame
 returns-in-Err-clause-frame c =
-    frame_behind c.fetch-place.ensures.looked c.requires.ready c.requires.known c.remove_there.new.pass c.remove_there.ensures.edited.frame
+    frame_behind c.fetch-place.ensures.looked c.requires.ready c.requires.known
+    c.remove_there.new.pass c.remove_there.ensures.edited.frame
 
 pub returns-in-Err-clause-tried : goal.returns-in-Err-clause-tried
 returns-in-Err-clause-tried c = (
@@ -90,24 +95,32 @@ remove_there-requires-clause-ready c =
 
 pub returns-in_default-clause-turn : goal.returns-in_default-clause-turn
 returns-in_default-clause-turn c =
-    turn_entered c.fetch-place.ensures.looked c.requires.ready c.requires.known c.enter.new.pass _ c.enter.ensures.frame c.enter.ensures.entered
-    (λ (was : Bool). was) None c.args.tree.now.tuning c.args.course.now _ false refl _ c.fetch-place.ensures.loads
+    turn_entered c.fetch-place.ensures.looked c.requires.ready c.requires.known c.enter.new.pass _
+    c.enter.ensures.frame c.enter.ensures.entered
+    (λ (was : Bool). was) None c.args.tree.now.tuning c.args.course.now _ false refl _
+    c.fetch-place.ensures.loads
 
 pub returns-in-Ok-remove_there-clause-turn : goal.returns-in-Ok-remove_there-clause-turn
 returns-in-Ok-remove_there-clause-turn c =
-    turn_edited c.fetch-place.ensures.looked c.requires.ready c.requires.known c.remove_there.new.pass (λ (was : Bool). was) None None
-    c.args.tree.now.tuning c.args.course.now c.remove_there.new.course _ true refl c.in-Ok-remove_there.ensures.edited.turn _ c.fetch-place.ensures.loads
+    turn_edited c.fetch-place.ensures.looked c.requires.ready c.requires.known
+    c.remove_there.new.pass (λ (was : Bool). was) None None
+    c.args.tree.now.tuning c.args.course.now c.remove_there.new.course _ true refl
+    c.in-Ok-remove_there.ensures.edited.turn _ c.fetch-place.ensures.loads
 
 pub returns-in-Err-clause-few_rows : goal.returns-in-Err-clause-few_rows
-returns-in-Err-clause-few_rows c = few_behind c.fetch-place.ensures.looked c.requires.ready c.requires.known {T = Unit {0}} (Err c.in-Err.stop)
+returns-in-Err-clause-few_rows c = few_behind c.fetch-place.ensures.looked c.requires.ready
+    c.requires.known {T = Unit {0}} (Err c.in-Err.stop)
 
 pub returns-in-Err-clause-crowds : goal.returns-in-Err-clause-crowds
-returns-in-Err-clause-crowds c = crowds_behind c.fetch-place.ensures.looked c.requires.ready c.requires.known c.in-Err.stop c.remove_there.new.pass c.in-Err.ensures.edited.crowds
+returns-in-Err-clause-crowds c = crowds_behind c.fetch-place.ensures.looked c.requires.ready
+    c.requires.known c.in-Err.stop c.remove_there.new.pass c.in-Err.ensures.edited.crowds
 
 pub returns-in-Err-clause-turn : goal.returns-in-Err-clause-turn
 returns-in-Err-clause-turn c =
-    turn_halted c.fetch-place.ensures.looked c.requires.ready c.requires.known c.remove_there.new.pass (λ (was : Bool). was) None None
-    c.args.tree.now.tuning c.args.course.now c.remove_there.new.course _ c.in-Err.stop (λ _. refl) c.in-Err.ensures.edited.turn _ c.fetch-place.ensures.loads
+    turn_halted c.fetch-place.ensures.looked c.requires.ready c.requires.known
+    c.remove_there.new.pass (λ (was : Bool). was) None None
+    c.args.tree.now.tuning c.args.course.now c.remove_there.new.course _ c.in-Err.stop (λ _. refl)
+    c.in-Err.ensures.edited.turn _ c.fetch-place.ensures.loads
 
 pub returns-in-Err-clause-stays : goal.returns-in-Err-clause-stays
 returns-in-Err-clause-stays c = (
@@ -120,5 +133,6 @@ pub remove_there-requires-clause-unanswered : goal.remove_there-requires-clause-
 remove_there-requires-clause-unanswered c = c.fetch-place.ensures.looked.unanswered
 
 pub remove_there-requires-clause-idle : goal.remove_there-requires-clause-idle
-remove_there-requires-clause-idle c = idle_behind c.fetch-place.ensures.looked c.requires.ready c.requires.known c.fetch-place.ensures.met
+remove_there-requires-clause-idle c = idle_behind c.fetch-place.ensures.looked c.requires.ready
+    c.requires.known c.fetch-place.ensures.met
     c.requires.idle

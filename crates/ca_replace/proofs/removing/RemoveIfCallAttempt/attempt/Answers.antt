@@ -58,7 +58,8 @@ returns-in_default-clause-tried g c = let key : List ℕ = c.args.self.now.key.n
       refl,
       none.1,
     ) (further_since c.args.pass.now.seat.me.0.upper
-    c.fetch-place.new.pass.seat.me.0.upper c.requires.asking c.fetch-place.ensures.looked.further) c.fetch-place.ensures.looked.looking.known
+    c.fetch-place.new.pass.seat.me.0.upper c.requires.asking c.fetch-place.ensures.looked.further)
+    c.fetch-place.ensures.looked.looking.known
     (since_before c.args.pass.now.seat.me.0.upper c.fetch-place.new.pass.seat.me.0.upper
     c.fetch-place.ensures.looked.since) c.enter.ensures.entered
 
@@ -81,7 +82,8 @@ returns-then-not-f-clause-tried g c = let key : List ℕ = c.args.self.now.key.n
     read_done (λ (x : Changed)
     (e : Event). RemovesIf g.F.Fn c.args.self.now.f.now key x old e) z
     (at_pin c.args.pass.now.seat.me.0.upper)
-    c.fetch-place.new.pass.seat.me c.enter-then-not-f.new.pass.seat.me changed.Kept (Get key (Some old)) (
+    c.fetch-place.new.pass.seat.me c.enter-then-not-f.new.pass.seat.me changed.Kept
+    (Get key (Some old)) (
       record {
         shown =
             _;
@@ -91,7 +93,8 @@ returns-then-not-f-clause-tried g c = let key : List ℕ = c.args.self.now.key.n
       refl,
     )
     (further_since c.args.pass.now.seat.me.0.upper
-    c.fetch-place.new.pass.seat.me.0.upper c.requires.asking c.fetch-place.ensures.looked.further) c.fetch-place.ensures.looked.looking.known
+    c.fetch-place.new.pass.seat.me.0.upper c.requires.asking c.fetch-place.ensures.looked.further)
+    c.fetch-place.ensures.looked.looking.known
     (since_before c.args.pass.now.seat.me.0.upper c.fetch-place.new.pass.seat.me.0.upper
     c.fetch-place.ensures.looked.since)
     (subst (λ (o : List ℕ). IsEntered (Get key (Some o)) c.fetch-place.new.pass.seat.me
@@ -128,19 +131,24 @@ returns-in-Ok-remove_there-clause-tried g c = let key : List ℕ = c.args.self.n
 
 pub returns-in_default-clause-frame : goal.returns-in_default-clause-frame
 returns-in_default-clause-frame g c =
-    frame_entered c.fetch-place.ensures.looked c.requires.ready c.requires.known c.enter.new.pass _ c.enter.ensures.frame c.enter.ensures.entered
+    frame_entered c.fetch-place.ensures.looked c.requires.ready c.requires.known c.enter.new.pass _
+    c.enter.ensures.frame c.enter.ensures.entered
 
 pub returns-then-not-f-clause-frame : goal.returns-then-not-f-clause-frame
 returns-then-not-f-clause-frame g c =
-    frame_entered c.fetch-place.ensures.looked c.requires.ready c.requires.known c.enter-then-not-f.new.pass _ c.enter-then-not-f.ensures.frame c.enter-then-not-f.ensures.entered
+    frame_entered c.fetch-place.ensures.looked c.requires.ready c.requires.known
+    c.enter-then-not-f.new.pass _ c.enter-then-not-f.ensures.frame
+    c.enter-then-not-f.ensures.entered
 
 pub returns-in-Ok-remove_there-clause-frame : goal.returns-in-Ok-remove_there-clause-frame
 returns-in-Ok-remove_there-clause-frame g c =
-    frame_behind c.fetch-place.ensures.looked c.requires.ready c.requires.known c.remove_there.new.pass c.remove_there.ensures.edited.frame
+    frame_behind c.fetch-place.ensures.looked c.requires.ready c.requires.known
+    c.remove_there.new.pass c.remove_there.ensures.edited.frame
 
 pub returns-in-Err-clause-frame : goal.returns-in-Err-clause-frame
 returns-in-Err-clause-frame g c =
-    frame_behind c.fetch-place.ensures.looked c.requires.ready c.requires.known c.remove_there.new.pass c.remove_there.ensures.edited.frame
+    frame_behind c.fetch-place.ensures.looked c.requires.ready c.requires.known
+    c.remove_there.new.pass c.remove_there.ensures.edited.frame
 
 pub returns-in-Err-clause-tried : goal.returns-in-Err-clause-tried
 returns-in-Err-clause-tried g c = (
@@ -156,29 +164,40 @@ remove_there-requires-clause-ready g c =
 
 pub returns-in_default-clause-turn : goal.returns-in_default-clause-turn
 returns-in_default-clause-turn g c =
-    turn_entered c.fetch-place.ensures.looked c.requires.ready c.requires.known c.enter.new.pass _ c.enter.ensures.frame c.enter.ensures.entered
-    is_put None c.args.tree.now.tuning c.args.course.now _ changed.Absent refl _ c.fetch-place.ensures.loads
+    turn_entered c.fetch-place.ensures.looked c.requires.ready c.requires.known c.enter.new.pass _
+    c.enter.ensures.frame c.enter.ensures.entered
+    is_put None c.args.tree.now.tuning c.args.course.now _ changed.Absent refl _
+    c.fetch-place.ensures.loads
 
 pub returns-then-not-f-clause-turn : goal.returns-then-not-f-clause-turn
 returns-then-not-f-clause-turn g c =
-    turn_entered c.fetch-place.ensures.looked c.requires.ready c.requires.known c.enter-then-not-f.new.pass _ c.enter-then-not-f.ensures.frame c.enter-then-not-f.ensures.entered
-    is_put None c.args.tree.now.tuning c.args.course.now _ changed.Kept refl _ c.fetch-place.ensures.loads
+    turn_entered c.fetch-place.ensures.looked c.requires.ready c.requires.known
+    c.enter-then-not-f.new.pass _ c.enter-then-not-f.ensures.frame
+    c.enter-then-not-f.ensures.entered
+    is_put None c.args.tree.now.tuning c.args.course.now _ changed.Kept refl _
+    c.fetch-place.ensures.loads
 
 pub returns-in-Ok-remove_there-clause-turn : goal.returns-in-Ok-remove_there-clause-turn
 returns-in-Ok-remove_there-clause-turn g c =
-    turn_edited c.fetch-place.ensures.looked c.requires.ready c.requires.known c.remove_there.new.pass is_put None None
-    c.args.tree.now.tuning c.args.course.now c.remove_there.new.course _ changed.Put refl c.in-Ok-remove_there.ensures.edited.turn _ c.fetch-place.ensures.loads
+    turn_edited c.fetch-place.ensures.looked c.requires.ready c.requires.known
+    c.remove_there.new.pass is_put None None
+    c.args.tree.now.tuning c.args.course.now c.remove_there.new.course _ changed.Put refl
+    c.in-Ok-remove_there.ensures.edited.turn _ c.fetch-place.ensures.loads
 
 pub returns-in-Err-clause-few_rows : goal.returns-in-Err-clause-few_rows
-returns-in-Err-clause-few_rows g c = few_behind c.fetch-place.ensures.looked c.requires.ready c.requires.known {T = Unit {0}} (Err c.in-Err.stop)
+returns-in-Err-clause-few_rows g c = few_behind c.fetch-place.ensures.looked c.requires.ready
+    c.requires.known {T = Unit {0}} (Err c.in-Err.stop)
 
 pub returns-in-Err-clause-crowds : goal.returns-in-Err-clause-crowds
-returns-in-Err-clause-crowds g c = crowds_behind c.fetch-place.ensures.looked c.requires.ready c.requires.known c.in-Err.stop c.remove_there.new.pass c.in-Err.ensures.edited.crowds
+returns-in-Err-clause-crowds g c = crowds_behind c.fetch-place.ensures.looked c.requires.ready
+    c.requires.known c.in-Err.stop c.remove_there.new.pass c.in-Err.ensures.edited.crowds
 
 pub returns-in-Err-clause-turn : goal.returns-in-Err-clause-turn
 returns-in-Err-clause-turn g c =
-    turn_halted c.fetch-place.ensures.looked c.requires.ready c.requires.known c.remove_there.new.pass is_put None None
-    c.args.tree.now.tuning c.args.course.now c.remove_there.new.course _ c.in-Err.stop (λ _. refl) c.in-Err.ensures.edited.turn _ c.fetch-place.ensures.loads
+    turn_halted c.fetch-place.ensures.looked c.requires.ready c.requires.known
+    c.remove_there.new.pass is_put None None
+    c.args.tree.now.tuning c.args.course.now c.remove_there.new.course _ c.in-Err.stop (λ _. refl)
+    c.in-Err.ensures.edited.turn _ c.fetch-place.ensures.loads
 
 pub returns-in-Err-clause-stays : goal.returns-in-Err-clause-stays
 returns-in-Err-clause-stays g c = (
@@ -191,5 +210,6 @@ pub remove_there-requires-clause-unanswered : goal.remove_there-requires-clause-
 remove_there-requires-clause-unanswered g c = c.fetch-place.ensures.looked.unanswered
 
 pub remove_there-requires-clause-idle : goal.remove_there-requires-clause-idle
-remove_there-requires-clause-idle g c = idle_behind c.fetch-place.ensures.looked c.requires.ready c.requires.known c.fetch-place.ensures.met
+remove_there-requires-clause-idle g c = idle_behind c.fetch-place.ensures.looked c.requires.ready
+    c.requires.known c.fetch-place.ensures.met
     c.requires.idle

@@ -18,7 +18,8 @@ pub load_link-requires-clause-known : goal.load_link-requires-clause-known
 load_link-requires-clause-known c = (0, all_keys, inl (refl, refl, refl))
 
 pub keep_few-requires : goal.keep_few-requires
-keep_few-requires c = let rests = rests_first c.self.inside c.self.view_is c.requires.closed c.self.invariant in
+keep_few-requires c = let rests = rests_first c.self.inside c.self.view_is c.requires.closed
+    c.self.invariant in
     let tree = c.self.inside.tree.now in
     let z : Sizes = tree.space.table.shared.key in let table = tree.space.table.shared.table_id in
     let pass = c.self.inside.pass in let pin = c.pin.ensures.pinned.3 in
@@ -43,7 +44,8 @@ keep_few-requires c = let rests = rests_first c.self.inside c.self.view_is c.req
     c.load_link.result c.load_link.ensures.led
     (ap (λ (m : MyTree). m.0.sizes) both ∙ rests.of.1) tree.space.few.0 in
     let counts =
-    led_counts false root_word c.pin.new.pass.seat.me c.load_link.new.pass.seat.me c.load_link.result
+    led_counts false root_word c.pin.new.pass.seat.me c.load_link.new.pass.seat.me
+    c.load_link.result
     c.load_link.ensures.led in record {
       resting = rests_as table z pass.number c.unpin.new.pass.number c.load_link.new.pass.kept
           c.unpin.new.pass.kept c.unpin.new.pass.seat
@@ -67,7 +69,8 @@ keep_few-requires c = let rests = rests_first c.self.inside c.self.view_is c.req
           (none_pinned table z pass.number pass.kept c.pin.new.pass.kept pass.seat
           c.pin.new.pass.seat _ _ rests both (ap left_over rests.quiet)
           (c.pin.ensures.frame.kept ∙ c.learn.ensures.frame.kept)) led.1
-          (sym (ap (λ (m : MyTree). m.0.upper.ranges.own) led.1) ∙ counts.2) c.load_link.ensures.frame.kept)
+          (sym (ap (λ (m : MyTree). m.0.upper.ranges.own) led.1) ∙ counts.2)
+          c.load_link.ensures.frame.kept)
           (led.3, led.2.number) c.unpin.ensures.frame.same.0 c.unpin.ensures.unpinned
           (tallied_still pass.tally c.load_link.new.pass.tally pass.seat.me.0.upper
           c.load_link.new.pass.seat.me.0.upper
@@ -77,14 +80,17 @@ keep_few-requires c = let rests = rests_first c.self.inside c.self.view_is c.req
           ∙ ap (λ (m : MyTree). m.0.upper.joins) both))
           (counts.2 ∙ (ap (λ (m : MyTree). m.0.upper.ranges.own) both ∙ ap left_over rests.quiet))
           (λ one. c.unpin.ensures.only (is_lone z c.load_link.new.pass.seat.me
-          (ap (λ (m : MyTree). m.0.sizes) led.1 ∙ (ap (λ (m : MyTree). m.0.sizes) both ∙ rests.of.1)) tree.space.few.0 one)));
+          (ap (λ (m : MyTree). m.0.sizes) led.1 ∙ (ap (λ (m : MyTree). m.0.sizes) both
+          ∙ rests.of.1)) tree.space.few.0 one)));
     }
 
 pub learn-requires-clause-own : goal.learn-requires-clause-own
-learn-requires-clause-own c = (rests_first c.self.inside c.self.view_is c.requires.closed c.self.invariant).of
+learn-requires-clause-own c = (rests_first c.self.inside c.self.view_is c.requires.closed
+    c.self.invariant).of
 
 pub learn-requires-clause-unpinned : goal.learn-requires-clause-unpinned
-learn-requires-clause-unpinned c = (rests_first c.self.inside c.self.view_is c.requires.closed c.self.invariant).is_unpinned
+learn-requires-clause-unpinned c = (rests_first c.self.inside c.self.view_is c.requires.closed
+    c.self.invariant).is_unpinned
 
 pub invariant_of-self : goal.invariant_of-self
 invariant_of-self c = rests_then c.self.inside c.self.view_is c.requires.closed
@@ -95,7 +101,11 @@ returns-clause-closed c = closed_then c.self.inside c.self.view_is c.requires.cl
     c.keep_few.new.pass c.self.inside.last
 
 pub returns-clause-loads : goal.returns-clause-loads
-returns-clause-loads c = let one = led_once false root_word c.pin.new.pass.seat.me c.load_link.new.pass.seat.me c.load_link.result c.load_link.ensures.led in
-    let before = ap (λ (m : MyTree). m.0.upper.loads) c.learn.ensures.learnt in let pin = ap (λ (m : MyTree). m.0.upper.loads) c.pin.ensures.pinned.3 in
-    let left = ap (λ (m : MyTree). m.0.upper.loads) c.unpin.ensures.unpinned in let kept = ap (λ (u : TreeView). u.loads) c.keep_few.ensures.gave.upper in
-    subst (λ (s : StoreAndRun). c.keep_few.new.pass.seat.me.0.upper.loads ≡ s.store.seat.me.0.upper.loads + 1) c.self.view_is (omega arith)
+returns-clause-loads c = let one = led_once false root_word c.pin.new.pass.seat.me
+    c.load_link.new.pass.seat.me c.load_link.result c.load_link.ensures.led in
+    let before = ap (λ (m : MyTree). m.0.upper.loads) c.learn.ensures.learnt in
+    let pin = ap (λ (m : MyTree). m.0.upper.loads) c.pin.ensures.pinned.3 in
+    let left = ap (λ (m : MyTree). m.0.upper.loads) c.unpin.ensures.unpinned in
+    let kept = ap (λ (u : TreeView). u.loads) c.keep_few.ensures.gave.upper in
+    subst (λ (s : StoreAndRun). c.keep_few.new.pass.seat.me.0.upper.loads
+    ≡ s.store.seat.me.0.upper.loads + 1) c.self.view_is (omega arith)

@@ -46,7 +46,8 @@ look_up-found-requires-clause-unanswered c =
     (pinned_first pinned_me.0.upper u pin))
 
 pub keep_few-requires : goal.keep_few-requires
-keep_few-requires c = let rests = rests_first c.self.inside c.self.view_is c.requires.closed c.self.invariant in
+keep_few-requires c = let rests = rests_first c.self.inside c.self.view_is c.requires.closed
+    c.self.invariant in
     let tree = c.self.inside.tree.now in
     let z : Sizes = tree.space.table.shared.key in let table = tree.space.table.shared.table_id in
     let pass = c.self.inside.pass in let pin = c.pin.ensures.pinned.3 in
@@ -58,7 +59,8 @@ keep_few-requires c = let rests = rests_first c.self.inside c.self.view_is c.req
     let tried =
     read_tried z c.args.key c.pin.new.pass.seat.me c.walk-cursor.new.pass.seat.me
     c.look_up-found.new.pass.seat.me c.walk-cursor.result event
-    c.look_up-found.result c.walk-cursor.ensures.walked (pinned_first c.pin.new.pass.seat.me.0.upper pass.seat.me.0.upper
+    c.look_up-found.result c.walk-cursor.ensures.walked (pinned_first c.pin.new.pass.seat.me.0.upper
+    pass.seat.me.0.upper
     (ap (λ (m : MyTree). m.0.upper) c.pin.ensures.pinned.3))
     c.look_up-found.ensures.entered in record {
       resting = rests_as table z pass.number c.unpin.new.pass.number c.look_up-found.new.pass.kept
@@ -86,7 +88,8 @@ keep_few-requires c = let rests = rests_first c.self.inside c.self.view_is c.req
           c.walk-cursor.new.pass.seat.me _ _
           (none_pinned table z pass.number pass.kept c.pin.new.pass.kept pass.seat
           c.pin.new.pass.seat _ _ rests pin (ap left_over rests.quiet)
-          c.pin.ensures.frame.kept) walk refl c.walk-cursor.ensures.frame.kept) look refl c.look_up-found.ensures.frame.kept)
+          c.pin.ensures.frame.kept) walk refl c.walk-cursor.ensures.frame.kept) look refl
+          c.look_up-found.ensures.frame.kept)
           (tried_known told z (Ok c.look_up-found.result) c.pin.new.pass.seat.me.0.upper
           c.look_up-found.new.pass.seat.me.0.upper tried)
           c.unpin.ensures.frame.same.0 c.unpin.ensures.unpinned
@@ -100,7 +103,8 @@ keep_few-requires c = let rests = rests_first c.self.inside c.self.view_is c.req
           (ap (λ (m : MyTree). m.0.upper.joins) look
           ∙ (ap (λ (m : MyTree). m.0.upper.joins) walk
           ∙ ap (λ (m : MyTree). m.0.upper.joins) pin)))
-          (ap (λ (m : MyTree). m.0.upper.ranges.own) look ∙ (ap (λ (m : MyTree). m.0.upper.ranges.own) walk
+          (ap (λ (m : MyTree). m.0.upper.ranges.own) look
+          ∙ (ap (λ (m : MyTree). m.0.upper.ranges.own) walk
           ∙ (ap (λ (m : MyTree). m.0.upper.ranges.own) pin ∙ ap left_over rests.quiet)))
           (λ one. c.unpin.ensures.only (is_lone z c.look_up-found.new.pass.seat.me
           (ap (λ (m : MyTree). m.0.sizes) look ∙ (ap (λ (m : MyTree). m.0.sizes) walk
@@ -108,7 +112,8 @@ keep_few-requires c = let rests = rests_first c.self.inside c.self.view_is c.req
     }
 
 pub returns-clause-got : goal.returns-clause-got
-returns-clause-got c = let rests = rests_first c.self.inside c.self.view_is c.requires.closed c.self.invariant in
+returns-clause-got c = let rests = rests_first c.self.inside c.self.view_is c.requires.closed
+    c.self.invariant in
     let tree = c.self.inside.tree.now in
     let table = tree.space.table.shared.table_id in
     let z : Sizes = tree.space.table.shared.key in let pass = c.self.inside.pass in
@@ -120,7 +125,8 @@ returns-clause-got c = let rests = rests_first c.self.inside c.self.view_is c.re
     let tried =
     read_tried z c.args.key c.pin.new.pass.seat.me c.walk-cursor.new.pass.seat.me
     c.look_up-found.new.pass.seat.me c.walk-cursor.result event
-    found c.walk-cursor.ensures.walked (pinned_first c.pin.new.pass.seat.me.0.upper pass.seat.me.0.upper
+    found c.walk-cursor.ensures.walked (pinned_first c.pin.new.pass.seat.me.0.upper
+    pass.seat.me.0.upper
     (ap (λ (m : MyTree). m.0.upper) c.pin.ensures.pinned.3))
     c.look_up-found.ensures.entered in
     let done =
@@ -133,7 +139,8 @@ returns-clause-got c = let rests = rests_first c.self.inside c.self.view_is c.re
     let first = pass.seat.me.0.upper in
     of_stores c.self.inside c.self.view_is c.requires.closed c.keep_few.new.pass c.self.inside.last
     (λ (k l : Known). Got k l c.args.key.now found into)
-    (subst (λ (u : TreeView). Got (known_of table z first) (known_of table z u) c.args.key.now found into)
+    (subst (λ (u : TreeView). Got (known_of table z first) (known_of table z u) c.args.key.now found
+    into)
     (sym c.keep_few.ensures.gave.upper)
     (got_is (known_of table z first) (known_of table z behind) c.args.key.now into
     found
@@ -142,10 +149,12 @@ returns-clause-got c = let rests = rests_first c.self.inside c.self.view_is c.re
     c.look_up-found.ensures.emptied))
 
 pub pin-requires-clause-own : goal.pin-requires-clause-own
-pin-requires-clause-own c = (rests_first c.self.inside c.self.view_is c.requires.closed c.self.invariant).of
+pin-requires-clause-own c = (rests_first c.self.inside c.self.view_is c.requires.closed
+    c.self.invariant).of
 
 pub pin-requires-clause-unpinned : goal.pin-requires-clause-unpinned
-pin-requires-clause-unpinned c = (rests_first c.self.inside c.self.view_is c.requires.closed c.self.invariant).is_unpinned
+pin-requires-clause-unpinned c = (rests_first c.self.inside c.self.view_is c.requires.closed
+    c.self.invariant).is_unpinned
 
 pub invariant_of-self : goal.invariant_of-self
 invariant_of-self c = rests_then c.self.inside c.self.view_is c.requires.closed
@@ -165,13 +174,15 @@ returns-clause-promised c = let tree = c.self.inside.tree.now in let pass = c.se
     let new = c.keep_few.new.pass in let behind = c.unpin.new.pass.seat.me.0.upper in
     let rests = rests_first c.self.inside c.self.view_is c.requires.closed c.self.invariant in
     let table = tree.space.table.shared.table_id in let z : Sizes = tree.space.table.shared.key in
-    let found : Bool = c.look_up-found.result in let into : List ℕ = c.look_up-found.new.into.items in
+    let found : Bool = c.look_up-found.result in
+    let into : List ℕ = c.look_up-found.new.into.items in
     let event = get_event c.args.key.now found into in
     let told = λ (_ : Bool) (e : Event). e ≡ event in
     let tried =
     read_tried z c.args.key c.pin.new.pass.seat.me c.walk-cursor.new.pass.seat.me
     c.look_up-found.new.pass.seat.me c.walk-cursor.result event
-    found c.walk-cursor.ensures.walked (pinned_first c.pin.new.pass.seat.me.0.upper pass.seat.me.0.upper
+    found c.walk-cursor.ensures.walked (pinned_first c.pin.new.pass.seat.me.0.upper
+    pass.seat.me.0.upper
     (ap (λ (m : MyTree). m.0.upper) c.pin.ensures.pinned.3))
     c.look_up-found.ensures.entered in
     let done =
@@ -181,13 +192,16 @@ returns-clause-promised c = let tree = c.self.inside.tree.now in let pass = c.se
     (subst (λ (m : MyTree).
     HasTriedTo told z (Ok found) m.0.upper c.look_up-found.new.pass.seat.me.0.upper)
     c.pin.ensures.pinned.3 tried) in
-    let still = λ (one : z.passes ≡ 1). read_still z pass.seat.me.0.upper new.seat.me.0.upper done.0.0
+    let still = λ (one : z.passes ≡ 1). read_still z pass.seat.me.0.upper new.seat.me.0.upper
+    done.0.0
     (alone_at table z pass.number pass.tally pass.kept.rows pass.seat rests one) rests.known
     c.keep_few.ensures.frame.resting.known
-    (subst (λ (u : TreeView). HasDone done.0.0 pass.seat.me.0.upper u) (sym c.keep_few.ensures.gave.upper) done.0.2)
+    (subst (λ (u : TreeView). HasDone done.0.0 pass.seat.me.0.upper u)
+    (sym c.keep_few.ensures.gave.upper) done.0.2)
     (ap effect done.0.1 ∙ reads_only c.args.key.now found into) in
     subst (λ (s : StoreAndRun). OnlyLooks s.store (store_of tree new c.self.inside.last)
-    × IsSparing s.store (store_of tree new c.self.inside.last) × WalksOnce s.store.z s.store.seat.me new.seat.me) c.self.view_is (
+    × IsSparing s.store (store_of tree new c.self.inside.last) × WalksOnce s.store.z s.store.seat.me
+    new.seat.me) c.self.view_is (
       record { unchanged = search rules; untouched = search rules; still = still },
       search rules,
       search rules,
