@@ -15,12 +15,8 @@ use Rattle.ca_node.proofs.Looking.{in_more}
 use Rattle.ca_node.specs.Ranging.{Reaches, top_of}
 use Rattle.ca_node.specs.Row.{edge_form, route_key}
 use Rattle.ca_node.specs.TreeView.{Border}
+use Rattle.ca_node.proofs.Parts.{is_less}
 use Rattle.ca_range.specs.Reaching.{border_for, reaches_by}
-
-is_less : (o : Ordering) → is_lt o ≡ true → o ≡ Less
-is_less Less e = refl
-is_less Equal e = cc
-is_less Greater e = cc
 
 module _ (its key : List ℕ) where
   -- What such an upper edge lets in is less than the key.

@@ -21,7 +21,7 @@ use Rattle.ca_range.specs.Looking.{IsFirst, IsGoneTo}
 use Rattle.ca_range.proofs.Filled.{at_same}
 
 -- The first edits of a history are edits, so each state of it is a map.
-edits_take : (keypos n : ℕ) (h : History) → AreEdits keypos h → AreEdits keypos (take n h)
+pub edits_take : (keypos n : ℕ) (h : History) → AreEdits keypos h → AreEdits keypos (take n h)
 edits_take keypos zero h e = tt
 edits_take keypos (suc n) [] e = tt
 edits_take keypos (suc n) (x ∷ xs) e = (e.0, edits_take keypos n xs e.1)

@@ -67,7 +67,7 @@ snaps_alone z come a b m n alone known only few e = record {
 }
 
 -- No more rows are kept than before some were taken.
-takes_fewer_all : (told : ℕ) (likes : List ℕ) (ks left : List Kept) → TakesKept told likes ks left → length left ≤ length ks
+pub takes_fewer_all : (told : ℕ) (likes : List ℕ) (ks left : List Kept) → TakesKept told likes ks left → length left ≤ length ks
 takes_fewer_all told [] ks left h = let same = ap (λ (l : List Kept). length l) h in omega arith
 takes_fewer_all told (like ∷ likes) ks left h = let rest = takes_fewer_all told likes h.0 left h.2 in
     ⊎_elim (λ (some : (row : ℕ) × IsTakenOut told like row ks h.0). let one = taken_fewer told like some.0 ks h.0 some.1 in

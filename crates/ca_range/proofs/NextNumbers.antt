@@ -18,7 +18,7 @@ use Rattle.ca_range.specs.Snapshots.{OnlyRanges}
 use Rattle.ca_base.specs.Spending.{IsSpentOn}
 use Rattle.ca_range.proofs.FirstBases.{first_still}
 use Rattle.ca_range.proofs.SnapshotSteps.{ranges_both}
-use Rattle.ca_range.proofs.Spends.{on_both, on_lost, on_still}
+use Rattle.ca_base.proofs.Spends.{on_both, on_lost, on_still}
 use Rattle.ca_range.proofs.Stepping.{known_same, none_more}
 
 -- The first base is it still.

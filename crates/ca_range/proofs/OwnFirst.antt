@@ -43,7 +43,7 @@ use Rattle.ca_range.specs.declared.sought.Sought.{Sought}
 use Rattle.ca_range.proofs.Copied.{is_copy, is_note}
 use Rattle.ca_range.proofs.OwnEnds.{begun_of}
 use Rattle.ca_range.proofs.SnapshotSteps.{ranges_both}
-use Rattle.ca_range.proofs.Spends.{on_both, on_still}
+use Rattle.ca_base.proofs.Spends.{on_both, on_still}
 use Rattle.ca_range.proofs.Stepping.{known_same, none_more}
 
 module _ (z : Sizes) (m1 m2 m3 : MyTree) (rows : Rows) (first : Cursor) (number : ℕ) (lo hi : Bound) (mark : Mark) (f : IsFirst z lo m1.0.upper first)

@@ -37,7 +37,7 @@ map_first : (p : ℕ) (xs ys : StoreMap) → IsStoreMap p (xs ++ ys) → IsStore
 map_first p [] ys m = tt
 map_first p (x ∷ xs) ys m = (m.0, above_first x.0 xs ys m.1, map_first p xs ys m.2)
 
-map_second : (p : ℕ) (xs ys : StoreMap) → IsStoreMap p (xs ++ ys) → IsStoreMap p ys
+pub map_second : (p : ℕ) (xs ys : StoreMap) → IsStoreMap p (xs ++ ys) → IsStoreMap p ys
 map_second p [] ys m = m
 map_second p (x ∷ xs) ys m = map_second p xs ys m.2
 

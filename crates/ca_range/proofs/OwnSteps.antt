@@ -32,7 +32,7 @@ use Rattle.ca_range.proofs.SnapshotSteps.{IsNoLess, ranges_both, ranges_by_steps
 use Rattle.ca_range.proofs.Filled.{raised_met}
 use Rattle.ca_range.proofs.OwnEnds.{steps_over}
 use Rattle.ca_range.proofs.Readied.{ready_reads, ready_still}
-use Rattle.ca_range.proofs.Spends.{on_both, on_still}
+use Rattle.ca_base.proofs.Spends.{on_both, on_still}
 
 module _ {R : Type 0} (space : Space R TreeView) where
   pub goes_none : (a : Spent) (pass : Pass R TreeView) → AreHeld space.table.shared.key.rows pass.kept.rows pass.seat.me.0 [] → GoesOn space a a pass pass

@@ -1,11 +1,11 @@
 -- A greater key has a greater rank.
-use Rattle.std.proofs.Common.{◌≡◌, ℕ, zero, suc, ◌+◌, ◌*◌, ◌<◌, ◌≤◌, Bool, true, false, cond, List, [], ◌∷◌, ◌++◌, length, take, drop, Option, Some, None, sym, refl, ap, ◌∙◌, subst, arith, length-take}
+use Rattle.std.proofs.Common.{◌≡◌, ℕ, zero, suc, ◌+◌, ◌*◌, ◌<◌, ◌≤◌, true, List, [], ◌∷◌, ◌++◌, length, take, drop, Option, Some, None, sym, refl, ap, ◌∙◌, subst, arith, length-take}
 use native.Mathlib.Nat.{mul-le-mul_right}
 use Rattle.std.specs.declared.cmp.Ordering.{Ordering}
 use Rattle.std.specs.declared.cmp.Ordering.TheVariants.{Less, Equal, Greater}
 use Rattle.std.specs.Cmp.{ranked}
 use Rattle.std.specs.Int.{to_be_bytes, w64}
-use Rattle.std.specs.Ordering.{is_lt, nat_cmp, ordering_then}
+use Rattle.std.specs.Ordering.{nat_cmp, ordering_then}
 use Rattle.ca_model.specs.Edges.{Bound, Unbounded, Included, Excluded, is_from, is_up_to}
 use Rattle.ca_model.specs.StoreMap.{bytes_cmp}
 use Rattle.ca_base.specs.Putting.{first_note}
@@ -15,6 +15,7 @@ use Rattle.ca_node.specs.Row.{bytes_in, count, route_key}
 use Rattle.ca_node.specs.TreeView.{TreeView}
 use Rattle.ca_node.specs.Walking.{IsHighRoute}
 use Rattle.ca_node.specs.declared.cursor.Cursor.{Cursor}
+use Rattle.ca_node.proofs.Parts.{is_less, second_holds}
 use Rattle.ca_term.proofs.DigitOrder.{AllBytes, high_bytes}
 use Rattle.ca_rows.specs.declared.sizes.Sizes.{Sizes}
 use Rattle.ca_range.specs.Ahead.{IsAtLast, IsBefore}
@@ -81,15 +82,6 @@ high_key z u None bound key h e = let no : Unbounded ≡ Excluded key = sym h �
 high_key z u (Some route) bound key h e = let same = ap end_of (sym h.3 ∙ e) in
     subst (λ (k : List ℕ). AllBytes k × (length k ≤ 1000)) same (key_bytes h.0.its, key_long h.0.its h.4.short)
 
-has_high : (b c : Bool) → cond b c false ≡ true → c ≡ true
-has_high true c e = e
-has_high false c e = cc
-
-is_less : (o : Ordering) → is_lt o ≡ true → o ≡ Less
-is_less Less e = refl
-is_less Equal e = cc
-is_less Greater e = cc
-
 never_last : (z : Sizes) (u : TreeView) (r : Option ℕ) (key : List ℕ) → ¬ IsHighRoute z u.ways r (Included key)
 never_last z u None key h = cc
 never_last z u (Some route) key h = let no : Included key ≡ Excluded (route_key h.0.its) = h.3 in cc
@@ -108,7 +100,7 @@ pub key_farther : (z : Sizes) (left next : Cursor) (u v : TreeView) (key : List 
 key_farther z left next u v key at there ends has = let k = high_key z u left.high (first_note u.notes).place.span.high key at.high ends in
     let span = (first_note v.notes).place.span in
     subst (λ (x : Bound). reach_to x < reach v) (sym ends)
-    (goes_past z v next.high span.high key k.0 k.1 there.high (has_high (is_from span.low key) (is_up_to span.high key) has))
+    (goes_past z v next.high span.high key k.0 k.1 there.high (second_holds (is_from span.low key) (is_up_to span.high key) has))
 
 pub next_farther : (z : Sizes) (range : Range) (left next : Cursor) (u v : TreeView) → IsAtLast z u left → IsBefore z range next u v → reach u < reach v
 next_farther z range left next u v at b = key_farther z left next u v b.key at b.at b.ends b.has

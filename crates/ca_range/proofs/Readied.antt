@@ -74,13 +74,3 @@ module _ {R : Type 0} (space : Space R TreeView) where
     number = subst (λ (n : ℕ). 0 < n) (sym (ap (λ (u : TreeView). u.number) steps.only)) r.number;
     none = s.none;
   }
-
-  pub stays_both : (a b c : Pass R TreeView) → StaysReady space a b → StaysReady space b c → StaysReady space a c
-  stays_both a b c x y = record {
-    same = (y.same.0 ∙ x.same.0, y.same.1 ∙ x.same.1);
-    number = y.number ∙ x.number;
-    tally = λ t. y.tally (x.tally t);
-    pin = (y.pin.0 ∙ x.pin.0, y.pin.1 ∙ x.pin.1);
-    own_range = y.own_range ∙ x.own_range;
-    none = y.none;
-  }

@@ -23,7 +23,7 @@ use Rattle.ca_range.specs.Filling.{IsHelpedTo, IsOneOver}
 use Rattle.ca_range.specs.Staying.{HasJoined, OnlySteps, with_steps_of}
 use Rattle.ca_range.specs.declared.account.Range.{Range}
 use Rattle.ca_range.proofs.Filled.{raised_met}
-use Rattle.ca_range.proofs.Spends.{on_both, on_still}
+use Rattle.ca_base.proofs.Spends.{on_both, on_still}
 use Rattle.ca_range.proofs.Stepping.{steps_both, steps_none}
 use Rattle.ca_range.specs.declared.helped.Helped.{Helped}
 use Rattle.ca_range.specs.declared.helped.Helped.TheVariants as helped

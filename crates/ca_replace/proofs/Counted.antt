@@ -6,7 +6,7 @@ use Rattle.ca_replace.specs.declared.attempting.Halt.TheVariants as halt
 use Rattle.ca_model.specs.declared.outcome.Spent.{Spent}
 use Rattle.ca_base.specs.Counting.{losses, HasMet, IsSpent}
 use Rattle.ca_base.proofs.Counts.{met_both}
-use Rattle.ca_base.specs.Spending.{RisesBy}
+use Rattle.ca_base.proofs.Spends.{rises_both}
 use Rattle.ca_model.specs.Event.{Event}
 use Rattle.ca_node.specs.Told.{MyTree, IsEntered}
 use Rattle.ca_node.specs.TreeView.{TreeView, Turns}
@@ -73,13 +73,6 @@ paid_but a b m m' x = record {
   more_helped = x.more_helped;
   lost = record { more = x.more; now_is = x.lost };
   passed = record { more = x.more_passed; now_is = x.passed };
-}
-
--- So it is in two parts.
-rises_both : (a b c k m n : ℕ) → RisesBy a b k m → RisesBy b c m n → RisesBy a c k n
-rises_both a b c k m n x y = let up = x.more in let up' = y.more in record {
-  more = omega arith;
-  now_is = λ fits. let one = x.now_is fits in let two = y.now_is (omega arith) in omega arith;
 }
 
 but_both : (a b c : Spent) (k m n : MyTree) → IsPaidBut a b k m → IsPaidBut b c m n

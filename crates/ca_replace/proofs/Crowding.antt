@@ -1,11 +1,10 @@
 -- How few rows a pass that is alone keeps behind attempts that did not do their call, and how few
 -- rows there are where none was free.
-use Rattle.std.proofs.Common.{◌≡◌, ◌<◌, ◌≤◌, ℕ, ◌+◌, List, [], ◌∷◌, take, drop, length, length-append, length-drop, vec_len, Result, Ok, Err, IfErr, refl, sym, ap, ◌∙◌, subst, ⊎_elim, arith}
-use Rattle.std.proofs.lemmas.List.{length-take-le}
+use Rattle.std.proofs.Common.{◌≡◌, ◌<◌, ℕ, ◌+◌, List, [], ◌∷◌, length, length-append, vec_len, Result, Ok, Err, IfErr, refl, sym, ap, ◌∙◌, subst, arith}
 use Rattle.ca_base.specs.declared.stop.Exchange.TheVariants as exchange
 use Rattle.ca_base.specs.declared.stop.Stop.{Stop}
 use Rattle.ca_base.specs.declared.stop.Stop.TheVariants as stop
-use Rattle.ca_base.specs.Counting.{losses, HasCleared, HasFound, KeepsMore, TakesKept}
+use Rattle.ca_base.specs.Counting.{losses, HasCleared, HasFound, KeepsMore}
 use Rattle.ca_base.specs.Crowded.{FindsCrowded}
 use Rattle.ca_base.specs.Putting.{HasTried, stopped}
 use Rattle.ca_base.specs.Readiness.{StaysReady}
@@ -23,14 +22,14 @@ use Rattle.ca_replace.specs.declared.attempting.Halt.TheVariants as halt
 use Rattle.ca_replace.specs.Attempting.{come_to, HasNext, IsQuiet, split_to, splits}
 use Rattle.ca_replace.specs.Crowding.{Crowds, CrowdsAt, HasCrowded, HasFewAlone, KeepsBySplits}
 use Rattle.ca_replace.proofs.Growing.{alone_on}
-use Rattle.ca_replace.proofs.Turns.{is_lone}
 use Rattle.ca_rows.specs.declared.kept.Kept.{Kept}
 use Rattle.ca_rows.specs.declared.kept.KeptRows.{KeptRows}
 use Rattle.ca_rows.specs.declared.sizes.Sizes.{Sizes}
 use Rattle.ca_rows.specs.declared.space.Pass.{Pass}
 use Rattle.ca_rows.specs.declared.space.Space.{Space}
-use Rattle.ca_rows.specs.Kept.{AreYoung, IsTakenOut}
 use Rattle.ca_rows.specs.Passes.{OnlyReads}
+use Rattle.ca_range.proofs.LoneSnaps.{takes_fewer_all}
+use Rattle.ca_range.proofs.LoneMarks.{only_one}
 
 -- A tree has few rows that has what one has that has few.
 pub few_as : (u v : TreeView) → v.splits ≡ u.splits → v.inventory ≡ u.inventory
@@ -47,24 +46,6 @@ pub few_looked : (z : Sizes) (m n : MyTree) → IsQuiet m n → n.0.upper.number
 few_looked z m n q same few alone = few_as m.0.upper n.0.upper q.splits_are q.same_inventory
     q.idle.0
     (few (alone_on z m.0.upper n.0.upper same alone))
-
--- No more rows are kept than before some were taken.
-taken_fewer : (told like row : ℕ) (ks next : List Kept) → IsTakenOut told like row ks next
-    → length next ≤ length ks
-taken_fewer told like row ks next h = let inside = h.1.inside in
-    let front = length-take-le h.0 ks (omega arith) in
-    let back = length-drop (h.0 + 1) ks in let both = length-append (take h.0 ks)
-    (drop (h.0 + 1) ks) in
-    let all = ap (λ (l : List Kept). length l) h.3 in omega arith
-
-takes_fewer : (told : ℕ) (likes : List ℕ) (ks left : List Kept) → TakesKept told likes ks left
-    → length left ≤ length ks
-takes_fewer told [] ks left h = let same = ap (λ (l : List Kept). length l) h in omega arith
-takes_fewer told (like ∷ likes) ks left h = let rest = takes_fewer told likes h.0 left h.2 in
-    ⊎_elim (λ (some : (row : ℕ) × IsTakenOut told like row ks h.0). let one = taken_fewer told like
-    some.0 ks h.0 some.1 in omega arith)
-    (λ (none : AreYoung told ks × (h.0 ≡ ks)). let same = ap (λ (l : List Kept). length l) none.1 in
-    omega arith) h.1
 
 -- One more is kept than before.
 keeps_one : (form row : ℕ) (ks next : List Kept) → KeepsMore form (row ∷ []) ks next
@@ -85,7 +66,7 @@ stopped_keeps : (likes gone : List ℕ) (base : ℕ) (why : Stop) (m m' : MyTree
     (kept kept' : KeptRows) → splits m' ≡ splits m
     → HasCleared {T = Unit {0}} likes base gone (Err why) m m' kept kept'
     → KeepsBySplits (vec_len kept.rows) (vec_len kept'.rows) m m'
-stopped_keeps likes gone base why m m' kept kept' same h = let fewer = takes_fewer m.0.pin.told
+stopped_keeps likes gone base why m m' kept kept' same h = let fewer = takes_fewer_all m.0.pin.told
     likes kept.rows.items h.0 h.1 in
     let back = h.2.0 in let long = kept.rows.ok.0 in omega arith
 
@@ -98,7 +79,7 @@ stopped_crowd : (z : Sizes) (why : Stop) (m m' : MyTree) (kept' : KeptRows) → 
 stopped_crowd z (stop.Lost e) m m' kept' own same rows alone held found = tt
 stopped_crowd z stop.Empty m m' kept' own same rows alone held found = let z' =
     ap (λ (y : Sizes). y.rows) (same ∙ own) in
-    crowd_counted z.rows kept'.rows m' (found (is_lone z m own rows alone.0) alone.1)
+    crowd_counted z.rows kept'.rows m' (found (only_one z m own rows alone.0) alone.1)
     held.0.are_kept z'
 stopped_crowd z stop.Worn m m' kept' own same rows alone held found = tt
 
@@ -130,7 +111,7 @@ module _ {R : Type 0} (space : Space R TreeView) where
       → FindsCrowded r pass.seat.me new.seat.me → Crowds {T = Unit {0}} space (Err (split_to r))
       pass new
   room_crowds likes base many attempt (Ok x) pass new own frame split met cleared found alone = (
-    (let fewer = takes_fewer pass.seat.me.0.pin.told likes pass.kept.rows.items cleared.0
+    (let fewer = takes_fewer_all pass.seat.me.0.pin.told likes pass.kept.rows.items cleared.0
         cleared.2 in
         let one = keeps_one base_form base cleared.0 cleared.1 cleared.3 in
         let all = ap (λ (l : List Kept). length l) cleared.4 in

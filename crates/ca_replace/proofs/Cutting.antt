@@ -1,5 +1,5 @@
 -- Which bases a call split.
-use Rattle.std.proofs.Common.{◌≡◌, ℕ, ◌<◌, ◌≤◌, Bool, true, false, List, [], ◌∷◌, ◌++◌, length, map, Result, Ok, Err, IsErr, sym, refl, ap, ◌∙◌, subst, inl, inr, ⊎_elim, arith, append_assoc}
+use Rattle.std.proofs.Common.{◌≡◌, ℕ, ◌≤◌, Bool, true, false, List, [], ◌∷◌, ◌++◌, length, map, Result, Ok, Err, IsErr, sym, refl, ap, ◌∙◌, subst, inl, inr, ⊎_elim, arith, append_assoc}
 use denote.Ref.{Bor}
 use Rattle.std.specs.declared.option.Option.{Option}
 use Rattle.std.specs.declared.option.Option.TheVariants.{Some}
@@ -71,10 +71,6 @@ full_both z adds before then now h g = (
   λ x i. ⊎_elim (λ (j : IsIn x g.0). g.2 x j) (λ (j : IsIn x h.0). h.2 x j) (in_either g.0 h.0 x i),
 )
 
--- What isn't less is as much.
-not_less : (a b : ℕ) → ¬ (b < a) → a ≤ b
-not_less a b n = omega (arith, n)
-
 -- A base that has no room for a key that is new there is full, and the key is led to it.
 pub full_for : (z : Sizes) (u : TreeView) (cursor : Cursor) (key : List ℕ) (place : Result ℕ ℕ)
     (many : ℕ) → IsLooking z u key cursor
@@ -83,7 +79,7 @@ pub full_for : (z : Sizes) (u : TreeView) (cursor : Cursor) (key : List ℕ) (pl
     → IsFullFor z (Some key) (first_note u.notes)
 full_for z u cursor key (Ok at) many l p no_room is = absurd (no_room tt)
 full_for z u cursor key (Err at) many l p no_room is =
-    (let full : z.leaf ≤ many = not_less z.leaf many no_room in omega arith, l.about, p.equal)
+    (let full : z.leaf ≤ many = omega (arith, no_room) in omega arith, l.about, p.equal)
 
 -- A split of this base is one of its own: it is in the middle of its objects.
 cut_in_two : (z : Sizes) (note : Note) (x : Division)

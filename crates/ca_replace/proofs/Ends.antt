@@ -12,7 +12,7 @@ use Rattle.ca_model.specs.declared.edge.Edge.TheVariants as edge
 use Rattle.ca_model.specs.StoreMap.{AreAbove, IsStoreMap, StoreMap, bytes_cmp}
 use Rattle.ca_model.proofs.Places.{bytes_chain, bytes_flip}
 use Rattle.ca_model.proofs.Walking.{all_pairs}
-use Rattle.ca_node.proofs.Parts.{greater_within}
+use Rattle.ca_node.proofs.Parts.{greater_within, is_less}
 use Rattle.ca_base.specs.Finding.{IsReadable}
 use Rattle.ca_base.specs.Putting.{first_note}
 use Rattle.ca_model.specs.History.{state}
@@ -31,16 +31,11 @@ use Rattle.ca_range.specs.Snapshots.{IsRemembered}
 use Rattle.ca_replace.specs.Acts.{acts_of}
 use Rattle.ca_replace.proofs.Meeting.{further_on}
 use Rattle.ca_replace.proofs.Showing.{walked_further}
-use Rattle.ca_replace.proofs.States.{state_map}
 use Rattle.ca_range.specs.Edged.{EndsBefore}
+use Rattle.ca_range.proofs.FirstBases.{state_is_map}
 use Rattle.ca_replace.specs.Within.{HasLearnt, below_event, spot_at}
 use Rattle.ca_replace.proofs.Runs.{by_last, filter_through, in_up_to}
 use Rattle.ca_rows.specs.declared.sizes.Sizes.{Sizes}
-
-pub is_less : (o : Ordering) → is_lt o ≡ true → o ≡ Less
-is_less Less e = refl
-is_less Equal e = cc
-is_less Greater e = cc
 
 -- A key that isn't above another one is less than what that one is less than, and so is one that is
 -- less than another one, of what that one isn't above.
@@ -165,7 +160,7 @@ walked_remembered z spot m m' cursor w most = let u : TreeView = walked m.0.uppe
             few = omega arith;
             ordered = subst (IsStoreMap z.keypos) (sym has.has) (part_map z.keypos w.note.place.span
                 (state u.seen has.at)
-                (state_map z.keypos has.at u.seen known.edits));
+                (state_is_map z.keypos has.at u.seen known.edits));
           };
     }
 
@@ -217,7 +212,7 @@ walked_last z hi m m' cursor found object w none last first = let u = m'.0.upper
         (Some object) None
     by true own low ends = last_part w.note.place.span.low w.note.place.span.high (bound_of hi)
         (state m'.0.upper.seen w.has.at) ends
-        z.keypos object (state_map z.keypos w.has.at m'.0.upper.seen w.known.edits) own
+        z.keypos object (state_is_map z.keypos w.has.at m'.0.upper.seen w.known.edits) own
     by false own low ends = ap last_object
         (sym (last_first w.note.place.span.low w.note.place.span.high (bound_of hi)
         (state m'.0.upper.seen w.has.at) ends (low refl))) ∙ own

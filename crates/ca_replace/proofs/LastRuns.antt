@@ -16,11 +16,11 @@ use Rattle.ca_range.specs.Edged.{EndsBefore}
 use Rattle.ca_range.specs.Snapshots.{HasRun, bases_of}
 use Rattle.ca_range.specs.declared.sought.Run.{Run}
 use Rattle.ca_range.specs.declared.sought.Sought.{Sought}
+use Rattle.ca_range.proofs.FirstBases.{state_is_map}
 use Rattle.ca_replace.specs.Running.{all_of}
 use Rattle.ca_replace.specs.Within.{HasAllUpTo, below_event}
 use Rattle.ca_replace.proofs.Ends.{last_part}
 use Rattle.ca_replace.proofs.Runs.{by_last, within_wider}
-use Rattle.ca_replace.proofs.States.{state_map}
 use Rattle.ca_rows.specs.declared.sizes.Sizes.{Sizes}
 use Rattle.ca_runs.specs.Runs.{BeginsBefore}
 
@@ -76,6 +76,6 @@ module _ (lo hi : Bound) {z : Sizes} {u : TreeView} {run : Run} (h : HasAllUpTo 
           (Some object) None
           → last_object (up_to hi (state u.seen h.at)) ≡ cond found (Some object) None
       by true first own = last_part h.low high hi (state u.seen h.at) h.ends z.keypos object
-          (state_map z.keypos h.at u.seen h.known.edits) own
+          (state_is_map z.keypos h.at u.seen h.known.edits) own
       by false first own = ap last_object (sym (all_up_to h.low high hi (state u.seen h.at)
           (subst (λ (b : Bound). BeginsBefore h.low b) (first refl) h.before) h.ends)) ∙ own

@@ -9,10 +9,11 @@ use Rattle.ca_node.specs.Row.{pair}
 use Rattle.ca_node.specs.TreeView.{Note, TreeView, no_note}
 use Rattle.ca_range.specs.declared.sought.Run.{Run}
 use Rattle.ca_range.specs.Snapshots.{IsRemembered, bases_of}
+use Rattle.ca_range.proofs.OwnRuns.{map_second}
 use Rattle.ca_replace.specs.declared.opened.OpenRun.{OpenRun}
 use Rattle.ca_replace.specs.Running.{HasRows, IsBaseAt, IsGathered, IsManyAt, IsNextThere, IsOpenRun, all_of, last_of, left_of, row_in}
 use Rattle.ca_replace.proofs.RunLines.{part_of, drop_base, last_all, last_long, last_more, next_is, part_long, split_at}
-use Rattle.ca_replace.proofs.RunParts.{last_in, many_more, map_behind, none_more, start_behind, start_here, within_taken, within_short}
+use Rattle.ca_replace.proofs.RunParts.{last_in, many_more, none_more, start_behind, start_here, within_taken, within_short}
 use Rattle.ca_rows.specs.declared.sizes.Sizes.{Sizes}
 
 -- The last base that was walked has this: where its objects within the lower edge begin, and where
@@ -39,7 +40,7 @@ module _ (p : ℕ) (notes : List Note) (lo cut : Bound) (run new : OpenRun) (row
 
   both : IsStoreMap p (part_of notes so_far ++ last_of so_far notes)
   both = subst (IsStoreMap p) (last_more notes so_far here.0)
-      (map_behind p (ranging.objects_of (drop (so_far + 1) notes)) (last_of (so_far + 1) notes)
+      (map_second p (ranging.objects_of (drop (so_far + 1) notes)) (last_of (so_far + 1) notes)
       (subst (IsStoreMap p) (split_at notes (so_far + 1)) ordered))
 
   many_is : new.left ≡ length (within lo cut (last_of new.window.walked notes))

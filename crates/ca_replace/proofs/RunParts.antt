@@ -13,11 +13,6 @@ use Rattle.ca_model.proofs.Places.{AreGreater, all_above, greater, greater_than}
 use Rattle.ca_model.proofs.Edits.{map_filter}
 use Rattle.ca_model.proofs.Spots.{last_there, none_behind, part_within}
 
--- What stands behind in a store map is one,
-pub map_behind : (p : ℕ) (xs ys : StoreMap) → IsStoreMap p (xs ++ ys) → IsStoreMap p ys
-map_behind p [] ys t = t
-map_behind p (x ∷ xs) ys t = map_behind p xs ys t.2
-
 above_behind : (k : List ℕ) (xs ys : StoreMap) → AreAbove k (xs ++ ys) → AreAbove k ys
 above_behind k [] ys a = a
 above_behind k (x ∷ xs) ys a = above_behind k xs ys a.1

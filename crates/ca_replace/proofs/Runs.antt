@@ -23,13 +23,14 @@ use Rattle.ca_range.specs.Edged.{EndsBefore}
 use Rattle.ca_range.specs.Snapshots.{HasRun, IsRemembered, bases_of}
 use Rattle.ca_range.specs.declared.sought.Run.{Run}
 use Rattle.ca_range.specs.declared.sought.Sought.{Sought}
+use Rattle.ca_range.proofs.FirstBases.{state_is_map}
 use Rattle.ca_replace.specs.Acts.{acts_of}
 use Rattle.ca_replace.specs.Running.{all_of}
 use Rattle.ca_replace.specs.Within.{FindsAbove, FindsBelow, HasLearnt, above_event, below_event, cut_of, range_event}
 use Rattle.ca_replace.proofs.Entries.{held_upper, read_by}
 use Rattle.ca_replace.proofs.Ready.{stays_both}
 use Rattle.ca_replace.proofs.Showing.{entered_done}
-use Rattle.ca_replace.proofs.States.{none_since, seen_before, state_map}
+use Rattle.ca_replace.proofs.States.{none_since, seen_before}
 use Rattle.ca_replace.proofs.Tallies.{tallied_read}
 use Rattle.ca_rows.specs.declared.space.Pass.{Pass}
 use Rattle.ca_rows.specs.declared.space.Space.{Space}
@@ -145,7 +146,7 @@ module _ {F : Type 0} (g : Shared F (Bor (List ℕ) × Unit {0}) Bool) (sought :
   pub run_ordered : IsStoreMap z.keypos (all_of run u)
   run_ordered = subst (IsStoreMap z.keypos) (sym h.shown)
       (within_map z.keypos h.low high (state u.seen h.at)
-      (state_map z.keypos h.at u.seen h.known.edits))
+      (state_is_map z.keypos h.at u.seen h.known.edits))
 
   -- Up to the cut they have what the state has.
   pub run_objects : within lo h.cut (all_of run u) ≡ within lo h.cut (state u.seen h.at)
@@ -191,7 +192,7 @@ module _ {F : Type 0} (g : Shared F (Bor (List ℕ) × Unit {0}) Bool) (sought :
           (r ∙ wide) run_objects
           ∙ all_pairs (from lo (state u.seen h.at))))
       by false r = first_same z.keypos lo h.cut (all_of run u) (state u.seen h.at) run_ordered
-          (state_map z.keypos h.at u.seen h.known.edits)
+          (state_is_map z.keypos h.at u.seen h.known.edits)
           (inr (subst (λ (b : Bound). IsLower h.cut b) wide r.0))
           run_objects (counted_some g sought.counts.now (within lo h.cut (all_of run u))
           (subst (λ (n : ℕ). HasCounted g sought.counts.now n

@@ -32,14 +32,11 @@ use Rattle.ca_base.proofs.Fronted.{first_noted}
 use Rattle.ca_base.proofs.Searching.{found_object}
 use Rattle.ca_replace.proofs.Counted.{none_met}
 use Rattle.ca_replace.proofs.Entries.{known_read, read_by}
-use Rattle.ca_replace.proofs.States.{seen_before, state_map}
+use Rattle.ca_replace.proofs.States.{seen_before}
 use Rattle.ca_replace.proofs.Meeting.{further_on, done_on}
 use Rattle.ca_base.specs.Putting.{first_note, IsRoom, IsShownLast, HasTried, stopped}
 use Rattle.ca_rows.specs.declared.sizes.Sizes.{Sizes}
-
--- What isn't less is as much.
-not_less : (a b : ℕ) → ¬ (b < a) → a ≤ b
-not_less a b n = omega (arith, n)
+use Rattle.ca_range.proofs.FirstBases.{state_is_map}
 
 -- After a walk to a key's base that base is shown last.
 pub looking : (z : Sizes) (key : Bor (List ℕ)) (m m' : MyTree) (cursor : Cursor)
@@ -59,7 +56,7 @@ looking z key m m' cursor w most =
         few = omega arith;
         ordered = subst (IsStoreMap z.keypos) (sym has.has)
             (part_map z.keypos w.note.place.span (state u.seen has.at)
-            (state_map z.keypos has.at u.seen known.edits));
+            (state_is_map z.keypos has.at u.seen known.edits));
       };
       at = record {
         base = w.cursor_is.base;
@@ -314,7 +311,7 @@ full_there z u v cursor key (Err at) many l same level p no_room is =
       level,
       let long = length-map (first_note u.notes).objects pair in
           let e = ap (λ (x : StoreMap). length x) l.has.has in
-          let few : z.leaf ≤ many = not_less z.leaf many no_room in omega arith,
+          let few : z.leaf ≤ many = omega (arith, no_room) in omega arith,
     )
 
 tried_from : (z : Sizes) (event : Event) (r : Result (Unit {0}) Stop) (u v : TreeView) → IsKnown z u

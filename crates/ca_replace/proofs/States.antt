@@ -1,8 +1,7 @@
 -- What a base has of a state since the pin.
-use Rattle.std.proofs.Common.{◌≡◌, ℕ, zero, suc, ◌≤◌, [], ◌∷◌, length, map, take, sym, refl, ap, ◌∙◌, subst, arith}
-use Rattle.ca_model.specs.History.{History, after, state, AreEdits}
-use Rattle.ca_model.specs.StoreMap.{StoreMap, IsStoreMap}
-use Rattle.ca_model.proofs.Edits.{map_after}
+use Rattle.std.proofs.Common.{◌≡◌, ℕ, ◌≤◌, [], length, map, sym, refl, ap, ◌∙◌, subst, arith}
+use Rattle.ca_model.specs.History.{History, after, state}
+use Rattle.ca_model.specs.StoreMap.{StoreMap}
 use Rattle.ca_node.specs.Place.{part}
 use Rattle.ca_node.specs.Row.{pair}
 use Rattle.ca_node.specs.States.{HasState, IsAlone, IsAtPin, IsUnanswered}
@@ -11,16 +10,6 @@ use Rattle.ca_node.specs.Tree.{ArePast}
 use Rattle.ca_node.specs.TreeView.{Note, TreeView, pinned}
 use Rattle.ca_node.proofs.Logs.{last_state}
 use Rattle.ca_rows.specs.declared.sizes.Sizes.{Sizes}
-
--- The first edits of a history are edits.
-edits_take : (keypos n : ℕ) (h : History) → AreEdits keypos h → AreEdits keypos (take n h)
-edits_take keypos zero h e = tt
-edits_take keypos (suc n) [] e = tt
-edits_take keypos (suc n) (x ∷ xs) e = (e.0, edits_take keypos n xs e.1)
-
--- So each state of it is a map.
-pub state_map : (keypos at : ℕ) (h : History) → AreEdits keypos h → IsStoreMap keypos (state h at)
-state_map keypos at h e = map_after keypos (take at h) [] (edits_take keypos at h e) tt
 
 -- A pass that is alone finds what the last state has that it has seen.
 pub has_last : (z : Sizes) (u : TreeView) (note : Note) → IsAlone z u → HasState z u note

@@ -1,5 +1,5 @@
 -- A call's attempts, one after another, and its end.
-use Rattle.std.proofs.Common.{◌≡◌, ◌<◌, ◌≤◌, le_refl, ℕ, false, [], Result, Ok, Err, Vec, sym, refl, ap, ◌∙◌, subst, inl, ⊎_elim}
+use Rattle.std.proofs.Common.{◌≡◌, ◌≤◌, le_refl, ℕ, false, [], Result, Ok, Err, Vec, sym, refl, ap, ◌∙◌, subst, inl, ⊎_elim}
 use Rattle.std.specs.Global.{Global}
 use Rattle.ca_replace.specs.declared.attempting.Halt.{Halt}
 use Rattle.atomic_table.specs.declared.shared.Seat.{Seat}
@@ -14,7 +14,7 @@ use Rattle.ca_node.specs.Laws.{in_nothing, starts_whole}
 use Rattle.ca_node.specs.Links.{IsIn}
 use Rattle.ca_node.specs.Tallied.{IsTallied}
 use Rattle.ca_node.specs.Told.{MyTree, IsKnown}
-use Rattle.ca_rows.specs.Told.{IsOnly, met_of}
+use Rattle.ca_rows.specs.Told.{met_of}
 use Rattle.ca_node.specs.TreeView.{Ranging, TreeView, pinned, unpinned, Quiet, left_over}
 use Rattle.ca_model.specs.declared.outcome.Cause.{Cause}
 use Rattle.ca_model.specs.declared.outcome.Spent.{Spent}
@@ -131,11 +131,6 @@ attempted_as {T} tells z tried r spent levels u w v same is h = subst
         → HasAttempted tells (refused_as tried spent levels) u w
     by (Ok x) h = h.0
     by (Err why) h = h.0
-
--- A pass of a space with rows that is for one pass knows that.
-pub is_lone : (z : Sizes) (m : MyTree) → m.0.sizes ≡ z → 0 < z.rows → z.passes ≡ 1 → IsOnly m
-is_lone z m same rows one = subst (λ (y : Sizes). (0 < y.rows) × (y.passes ≡ 1)) (sym same)
-    (rows, one)
 
 -- A pass that was pinned, tried, and unpinned rests again.
 pub rests_again : {tally tally' : Tally} (table : TableId) (z : Sizes) (number : ℕ)

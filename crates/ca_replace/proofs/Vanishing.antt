@@ -20,12 +20,13 @@ use Rattle.ca_node.specs.States.{IsAlone, IsAtPin}
 use Rattle.ca_node.specs.Told.{IsKnown, MyTree}
 use Rattle.ca_node.specs.TreeView.{Inventory, Note, TreeView}
 use Rattle.ca_node.specs.Walking.{IsLowRoute, IsSought, IsWalked}
+use Rattle.ca_node.proofs.Parts.{is_less}
 use Rattle.ca_range.specs.Snapshots.{bases_of}
 use Rattle.ca_range.specs.declared.sought.Run.{Run}
 use Rattle.ca_replace.specs.LoneReads.{GoesLeftAlone}
 use Rattle.ca_replace.specs.Running.{all_of}
 use Rattle.ca_replace.specs.Within.{HasAllUpTo, HasLearnt, spot_at}
-use Rattle.ca_replace.proofs.Ends.{below_it, is_less, not_above, walked_ends, walked_learnt}
+use Rattle.ca_replace.proofs.Ends.{below_it, not_above, walked_ends, walked_learnt}
 use Rattle.ca_replace.proofs.LoneLooks.{never_left}
 use Rattle.ca_replace.proofs.OneHand.{seen_still}
 use Rattle.ca_replace.proofs.Runs.{within_wider}

@@ -14,7 +14,7 @@ use Rattle.ca_replace.specs.Resting.{IsAtRest}
 use Rattle.ca_replace.proofs.Between.{announced, left, may_first}
 use Rattle.ca_replace.proofs.Numbering.{numbered_as}
 use Rattle.ca_replace.proofs.Ready.{ready_after}
-use Rattle.ca_replace.proofs.Turns.{is_lone, known_unpinned}
+use Rattle.ca_replace.proofs.Turns.{known_unpinned}
 use Rattle.ca_rows.specs.declared.kept.KeptRows.{KeptRows}
 use Rattle.ca_rows.specs.declared.space.Pass.{Pass}
 use Rattle.ca_rows.specs.declared.space.Space.{Space}
@@ -24,6 +24,7 @@ use Rattle.ca_rows.specs.Claims.{claim_of}
 use Rattle.ca_rows.specs.Kept.{AreKept}
 use Rattle.ca_rows.specs.Passes.{KeepsList}
 use Rattle.ca_rows.specs.Told.{IsOnly}
+use Rattle.ca_range.proofs.LoneMarks.{only_one}
 
 -- A pass that may begin an attempt is at work.
 work_of : {R : Type 0} {space : Space R TreeView} {pass : Pass R TreeView} {key : List ℕ}
@@ -85,7 +86,7 @@ module _ {R : Type 0} {space : Space R TreeView} {pass new : Pass R TreeView} wh
         (known_unpinned space.table.shared.key pass.seat.me.0.upper w.known);
     left_before = subst (λ (m : MyTree). m.0.pin.left.lost ≤ m.0.lost) (sym is)
         (le_refl pass.seat.me.0.lost);
-    unlost = λ one. only (is_lone space.table.shared.key pass.seat.me w.ready.own.1 space.few.0
+    unlost = λ one. only (only_one space.table.shared.key pass.seat.me w.ready.own.1 space.few.0
         one);
     quiet = ap (λ (m : MyTree). m.0.upper.ranges.own) is ∙ ap left_over w.quiet;
     tallied = tallied_still pass.tally new.tally pass.seat.me.0.upper new.seat.me.0.upper f.tally

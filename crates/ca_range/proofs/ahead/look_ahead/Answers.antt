@@ -11,7 +11,7 @@ use Rattle.ca_range.specs.Farther.{reach, reach_to}
 use Rattle.ca_range.specs.Meeting.{active_of}
 use Rattle.ca_range.specs.Reaching.{IsBorderShown, reaches_by}
 use Rattle.ca_range.specs.Staying.{OnlySteps}
-use Rattle.ca_range.proofs.Spends.{on_both, on_still}
+use Rattle.ca_base.proofs.Spends.{on_both, on_still}
 use Rattle.ca_range.proofs.Stepping.{over_counted, steps_both, steps_by_walk, steps_by_word}
 use Rattle.ca_range.proofs.Watched.{at_now, border_now, bound_word, high_now, is_active, is_before, met_now, over_now}
 use Rattle.ca_range.specs.Loading.{GoesBy}

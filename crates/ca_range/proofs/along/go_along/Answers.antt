@@ -11,7 +11,7 @@ use Rattle.ca_range.specs.Staying.{OnlySteps}
 use Rattle.ca_range.proofs.Gaps.{is_gap, at_next}
 use Rattle.ca_range.proofs.Filled.{last_shown}
 use Rattle.ca_range.proofs.Ranking.{far_inside, next_farther}
-use Rattle.ca_range.proofs.Spends.{on_both, on_still}
+use Rattle.ca_base.proofs.Spends.{on_both, on_still}
 use Rattle.ca_range.proofs.Stepping.{counted_both, steps_both, steps_none}
 use Rattle.ca_range.specs.Loading.{GoesBy}
 use Rattle.ca_range.proofs.Loaded.{goes_both, goes_same}

@@ -16,7 +16,7 @@ use Rattle.ca_base.specs.Spending.{IsSpentOn}
 use Rattle.ca_range.proofs.Filled.{helped_behind}
 use Rattle.ca_range.proofs.Learning.{counts_help, has_gone, keeps_then, learns, learns_alone, no_join_then, noted_then, notes_then, other_then, raised_then, settled_now, steps_then}
 use Rattle.ca_range.proofs.Readied.{ready_still, stays_then}
-use Rattle.ca_range.proofs.Spends.{on_both}
+use Rattle.ca_base.proofs.Spends.{on_both}
 use Rattle.ca_range.proofs.Stepping.{steps_both}
 use Rattle.ca_range.proofs.Unjoined.{cleared_behind, way_behind}
 use Rattle.ca_range.proofs.Watched.{at_now, is_active, met_by_word}

@@ -13,7 +13,7 @@ use Rattle.ca_range.specs.declared.account.Range.{Range}
 use Rattle.ca_range.proofs.Filled.{at_copy, at_same, copy_is, far_copy, far_same, last_shown, raised_met}
 use Rattle.ca_range.proofs.JoinsFinished.{ended_by_join}
 use Rattle.ca_range.proofs.Readied.{stays_then}
-use Rattle.ca_range.proofs.Spends.{on_both}
+use Rattle.ca_base.proofs.Spends.{on_both}
 use Rattle.ca_range.proofs.Stepping.{steps_both, steps_copied, steps_lost_by}
 use Rattle.ca_range.proofs.Loaded.{ends_by, goes_same, stopped_loads}
 use Rattle.ca_range.proofs.Ranking.{far_inside}

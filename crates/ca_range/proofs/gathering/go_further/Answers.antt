@@ -23,7 +23,7 @@ use Rattle.ca_range.proofs.OwnSteps.{goes_both, goes_reads, goes_then, met_reads
 use Rattle.ca_range.proofs.Ranking.{far_inside}
 use Rattle.ca_range.proofs.Readied.{ready_reads, ready_still}
 use Rattle.ca_range.proofs.SnapshotSteps.{no_less, no_less_both, ranges_by_steps, read_less}
-use Rattle.ca_range.proofs.Spends.{on_still}
+use Rattle.ca_base.proofs.Spends.{on_still}
 use Rattle.ca_range.proofs.Stepping.{steps_by_walk}
 use Rattle.ca_range.proofs.gathering.go_further.Goals as goal
 

@@ -13,7 +13,7 @@ use Rattle.ca_range.specs.Staying.{OnlySteps}
 use Rattle.ca_range.specs.declared.account.Range.{Range}
 use Rattle.ca_range.proofs.Filled.{goes_to, last_shown, passed_on, raised_met, stepped_after}
 use Rattle.ca_range.proofs.Readied.{ready_reads, ready_still, stays_then}
-use Rattle.ca_range.proofs.Spends.{on_both}
+use Rattle.ca_base.proofs.Spends.{on_both}
 use Rattle.ca_range.proofs.Stepping.{steps_both}
 use Rattle.ca_range.specs.Loading.{StepsBy}
 use Rattle.ca_range.proofs.Loaded.{ends_after, ends_by, ends_here, steps_after}

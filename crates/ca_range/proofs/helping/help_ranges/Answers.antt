@@ -3,8 +3,10 @@ use Rattle.ca_base.proofs.Counts.{met_both}
 use Rattle.ca_node.specs.TreeView.{TreeView}
 use Rattle.ca_range.proofs.Filled.{at_met, helped_after, now_still}
 use Rattle.ca_range.proofs.Ranking.{far_inside}
-use Rattle.ca_range.proofs.Readied.{ready_after, stays_both}
-use Rattle.ca_range.proofs.Spends.{help_turned, on_both, on_still}
+use Rattle.ca_range.proofs.Readied.{ready_after}
+use Rattle.ca_adapt.proofs.Readied.{stays_both}
+use Rattle.ca_range.proofs.Spends.{help_turned}
+use Rattle.ca_base.proofs.Spends.{on_both, on_still}
 use Rattle.ca_range.proofs.Stepping.{steps_both, steps_none}
 use Rattle.ca_range.proofs.Loaded.{ends_after, ends_here, goes_both, goes_same}
 use Rattle.ca_range.proofs.helping.help_ranges.Goals as goal

@@ -14,7 +14,7 @@ use Rattle.ca_rows.specs.declared.view.Pin.{Pin}
 use Rattle.ca_range.proofs.Copied.{is_copy, is_next, marked_now, shown_still}
 use Rattle.ca_range.specs.Lonely.{IsThere, as_many_marked}
 use Rattle.ca_range.proofs.LoneMarks.{marked_then, none_taken, takes_fewer}
-use Rattle.ca_range.proofs.Spends.{on_both, on_lost, on_still}
+use Rattle.ca_base.proofs.Spends.{on_both, on_lost, on_still}
 use Rattle.ca_range.proofs.marking.mark_base.Goals as goal
 
 pub returns-in_err-row-clause-frame : goal.returns-in_err-row-clause-frame

@@ -27,7 +27,7 @@ use Rattle.ca_range.proofs.FirstRuns.{first_run}
 use Rattle.ca_range.proofs.GoingOn.{begun_after, no_run_refused, no_run_so, stays_pinned}
 use Rattle.ca_range.proofs.OwnSteps.{pinned_both}
 use Rattle.ca_range.proofs.SnapshotSteps.{budget_refused, budget_so, gone_snaps, met_on, more_turns, no_less_both, ranges_both, ranges_by_steps, refused_after, refused_so, snapped_after, spent_on, steps_on, walked_still}
-use Rattle.ca_range.proofs.Spends.{on_both}
+use Rattle.ca_base.proofs.Spends.{on_both}
 use Rattle.ca_range.proofs.Loaded.{begins_few, begins_helped, ends_few}
 use Rattle.ca_range.proofs.snapping.begin_snapshot.Goals as goal
 

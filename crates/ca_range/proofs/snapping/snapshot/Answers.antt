@@ -3,7 +3,7 @@ use Rattle.ca_range.proofs.LoneSnaps.{snaps_alone}
 use Rattle.ca_range.proofs.LoneSteps.{lone_on}
 use Rattle.ca_range.proofs.OwnSteps.{number_on, pinned_both, ready_on, ready_stays, snapped_by}
 use Rattle.ca_range.proofs.SnapshotSteps.{more_turns, ranges_both}
-use Rattle.ca_range.proofs.Spends.{on_both}
+use Rattle.ca_base.proofs.Spends.{on_both}
 use Rattle.ca_range.proofs.Loaded.{begins_most, ends_few}
 use Rattle.ca_range.proofs.snapping.snapshot.Goals as goal
 

@@ -15,9 +15,10 @@ use Rattle.ca_replace.proofs.Meeting.{further_on}
 use Rattle.ca_replace.proofs.Loads.{loads_last}
 use Rattle.ca_replace.proofs.Pacing.{paced_next, paced_on, paid_more, paid_to_more, turn_more}
 use Rattle.ca_replace.proofs.Pinning.{pinned_as, pinned_once, pinned_still}
-use Rattle.ca_replace.proofs.Turns.{is_lone, rests_again, rests_as, tried_unpinned, turn_further}
+use Rattle.ca_replace.proofs.Turns.{rests_again, rests_as, tried_unpinned, turn_further}
 use Rattle.ca_replace.proofs.Waiting.{moved_further, moved_quiet, turn_unpinned, turns_left, waits_more, waits_none, waits_quiet}
 use Rattle.ca_replace.proofs.calls.turns.Goals as goal
+use Rattle.ca_range.proofs.LoneMarks.{only_one}
 
 pub loop-course-init : goal.loop-course-init
 loop-course-init g c = let z = c.args.tree.now.space.table.shared.key in
@@ -170,7 +171,7 @@ returns-then-not-has_next-clause-frame g c = let space = c.args.tree.now.space.t
           c.attempt-tried.new.pass.seat.me.0.upper two.tried) c.unpin.ensures.frame.same.0
           c.unpin.ensures.unpinned (λ _. two.frame.tally before.may.tallied)
           (two.frame.own_range ∙ before.may.idle.quiet)
-          (λ one. c.unpin.ensures.only (is_lone space.key c.attempt-tried.new.pass.seat.me
+          (λ one. c.unpin.ensures.only (only_one space.key c.attempt-tried.new.pass.seat.me
           (two.frame.pin.0 ∙ (before.sizes ∙ c.requires.resting.of.1)) c.args.tree.now.space.few.0
           one)));
     }

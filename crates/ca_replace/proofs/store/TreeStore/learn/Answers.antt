@@ -8,11 +8,12 @@ use Rattle.ca_rows.specs.declared.sizes.Sizes.{Sizes}
 use Rattle.ca_replace.proofs.Entries.{held_upper}
 use Rattle.ca_replace.proofs.ReadLoads.{led_once}
 use Rattle.ca_replace.proofs.Showing.{led_further}
-use Rattle.ca_replace.proofs.Turns.{is_lone, none_pinned, rests_as, rests_again}
+use Rattle.ca_replace.proofs.Turns.{none_pinned, rests_as, rests_again}
 use Rattle.ca_replace.specs.Resting.{StoreAndRun}
 use Rattle.ca_replace.proofs.StoreCalls.{closed_then, rests_first, rests_then}
 use Rattle.ca_replace.proofs.store.TreeStore.learn.Goals as goal
 use Rattle.ca_node.specs.Layout.{root_word}
+use Rattle.ca_range.proofs.LoneMarks.{only_one}
 
 pub load_link-requires-clause-known : goal.load_link-requires-clause-known
 load_link-requires-clause-known c = (0, all_keys, inl (refl, refl, refl))
@@ -79,7 +80,7 @@ keep_few-requires c = let rests = rests_first c.self.inside c.self.view_is c.req
           (counts.0 ∙ ap (λ (m : MyTree). m.0.upper.splits) both) (counts.1
           ∙ ap (λ (m : MyTree). m.0.upper.joins) both))
           (counts.2 ∙ (ap (λ (m : MyTree). m.0.upper.ranges.own) both ∙ ap left_over rests.quiet))
-          (λ one. c.unpin.ensures.only (is_lone z c.load_link.new.pass.seat.me
+          (λ one. c.unpin.ensures.only (only_one z c.load_link.new.pass.seat.me
           (ap (λ (m : MyTree). m.0.sizes) led.1 ∙ (ap (λ (m : MyTree). m.0.sizes) both
           ∙ rests.of.1)) tree.space.few.0 one)));
     }

@@ -16,7 +16,7 @@ use Rattle.ca_replace.proofs.Meeting.{meets}
 use Rattle.ca_node.specs.declared.cursor.Spot.TheVariants as spot
 use Rattle.ca_replace.proofs.Showing.{looking, read_tried, walked_unanswered}
 use Rattle.ca_replace.proofs.States.{none_since, pinned_first}
-use Rattle.ca_replace.proofs.Turns.{is_lone, known_pinned, none_pinned, rests_as, rests_again, tried_known, tried_pinned}
+use Rattle.ca_replace.proofs.Turns.{known_pinned, none_pinned, rests_as, rests_again, tried_known, tried_pinned}
 use Rattle.ca_replace.specs.Resting.{StoreAndRun, known_of}
 use Rattle.ca_replace.specs.Seen.{store_of}
 use Rattle.ca_replace.specs.TreePromises.{OnlyLooks}
@@ -24,6 +24,7 @@ use Rattle.ca_replace.proofs.Alone.{alone_at}
 use Rattle.ca_replace.proofs.OneHand.{read_still}
 use Rattle.ca_replace.proofs.StoreCalls.{closed_then, of_stores, rests_first, rests_then}
 use Rattle.ca_replace.proofs.store.TreeStoreOrderedStore.get.Goals as goal
+use Rattle.ca_range.proofs.LoneMarks.{only_one}
 
 pub look_up-found-requires-clause-looking : goal.look_up-found-requires-clause-looking
 look_up-found-requires-clause-looking c = let tree = c.self.inside.tree.now in
@@ -106,7 +107,7 @@ keep_few-requires c = let rests = rests_first c.self.inside c.self.view_is c.req
           (ap (λ (m : MyTree). m.0.upper.ranges.own) look
           ∙ (ap (λ (m : MyTree). m.0.upper.ranges.own) walk
           ∙ (ap (λ (m : MyTree). m.0.upper.ranges.own) pin ∙ ap left_over rests.quiet)))
-          (λ one. c.unpin.ensures.only (is_lone z c.look_up-found.new.pass.seat.me
+          (λ one. c.unpin.ensures.only (only_one z c.look_up-found.new.pass.seat.me
           (ap (λ (m : MyTree). m.0.sizes) look ∙ (ap (λ (m : MyTree). m.0.sizes) walk
           ∙ (ap (λ (m : MyTree). m.0.sizes) pin ∙ rests.of.1))) tree.space.few.0 one)));
     }
