@@ -161,7 +161,7 @@ module _ (z : Sizes) (made : ℕ) (words : List ℕ) (uppers : List TreeView)
   pub behind_own : IsBehindOwn u (row_note words c place)
   behind_own = record {
     latest = λ begun border own marked owner. no_later begun border own marked owner;
-    next = λ begun border left key own shown _ marked high has too. (
+    next = λ begun border left key own shown marked high has too. (
       back begun border left key own shown marked high has too,
       bound begun border left key own shown marked high has too,
     );

@@ -43,12 +43,12 @@ AreLone made words role uppers = (j : ℕ) (u : TreeView) → get_elem? uppers j
     → IsLone words role u.number u.ranges.own u.ways u.ranges.joins.begun
 
 -- What a pass that is the only one knows of a base that it is shown while a range of its own is marked: no later range of its own marked the base. And where
--- a base that was shown to it before stands in the tree still, has the range's mark, and ends at this key: if the new one has the key, and the mark, then it
--- was marked behind that one, which it names, and it names the same row that says up to where the range goes.
+-- a base that was shown to it before has the range's mark, and ends at this key: if the new one has the key, and the mark, then it was marked behind that one,
+-- which it names, and it names the same row that says up to where the range goes.
 pub record IsBehindOwn (u : TreeView) (note : Note) : Type 0 where
   pub latest : (begun : Begun) (border : Border) → u.ranges.own ≡ Marking begun border → mark note.its ≡ 1 → mark_owner note.its ≡ u.number
       → mark_number note.its ≤ begun.number
   pub next : (begun : Begun) (border : Border) (left : Note) (key : List ℕ) → u.ranges.own ≡ Marking begun border → IsIn left u.notes
-      → IsIn (left.row, left.place) u.inventory.bases → IsMarkedBy left.its u.number begun.number → left.place.span.high ≡ Excluded key
-      → HasKey note.place.span key → IsMarkedBy note.its u.number begun.number
+      → IsMarkedBy left.its u.number begun.number → left.place.span.high ≡ Excluded key → HasKey note.place.span key
+      → IsMarkedBy note.its u.number begun.number
       → (mark_back note.its ≡ left.row) × (mark_bound note.its ≡ mark_bound left.its)

@@ -156,6 +156,6 @@ walked_on z spot kept a k m n cursor w alone shown farther h = let u = m.0.upper
       lent = subst (λ (x : TreeView). (r : ℕ) → IsIn r (lent_of x.ranges.own) → IsIn r x.inventory.rows) (sym is) h.lent;
       behind = subst IsBehindLast (sym is) record {
         latest = behind.latest;
-        next = λ begun border key own marked ends has mine. behind.next begun border (first_note u.notes) key own shown h.last marked ends has mine;
+        next = λ begun border key own marked ends has mine. behind.next begun border (first_note u.notes) key own shown marked ends has mine;
       };
     }
