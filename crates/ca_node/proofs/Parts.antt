@@ -19,7 +19,7 @@ use Rattle.ca_model.proofs.Walking.{all_pairs}
 use Rattle.ca_node.specs.Place.{Span, all_keys, left_of, right_of, has_key, HasKey, part, edit_key, IsAbout}
 
 -- Two filters may be taken in either order.
-filter_swap : (f g : Pair → Bool) (m : StoreMap) → filter f (filter g m) ≡ filter g (filter f m)
+pub filter_swap : (f g : Pair → Bool) (m : StoreMap) → filter f (filter g m) ≡ filter g (filter f m)
 filter_swap f g [] = refl
 filter_swap f g (q ∷ m) = by (f q) (g q) refl refl (filter_swap f g m)
   where
@@ -32,7 +32,7 @@ filter_swap f g (q ∷ m) = by (f q) (g q) refl refl (filter_swap f g m)
     by false false e d rec = rec
 
 -- A filter behind one that passes all that it passes is as good as alone.
-filter_through : (f g : Pair → Bool) → ((q : Pair) → g q ≡ true → f q ≡ true) → (m : StoreMap)
+pub filter_through : (f g : Pair → Bool) → ((q : Pair) → g q ≡ true → f q ≡ true) → (m : StoreMap)
     → filter g (filter f m) ≡ filter g m
 filter_through f g h [] = refl
 filter_through f g h (q ∷ m) = by (f q) (g q) refl refl (filter_through f g h m)

@@ -12,7 +12,7 @@ use Rattle.ca_model.specs.declared.edge.Edge.TheVariants as edge
 use Rattle.ca_model.specs.StoreMap.{AreAbove, IsStoreMap, StoreMap, bytes_cmp}
 use Rattle.ca_model.proofs.Places.{bytes_chain, bytes_flip}
 use Rattle.ca_model.proofs.Walking.{all_pairs}
-use Rattle.ca_node.proofs.Parts.{greater_within, is_less}
+use Rattle.ca_node.proofs.Parts.{greater_within, is_less, filter_through}
 use Rattle.ca_base.specs.Finding.{IsReadable}
 use Rattle.ca_base.specs.Putting.{first_note}
 use Rattle.ca_model.specs.History.{state}
@@ -34,7 +34,7 @@ use Rattle.ca_replace.proofs.Showing.{walked_further}
 use Rattle.ca_range.specs.Edged.{EndsBefore}
 use Rattle.ca_range.proofs.FirstBases.{state_is_map}
 use Rattle.ca_replace.specs.Within.{HasLearnt, below_event, spot_at}
-use Rattle.ca_replace.proofs.Runs.{by_last, filter_through, in_up_to}
+use Rattle.ca_replace.proofs.Runs.{by_last, in_up_to}
 use Rattle.ca_rows.specs.declared.sizes.Sizes.{Sizes}
 
 -- A key that isn't above another one is less than what that one is less than, and so is one that is

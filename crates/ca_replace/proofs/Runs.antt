@@ -1,6 +1,6 @@
 -- What maps have within edges, and what a run of bases has of a state.
-use Rattle.std.proofs.Common.{◌≡◌, ℕ, ◌<◌, ◌≤◌, Bool, true, false, List, [], ◌∷◌, ◌++◌, if◌then◌else◌, length, refl, sym, ap, subst, ◌∙◌, inl, inr, arith}
-use Rattle.std.specs.Prelude.{None, Some, cond, filter}
+use Rattle.std.proofs.Common.{◌≡◌, ℕ, ◌<◌, ◌≤◌, Bool, true, false, List, [], ◌∷◌, ◌++◌, length, refl, sym, ap, subst, ◌∙◌, inl, inr, arith}
+use Rattle.std.specs.Prelude.{None, Some, cond}
 use denote.Ref.{Bor}
 use denote.Param.Members.{Shared}
 use Rattle.ca_base.specs.Putting.{first_note}
@@ -19,6 +19,7 @@ use Rattle.ca_node.specs.States.{IsAtPin, IsReadSince, IsSince, IsUnanswered}
 use Rattle.ca_node.specs.Told.{IsEntered, IsKnown, MyTree, entered}
 use Rattle.ca_node.specs.Tree.{ArePast}
 use Rattle.ca_node.specs.TreeView.{Note, TreeView}
+use Rattle.ca_node.proofs.Parts.{filter_swap, filter_through}
 use Rattle.ca_range.specs.Edged.{EndsBefore}
 use Rattle.ca_range.specs.Snapshots.{HasRun, IsRemembered, bases_of}
 use Rattle.ca_range.specs.declared.sought.Run.{Run}
@@ -37,33 +38,6 @@ use Rattle.ca_rows.specs.declared.space.Space.{Space}
 use Rattle.ca_rows.specs.Passes.{KeepsList}
 use Rattle.ca_rows.specs.declared.sizes.Sizes.{Sizes}
 use Rattle.ca_runs.specs.Runs.{BeginsBefore}
-
--- Two filters may be taken in either order.
-filter_swap : (f g : Pair → Bool) (m : StoreMap) → filter f (filter g m) ≡ filter g (filter f m)
-filter_swap f g [] = refl
-filter_swap f g (q ∷ m) = by (f q) (g q) refl refl (filter_swap f g m)
-  where
-    by : (b c : Bool) → f q ≡ b → g q ≡ c → filter f (filter g m) ≡ filter g (filter f m)
-        → filter f (if c then q ∷ filter g m else filter g m)
-        ≡ filter g (if b then q ∷ filter f m else filter f m)
-    by true true e d rec = rw (e, d) (ap (λ x. q ∷ x) rec)
-    by true false e d rec = rw d rec
-    by false true e d rec = rw e rec
-    by false false e d rec = rec
-
--- A filter behind one that passes all that it passes is as good as alone.
-pub filter_through : (f g : Pair → Bool) → ((q : Pair) → g q ≡ true → f q ≡ true) → (m : StoreMap)
-    → filter g (filter f m) ≡ filter g m
-filter_through f g h [] = refl
-filter_through f g h (q ∷ m) = by (f q) (g q) refl refl (filter_through f g h m)
-  where
-    by : (b c : Bool) → f q ≡ b → g q ≡ c → filter g (filter f m) ≡ filter g m
-        → filter g (if b then q ∷ filter f m else filter f m)
-        ≡ (if c then q ∷ filter g m else filter g m)
-    by true true e d rec = rw d (ap (λ x. q ∷ x) rec)
-    by true false e d rec = rw d rec
-    by false true e d rec = let yes : f q ≡ true = h q d in cc
-    by false false e d rec = rec
 
 -- whether a pair is within a lower edge, and within an upper one
 abbrev in_from : Bound → Pair → Bool
