@@ -18,6 +18,9 @@ use Rattle.ca_replace.specs.Bounded.{pinned_in, spent_in}
 use Rattle.ca_replace.specs.Leaving.{HasLeft, IsLeftAlone}
 use Rattle.ca_replace.specs.Loading.{LoadsFew, LoadsInLook, LoadsInRead, read_loads}
 use Rattle.ca_replace.proofs.Loads.{at_least, both_times}
+use Rattle.ca_replace.proofs.LooksLeft.{left_behind}
+use Rattle.ca_replace.proofs.Pacing.{paid_more}
+use Rattle.ca_replace.specs.Attempting.{IsPaid}
 use Rattle.ca_rows.specs.declared.kept.Kept.{Kept}
 use Rattle.ca_rows.specs.declared.sizes.Sizes.{Sizes}
 use Rattle.ca_rows.specs.declared.view.Pin.{Pin}
@@ -56,6 +59,15 @@ pub looks_snapped : (z : Sizes) (k m n : MyTree) → turns_at k ≤ turns_at m �
 looks_snapped z k m n before more looks few =
     let all : (z.levels + 1) * spent_in k m ≤ (z.levels + 1) * spent_in k n =
     mul-le-mul_left (z.levels + 1) (omega arith) in omega arith
+
+-- So it is of a walk, looks to the left, and a snapshot.
+pub looks_taken : (z : Sizes) (spot : Spot) (a b d : Spent) (k m n v : MyTree) (cursor : Cursor)
+    → IsWalked z spot k cursor m → HasLookedLeft z a b m n
+    → LoadsFew (z.levels + 1) 0 n.0.upper.loads m n → IsPaid b d n v
+    → v.0.upper.loads ≤ n.0.upper.loads + snapshot_loads z → LoadsInLook z k v
+looks_taken z spot a b d k m n v cursor w h looks paid few = looks_snapped z k n v
+    (paid_more a b k n (left_behind z a b spot k m n cursor w h).paid) (paid_more b d n v paid)
+    (looks_behind z spot a b k m n cursor w h looks) few
 
 -- Nothing was loaded or spent behind it.
 pub look_still : (z : Sizes) (k m n : MyTree) → n.0.upper.loads ≡ m.0.upper.loads

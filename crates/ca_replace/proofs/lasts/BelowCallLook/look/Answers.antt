@@ -12,7 +12,7 @@ use Rattle.ca_range.proofs.Filled.{raised_met}
 use Rattle.ca_replace.specs.Acts.{acts_of}
 use Rattle.ca_replace.specs.Attempting.{IsPaid}
 use Rattle.ca_replace.specs.Within.{HasAllUpTo, HasLearnt, HasVanished, NeedsBelow, below_event, spot_at}
-use Rattle.ca_replace.specs.Aside.{IsEndOfLooks}
+use Rattle.ca_replace.specs.Aside.{IsEndOfLooks, HasLookedLeft}
 use Rattle.ca_replace.specs.Running.{all_of}
 use Rattle.ca_replace.proofs.Counted.{paid_both, paid_entered}
 use Rattle.ca_replace.proofs.Ends.{learnt_both, walked_last, walked_learnt}
@@ -30,7 +30,7 @@ use Rattle.ca_replace.proofs.LoneReads.{left_of_walk, missed_alone, passes_both,
 use Rattle.ca_replace.proofs.Vanishing.{never_vanishes}
 use Rattle.ca_rows.specs.declared.kept.KeptRows.{KeptRows}
 use Rattle.ca_replace.proofs.Pacing.{paid_more}
-use Rattle.ca_replace.proofs.ReadLoads.{look_still, looks_behind, looks_snapped}
+use Rattle.ca_replace.proofs.ReadLoads.{look_still, looks_behind, looks_taken}
 use Rattle.ca_replace.proofs.Working.{work_after}
 use Rattle.ca_replace.proofs.lasts.BelowCallLook.look.Goals as goal
 
@@ -95,25 +95,34 @@ look_left-requires-clause-from c = let z = c.args.tree.now.space.table.shared.ke
     (subst (λ (r : Option ℕ). IsLowRoute z u.ways r walk.note.place.span.low) c.in-Some.is
     walk.cursor_is.low)
 
+-- What the looks to the left came to, from before the walk on.
+left_none : (c : goal.In_default-look_left) → HasLookedLeft
+    c.args.tree.now.space.table.shared.key c.args.spent.now c.look_left.new.spent
+    c.args.pass.now.seat.me c.look_left.new.pass.seat.me
+left_none c = left_behind c.args.tree.now.space.table.shared.key c.args.spent.now
+    c.look_left.new.spent (spot_at c.args.self.now.hi) c.args.pass.now.seat.me
+    c.look_near-near.new.pass.seat.me c.look_left.new.pass.seat.me c.look_near-near.result.0
+    c.look_near-near.ensures.walked c.look_left.ensures.looked
+
 pub returns-in_default-look_left-clause-tried : goal.returns-in_default-look_left-clause-tried
 returns-in_default-look_left-clause-tried c = let z = c.args.tree.now.space.table.shared.key in let
     m = c.args.pass.now.seat.me in
     let k = c.look_left.new.pass.seat.me in let a = c.args.spent.now in let
     b = c.look_left.new.spent in
     let learnt = left_learnt z a b m k
-    (left_behind z a b (spot_at c.args.self.now.hi) m c.look_near-near.new.pass.seat.me k
-    c.look_near-near.result.0
-    c.look_near-near.ensures.walked c.look_left.ensures.looked) c.requires.work.known in
+    (left_none c) c.requires.work.known in
     (learnt.further, learnt.known, learnt.acts)
 
+left_then : (c : goal.Then-not-found) → HasLookedLeft
+    c.args.tree.now.space.table.shared.key c.args.spent.now c.look_left.new.spent
+    c.args.pass.now.seat.me c.look_left.new.pass.seat.me
+left_then c = left_behind c.args.tree.now.space.table.shared.key c.args.spent.now
+    c.look_left.new.spent (spot_at c.args.self.now.hi) c.args.pass.now.seat.me
+    c.look_near-near.new.pass.seat.me c.look_left.new.pass.seat.me c.look_near-near.result.0
+    c.look_near-near.ensures.walked c.look_left.ensures.looked
+
 pub returns-then-not-found-clause-frame : goal.returns-then-not-found-clause-frame
-returns-then-not-found-clause-frame c = let z = c.args.tree.now.space.table.shared.key in let
-    m = c.args.pass.now.seat.me in
-    let k = c.look_left.new.pass.seat.me in let a = c.args.spent.now in let
-    b = c.look_left.new.spent in
-    let looked = left_behind z a b (spot_at c.args.self.now.hi) m c.look_near-near.new.pass.seat.me
-    k c.look_near-near.result.0
-    c.look_near-near.ensures.walked c.look_left.ensures.looked in
+returns-then-not-found-clause-frame c = let looked = left_then c in
     stays_both (left_stays c.requires.work.ready
     (keeps_both c.look_near-near.ensures.frame c.look_left.ensures.frame) looked)
     (stays_then_read c.take_run.ensures.frame c.last_within-found.ensures.frame)
@@ -123,9 +132,7 @@ returns-then-not-found-clause-tried c = let z = c.args.tree.now.space.table.shar
     m = c.args.pass.now.seat.me in
     let k = c.look_left.new.pass.seat.me in let a = c.args.spent.now in let
     b = c.look_left.new.spent in let v = c.take_run.new.pass.seat.me in
-    let looked = left_behind z a b (spot_at c.args.self.now.hi) m c.look_near-near.new.pass.seat.me
-    k c.look_near-near.result.0
-    c.look_near-near.ensures.walked c.look_left.ensures.looked in
+    let looked = left_then c in
     let learnt = learnt_both z m.0.upper k.0.upper v.0.upper
     (left_learnt z a b m k looked c.requires.work.known) c.take_run.ensures.learnt in
     subst (λ (x : MyTree). IsFurther m.0.upper x.0.upper × IsKnown z x.0.upper
@@ -133,13 +140,10 @@ returns-then-not-found-clause-tried c = let z = c.args.tree.now.space.table.shar
     (sym c.last_within-found.ensures.frame.still) (learnt.further, learnt.known, learnt.acts)
 
 pub returns-then-not-found-clause-counted : goal.returns-then-not-found-clause-counted
-returns-then-not-found-clause-counted c = let z = c.args.tree.now.space.table.shared.key in let
-    m = c.args.pass.now.seat.me in
+returns-then-not-found-clause-counted c = let m = c.args.pass.now.seat.me in
     let k = c.look_left.new.pass.seat.me in let a = c.args.spent.now in let
     b = c.look_left.new.spent in let v = c.take_run.new.pass.seat.me in
-    let looked = left_behind z a b (spot_at c.args.self.now.hi) m c.look_near-near.new.pass.seat.me
-    k c.look_near-near.result.0
-    c.look_near-near.ensures.walked c.look_left.ensures.looked in
+    let looked = left_then c in
     subst (λ (x : MyTree). IsPaid a c.take_run.new.spent m x)
     (sym c.last_within-found.ensures.frame.still)
     (paid_both a b c.take_run.new.spent m k v looked.paid c.take_run.ensures.counted)
@@ -156,8 +160,9 @@ enter_last-requires-in-Ok-clause-answer c = let z = c.args.tree.now.space.table.
     b = c.look_left.new.spent in let v = c.take_run.new.pass.seat.me in
     let hi = c.args.self.now.hi in let found = c.last_within-found.result in let
     object = c.last_within-found.new.into.items in
-    let looked = left_behind z a b (spot_at hi) m c.look_near-near.new.pass.seat.me k
-    c.look_near-near.result.0
+    let looked = left_behind c.args.tree.now.space.table.shared.key c.args.spent.now
+    c.look_left.new.spent (spot_at c.args.self.now.hi) c.args.pass.now.seat.me
+    c.look_near-near.new.pass.seat.me c.look_left.new.pass.seat.me c.look_near-near.result.0
     c.look_near-near.ensures.walked c.look_left.ensures.looked in
     let learnt = learnt_both z m.0.upper k.0.upper v.0.upper
     (left_learnt z a b m k looked c.requires.work.known) c.take_run.ensures.learnt in
@@ -174,14 +179,16 @@ enter_last-requires-in-Ok-clause-answer c = let z = c.args.tree.now.space.table.
     (learnt_unanswered z m.0.upper v.0.upper c.requires.at_pin c.requires.work.known learnt)
     c.last_within-found.ensures.last)
 
+left_else : (c : goal.After-enter_last-in-Ok) → HasLookedLeft
+    c.args.tree.now.space.table.shared.key c.args.spent.now c.look_left.new.spent
+    c.args.pass.now.seat.me c.look_left.new.pass.seat.me
+left_else c = left_behind c.args.tree.now.space.table.shared.key c.args.spent.now
+    c.look_left.new.spent (spot_at c.args.self.now.hi) c.args.pass.now.seat.me
+    c.look_near-near.new.pass.seat.me c.look_left.new.pass.seat.me c.look_near-near.result.0
+    c.look_near-near.ensures.walked c.look_left.ensures.looked
+
 pub returns-else-bounded-clause-frame : goal.returns-else-bounded-clause-frame
-returns-else-bounded-clause-frame c = let z = c.args.tree.now.space.table.shared.key in let
-    m = c.args.pass.now.seat.me in
-    let k = c.look_left.new.pass.seat.me in let a = c.args.spent.now in let
-    b = c.look_left.new.spent in
-    let looked = left_behind z a b (spot_at c.args.self.now.hi) m c.look_near-near.new.pass.seat.me
-    k c.look_near-near.result.0
-    c.look_near-near.ensures.walked c.look_left.ensures.looked in
+returns-else-bounded-clause-frame c = let looked = left_else c in
     ready_entered _
     (stays_both (left_stays c.requires.work.ready
     (keeps_both c.look_near-near.ensures.frame c.look_left.ensures.frame) looked)
@@ -196,9 +203,7 @@ returns-else-bounded-clause-tried c = let z = c.args.tree.now.space.table.shared
     let hi = c.args.self.now.hi in let found = c.last_within-found.result in let
     object = c.last_within-found.new.into.items in
     let event = below_event (bound_of hi) found object in let u = m.0.upper in
-    let looked = left_behind z a b (spot_at hi) m c.look_near-near.new.pass.seat.me k
-    c.look_near-near.result.0
-    c.look_near-near.ensures.walked c.look_left.ensures.looked in
+    let looked = left_else c in
     let learnt = learnt_both z u k.0.upper v.0.upper
     (left_learnt z a b m k looked c.requires.work.known) c.take_run.ensures.learnt in
     let behind = subst (λ (x : MyTree). HasLearnt z u x.0.upper)
@@ -212,27 +217,26 @@ returns-else-bounded-clause-tried c = let z = c.args.tree.now.space.table.shared
     )
 
 pub returns-else-bounded-clause-counted : goal.returns-else-bounded-clause-counted
-returns-else-bounded-clause-counted c = let z = c.args.tree.now.space.table.shared.key in let
-    m = c.args.pass.now.seat.me in
+returns-else-bounded-clause-counted c = let m = c.args.pass.now.seat.me in
     let k = c.look_left.new.pass.seat.me in let a = c.args.spent.now in let
     b = c.look_left.new.spent in let v = c.take_run.new.pass.seat.me in
     let s = c.take_run.new.spent in let n = c.enter_last-in-Ok.new.pass.seat.me in
-    let looked = left_behind z a b (spot_at c.args.self.now.hi) m c.look_near-near.new.pass.seat.me
-    k c.look_near-near.result.0
-    c.look_near-near.ensures.walked c.look_left.ensures.looked in
+    let looked = left_else c in
     let read = subst (λ (x : MyTree). IsPaid a s m x) (sym c.last_within-found.ensures.frame.still)
     (paid_both a b s m k v looked.paid c.take_run.ensures.counted) in
     paid_both a s s m c.last_within-found.new.pass.seat.me n read
     (paid_entered s c.last_within-found.new.pass.seat.me n _ c.enter_last-in-Ok.ensures.entered)
 
+left_err : (c : goal.In-Err) → HasLookedLeft
+    c.args.tree.now.space.table.shared.key c.args.spent.now c.look_left.new.spent
+    c.args.pass.now.seat.me c.look_left.new.pass.seat.me
+left_err c = left_behind c.args.tree.now.space.table.shared.key c.args.spent.now
+    c.look_left.new.spent (spot_at c.args.self.now.hi) c.args.pass.now.seat.me
+    c.look_near-near.new.pass.seat.me c.look_left.new.pass.seat.me c.look_near-near.result.0
+    c.look_near-near.ensures.walked c.look_left.ensures.looked
+
 pub returns-in-Err-clause-frame : goal.returns-in-Err-clause-frame
-returns-in-Err-clause-frame c = let z = c.args.tree.now.space.table.shared.key in let
-    m = c.args.pass.now.seat.me in
-    let k = c.look_left.new.pass.seat.me in let a = c.args.spent.now in let
-    b = c.look_left.new.spent in
-    let looked = left_behind z a b (spot_at c.args.self.now.hi) m c.look_near-near.new.pass.seat.me
-    k c.look_near-near.result.0
-    c.look_near-near.ensures.walked c.look_left.ensures.looked in
+returns-in-Err-clause-frame c = let looked = left_err c in
     stays_both (left_stays c.requires.work.ready
     (keeps_both c.look_near-near.ensures.frame c.look_left.ensures.frame) looked)
     c.take_run.ensures.frame
@@ -242,22 +246,17 @@ returns-in-Err-clause-tried c = let z = c.args.tree.now.space.table.shared.key i
     m = c.args.pass.now.seat.me in
     let k = c.look_left.new.pass.seat.me in let a = c.args.spent.now in let
     b = c.look_left.new.spent in
-    let looked = left_behind z a b (spot_at c.args.self.now.hi) m c.look_near-near.new.pass.seat.me
-    k c.look_near-near.result.0
-    c.look_near-near.ensures.walked c.look_left.ensures.looked in
+    let looked = left_err c in
     let learnt = learnt_both z m.0.upper k.0.upper c.take_run.new.pass.seat.me.0.upper
     (left_learnt z a b m k looked c.requires.work.known)
     c.take_run.ensures.learnt in
     (learnt.further, learnt.known, learnt.acts)
 
 pub returns-in-Err-clause-counted : goal.returns-in-Err-clause-counted
-returns-in-Err-clause-counted c = let z = c.args.tree.now.space.table.shared.key in let
-    m = c.args.pass.now.seat.me in
+returns-in-Err-clause-counted c = let m = c.args.pass.now.seat.me in
     let k = c.look_left.new.pass.seat.me in let a = c.args.spent.now in let
     b = c.look_left.new.spent in
-    let looked = left_behind z a b (spot_at c.args.self.now.hi) m c.look_near-near.new.pass.seat.me
-    k c.look_near-near.result.0
-    c.look_near-near.ensures.walked c.look_left.ensures.looked in
+    let looked = left_err c in
     paid_both a b c.take_run.new.spent m k c.take_run.new.pass.seat.me looked.paid
     c.take_run.ensures.counted
 
@@ -296,13 +295,10 @@ returns-then-not-found-clause-again c = let z = c.args.tree.now.space.table.shar
     }
 
 pub returns-in-Err-clause-missed : goal.returns-in-Err-clause-missed
-returns-in-Err-clause-missed c = let z = c.args.tree.now.space.table.shared.key in let
-    m = c.args.pass.now.seat.me in
+returns-in-Err-clause-missed c = let m = c.args.pass.now.seat.me in
     let k = c.look_left.new.pass.seat.me in let a = c.args.spent.now in let
     b = c.look_left.new.spent in
-    let looked = left_behind z a b (spot_at c.args.self.now.hi) m c.look_near-near.new.pass.seat.me
-    k c.look_near-near.result.0
-    c.look_near-near.ensures.walked c.look_left.ensures.looked in
+    let looked = left_err c in
     missed_behind {T = Unit {0}} (NeedsBelow (bound_of c.args.self.now.hi)) c.args.budget a
     c.take_run.new.spent (Err c.in-Err.why) b m k
     c.take_run.new.pass.seat.me (raised_met m k k.0.upper looked.raised) looked.paid
@@ -313,9 +309,7 @@ returns-in-Err-clause-again c = let z = c.args.tree.now.space.table.shared.key i
     m = c.args.pass.now.seat.me in
     let k = c.look_left.new.pass.seat.me in let a = c.args.spent.now in let
     b = c.look_left.new.spent in
-    let looked = left_behind z a b (spot_at c.args.self.now.hi) m c.look_near-near.new.pass.seat.me
-    k c.look_near-near.result.0
-    c.look_near-near.ensures.walked c.look_left.ensures.looked in
+    let looked = left_err c in
     again_then (HasVanished c.args.self.now.hi z) a b c.in-Err.why m k c.take_run.new.pass.seat.me
     looked.paid c.in-Err.ensures.again
 
@@ -342,23 +336,17 @@ returns-in_default-look_left-clause-loads c = let z = c.args.tree.now.space.tabl
     let looks = looks_behind z place a b m near k cursor walk c.look_left.ensures.looked
     c.look_left.ensures.loads in
     let paid = paid_more a b m k
-    (left_behind z a b place m near k cursor walk c.look_left.ensures.looked).paid in
+    (left_none c).paid in
     omega arith
 
 pub returns-then-not-found-clause-loads : goal.returns-then-not-found-clause-loads
 returns-then-not-found-clause-loads c = let z = c.args.tree.now.space.table.shared.key in let
     m = c.args.pass.now.seat.me in
     let k = c.look_left.new.pass.seat.me in let a = c.args.spent.now in let
-    b = c.look_left.new.spent in let near = c.look_near-near.new.pass.seat.me in
-    let place = spot_at c.args.self.now.hi in let cursor = c.look_near-near.result.0 in let
-    walk = c.look_near-near.ensures.walked in
-    let looks = looks_behind z place a b m near k cursor walk c.look_left.ensures.looked
-    c.look_left.ensures.loads in
-    let paid = paid_more a b m k
-    (left_behind z a b place m near k cursor walk c.look_left.ensures.looked).paid in
-    let v = c.take_run.new.pass.seat.me in
-    let all = looks_snapped z m k v paid
-    (paid_more b c.take_run.new.spent k v c.take_run.ensures.counted) looks
+    b = c.look_left.new.spent in let v = c.take_run.new.pass.seat.me in
+    let all = looks_taken z (spot_at c.args.self.now.hi) a b c.take_run.new.spent m
+    c.look_near-near.new.pass.seat.me k v c.look_near-near.result.0 c.look_near-near.ensures.walked
+    c.look_left.ensures.looked c.look_left.ensures.loads c.take_run.ensures.counted
     c.take_run.ensures.loads in
     subst (λ (x : MyTree). LoadsInLook z m x) (sym c.last_within-found.ensures.frame.still) all
 
@@ -366,16 +354,10 @@ pub returns-else-bounded-clause-loads : goal.returns-else-bounded-clause-loads
 returns-else-bounded-clause-loads c = let z = c.args.tree.now.space.table.shared.key in let
     m = c.args.pass.now.seat.me in
     let k = c.look_left.new.pass.seat.me in let a = c.args.spent.now in let
-    b = c.look_left.new.spent in let near = c.look_near-near.new.pass.seat.me in
-    let place = spot_at c.args.self.now.hi in let cursor = c.look_near-near.result.0 in let
-    walk = c.look_near-near.ensures.walked in
-    let looks = looks_behind z place a b m near k cursor walk c.look_left.ensures.looked
-    c.look_left.ensures.loads in
-    let paid = paid_more a b m k
-    (left_behind z a b place m near k cursor walk c.look_left.ensures.looked).paid in
-    let v = c.take_run.new.pass.seat.me in
-    let all = looks_snapped z m k v paid
-    (paid_more b c.take_run.new.spent k v c.take_run.ensures.counted) looks
+    b = c.look_left.new.spent in let v = c.take_run.new.pass.seat.me in
+    let all = looks_taken z (spot_at c.args.self.now.hi) a b c.take_run.new.spent m
+    c.look_near-near.new.pass.seat.me k v c.look_near-near.result.0 c.look_near-near.ensures.walked
+    c.look_left.ensures.looked c.look_left.ensures.loads c.take_run.ensures.counted
     c.take_run.ensures.loads in
     let read = c.last_within-found.new.pass.seat.me in let
     now = c.enter_last-in-Ok.ensures.entered.now in
@@ -387,16 +369,10 @@ pub returns-in-Err-clause-loads : goal.returns-in-Err-clause-loads
 returns-in-Err-clause-loads c = let z = c.args.tree.now.space.table.shared.key in let
     m = c.args.pass.now.seat.me in
     let k = c.look_left.new.pass.seat.me in let a = c.args.spent.now in let
-    b = c.look_left.new.spent in let near = c.look_near-near.new.pass.seat.me in
-    let place = spot_at c.args.self.now.hi in let cursor = c.look_near-near.result.0 in let
-    walk = c.look_near-near.ensures.walked in
-    let looks = looks_behind z place a b m near k cursor walk c.look_left.ensures.looked
-    c.look_left.ensures.loads in
-    let paid = paid_more a b m k
-    (left_behind z a b place m near k cursor walk c.look_left.ensures.looked).paid in
-    let v = c.take_run.new.pass.seat.me in
-    let all = looks_snapped z m k v paid
-    (paid_more b c.take_run.new.spent k v c.take_run.ensures.counted) looks
+    b = c.look_left.new.spent in let v = c.take_run.new.pass.seat.me in
+    let all = looks_taken z (spot_at c.args.self.now.hi) a b c.take_run.new.spent m
+    c.look_near-near.new.pass.seat.me k v c.look_near-near.result.0 c.look_near-near.ensures.walked
+    c.look_left.ensures.looked c.look_left.ensures.loads c.take_run.ensures.counted
     c.take_run.ensures.loads in
     all
 
@@ -405,8 +381,9 @@ take_run-requires-clause-work c = let z = c.args.tree.now.space.table.shared.key
     m = c.args.pass.now.seat.me in
     let k = c.look_left.new.pass.seat.me in let a = c.args.spent.now in let
     b = c.look_left.new.spent in let work = c.requires.work in
-    let looked = left_behind z a b (spot_at c.args.self.now.hi) m c.look_near-near.new.pass.seat.me
-    k c.look_near-near.result.0
+    let looked = left_behind c.args.tree.now.space.table.shared.key c.args.spent.now
+    c.look_left.new.spent (spot_at c.args.self.now.hi) c.args.pass.now.seat.me
+    c.look_near-near.new.pass.seat.me c.look_left.new.pass.seat.me c.look_near-near.result.0
     c.look_near-near.ensures.walked c.look_left.ensures.looked in
     work_after work
     (left_stays work.ready (keeps_both c.look_near-near.ensures.frame c.look_left.ensures.frame)
@@ -439,11 +416,7 @@ returns-in_default-clause-alone c alone = let z = c.args.tree.now.space.table.sh
     )
 
 pub returns-in_default-look_left-clause-counted : goal.returns-in_default-look_left-clause-counted
-returns-in_default-look_left-clause-counted c = (left_behind c.args.tree.now.space.table.shared.key
-    c.args.spent.now c.look_left.new.spent
-    (spot_at c.args.self.now.hi) c.args.pass.now.seat.me c.look_near-near.new.pass.seat.me
-    c.look_left.new.pass.seat.me c.look_near-near.result.0
-    c.look_near-near.ensures.walked c.look_left.ensures.looked).paid
+returns-in_default-look_left-clause-counted c = (left_none c).paid
 
 pub returns-in_default-look_left-clause-alone : goal.returns-in_default-look_left-clause-alone
 returns-in_default-look_left-clause-alone c alone = let z =
@@ -471,7 +444,7 @@ returns-then-not-found-clause-alone c alone = let z = c.args.tree.now.space.tabl
     k.0.upper)
     (c.in-Some-look_left.is ∙ ap (λ (x : Bool). Some x) c.if-bounded.true)
     c.look_left.ensures.ends in
-    let looked = left_behind z a b (spot_at hi) m n k cursor walk c.look_left.ensures.looked in
+    let looked = left_then c in
     let learnt = learnt_both z m.0.upper k.0.upper v.0.upper
     (left_learnt z a b m k looked c.requires.work.known) c.take_run.ensures.learnt in
     absurd (never_vanishes z hi m n k cursor walk c.in-Some.route c.in-Some.is alone left.0 low
