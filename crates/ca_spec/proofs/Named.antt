@@ -1,10 +1,12 @@
 -- Operators by their names.
 use Rattle.std.proofs.Common.{◌≡◌, false, Some, refl}
+use Rattle.std.specs.Prelude.{is_some}
 use Rattle.std.specs.Prelude.{bytes_eq, codes}
 use Rattle.ca_match.specs.declared.operator.Operator.{Operator}
 use Rattle.ca_match.specs.declared.operator.Operator.TheVariants as code
-use Rattle.ca_match.specs.OperatorView.{meaning_of, name_of}
+use Rattle.ca_match.specs.OperatorView.{meaning_of, name_of, stop_of}
 use Rattle.ca_match.specs.Operators.{operator_of}
+use Rattle.ca_spec.specs.ByCode.{is_connective}
 
 -- No operator is called const.
 pub not_const : (operator : Operator) → bytes_eq (name_of operator) (codes "const") ≡ false
@@ -86,3 +88,43 @@ named code.Length = refl
 named code.Size = refl
 named code.TupleSize = refl
 named code.ByteSize = refl
+
+-- `andalso` and `orelse` are those that may stop.
+pub connective : (operator : Operator) → is_connective (name_of operator) ≡ is_some (stop_of (meaning_of operator))
+connective code.IsAtom = refl
+connective code.IsInteger = refl
+connective code.IsNumber = refl
+connective code.IsTuple = refl
+connective code.IsList = refl
+connective code.IsBinary = refl
+connective code.Not = refl
+connective code.And = refl
+connective code.Or = refl
+connective code.Xor = refl
+connective code.AndAlso = refl
+connective code.OrElse = refl
+connective code.Greater = refl
+connective code.GreaterOrEqual = refl
+connective code.Less = refl
+connective code.LessOrEqual = refl
+connective code.Equal = refl
+connective code.ExactlyEqual = refl
+connective code.Unequal = refl
+connective code.ExactlyUnequal = refl
+connective code.Plus = refl
+connective code.Minus = refl
+connective code.Times = refl
+connective code.Div = refl
+connective code.Rem = refl
+connective code.Abs = refl
+connective code.Band = refl
+connective code.Bor = refl
+connective code.Bxor = refl
+connective code.Bnot = refl
+connective code.Element = refl
+connective code.Hd = refl
+connective code.Tl = refl
+connective code.Length = refl
+connective code.Size = refl
+connective code.TupleSize = refl
+connective code.ByteSize = refl

@@ -1,8 +1,8 @@
 -- What an element that a guard speaks of tells of an object's result.
-use Rattle.std.proofs.Common.{◌≡◌, ℕ, zero, suc, ◌≤◌, ◌<◌, ◌+◌, Bool, true, false, List, [], ◌∷◌, length, drop, set, get_or, Option, Some, None, refl, ap, sym, ◌∙◌, arith, append-nil, ◌++◌, nat_le, subst}
+use Rattle.std.proofs.Common.{◌≡◌, ◌≢◌, ℕ, zero, suc, ◌≤◌, ◌<◌, ◌+◌, Bool, true, false, List, [], ◌∷◌, length, drop, set, get_or, Option, Some, None, refl, ap, sym, ◌∙◌, arith, append-nil, ◌++◌, nat_le, subst, add-one, drop-cons}
 use Rattle.std.proofs.lemmas.Bool.Decides.{nat_tests}
-use Rattle.std.proofs.lemmas.List.{length-set}
-use Rattle.std.specs.Prelude.{IfSome, MatchOption, codes, if◌then◌else◌, option_and_then, ◌&&◌}
+use Rattle.std.proofs.lemmas.List.{drop_all, length-set}
+use Rattle.std.specs.Prelude.{IfSome, MatchOption, codes, if◌then◌else◌, not, option_and_then, option_map, ◌&&◌}
 use Rattle.std.specs.Option.{option_or}
 use Rattle.std.specs.Ordering.{is_eq, ordering_reverse}
 use Rattle.std.specs.declared.cmp.Ordering.{Ordering}
@@ -15,16 +15,18 @@ use Rattle.ca_term.proofs.TotalOrder.{tree_flip, tree_same}
 use Rattle.ca_match.specs.Match.{Bindings, Scene, bind, bind_name, bind_row, bind_variable, body_value, bound, clause_result, guarded, is_truth, no_bindings, pass, result_of, value}
 use Rattle.ca_match.specs.declared.operator.Operator.{Operator}
 use Rattle.ca_match.specs.OperatorView.{meaning_of, name_of}
-use Rattle.ca_match.specs.Operators.{applied, truth}
+use Rattle.ca_match.specs.Operators.{applied, is_tuple, truth}
+use Rattle.ca_match.specs.Specification.{is_variable}
 use Rattle.ca_match.specs.Spelling.{variable_name}
 use Rattle.ca_match.specs.Variable.{is_wildcard, variable_of}
 use Rattle.ca_order.specs.Codes.{HasNoTuple, IsOpened}
 use Rattle.ca_order.specs.CodesView.{tree_of}
 use Rattle.ca_order.specs.declared.codes.Part.{Part}
-use Rattle.ca_spec.specs.ClauseView.{tree_of_clause, trees_of_clauses}
+use Rattle.ca_spec.specs.ByCode.{is_comparison, is_constant, variable_in}
+use Rattle.ca_spec.specs.ClauseView.{tree_of_clause, tree_of_parts, trees_of_clauses}
 use Rattle.ca_spec.specs.ExpressionView.{is_itself}
 use Rattle.ca_spec.specs.PartBound.{first}
-use Rattle.ca_spec.specs.SieveView.{Compares, IsGuardOf, StandsAt, has, passes}
+use Rattle.ca_spec.specs.SieveView.{Compared, Compares, IsFound, IsGuardOf, StandsAt, compared, compared_by, compared_first, first_place, has, passes}
 use Rattle.ca_spec.specs.declared.clause.Clause.{Clause}
 use Rattle.ca_spec.specs.declared.sieve.Orders.{Orders}
 use Rattle.ca_spec.specs.declared.sieve.Sieve.{Sieve}
@@ -34,9 +36,9 @@ use Rattle.ca_spec.proofs.Values.{constant_value, literal_value, two_value, vari
 
 -- ---- what is bound stays bound
 
-record Keeps (b c : Bindings) : Type 0 where
-  long : length c ≡ length b
-  keeps : (n : ℕ) (t : Tree) → bound b n ≡ Some t → bound c n ≡ Some t
+pub record Keeps (b c : Bindings) : Type 0 where
+  pub long : length c ≡ length b
+  pub keeps : (n : ℕ) (t : Tree) → bound b n ≡ Some t → bound c n ≡ Some t
 
 keeps_all : (b : Bindings) → Keeps b b
 keeps_all b = record { long = refl; keeps = λ n t e. e }
@@ -77,7 +79,7 @@ atom_keeps text t b c false None e = equal_keeps (term_cmp (Atom text) t) b c e
 atom_keeps text t b c false (Some n) e = variable_keeps b c n t (bound b n) refl e
 
 -- what fits in two steps fits in each
-steps : (o : Option Bindings) (f : Bindings → Option Bindings) (c : Bindings) (P : Type 0) → option_and_then f o ≡ Some c
+pub steps : (o : Option Bindings) (f : Bindings → Option Bindings) (c : Bindings) (P : Type 0) → option_and_then f o ≡ Some c
     → ((d : Bindings) → o ≡ Some d → f d ≡ Some c → P) → P
 steps None f c P e goes = cc
 steps (Some d) f c P e goes = goes d refl e
@@ -85,7 +87,7 @@ steps (Some d) f c P e goes = goes d refl e
 mutual
   unfolding bind bind_row
 
-  part_keeps : (p t : Tree) (b c : Bindings) → bind p t b ≡ Some c → Keeps b c
+  pub part_keeps : (p t : Tree) (b c : Bindings) → bind p t b ≡ Some c → Keeps b c
   part_keeps (Integer n) t b c e = equal_keeps (term_cmp (Integer n) t) b c e
   part_keeps (Atom text) t b c e = atom_keeps text t b c (is_wildcard text) (variable_of text) e
   part_keeps (Tuple row) (Tuple us) b c e = row_keeps row us b c e
@@ -97,7 +99,7 @@ mutual
   part_keeps (Cons head tail) t b c e = cc
   part_keeps (Binary bytes) t b c e = equal_keeps (term_cmp (Binary bytes) t) b c e
 
-  row_keeps : (row us : Row) (b c : Bindings) → bind_row row us b ≡ Some c → Keeps b c
+  pub row_keeps : (row us : Row) (b c : Bindings) → bind_row row us b ≡ Some c → Keeps b c
   row_keeps Ends Ends b c e = subst (Keeps b) (some_is b c e) (keeps_all b)
   row_keeps Ends (More u us) b c e = cc
   row_keeps (More t row) Ends b c e = cc
@@ -114,7 +116,7 @@ equal_bound Equal b c n u t o e f =
     ap (λ (x : Bindings). bound x n) (sym (some_is b c f)) ∙ e ∙ ap (λ (x : Tree). Some x) (tree_same u t o)
 equal_bound Greater b c n u t o e f = cc
 
-variable_bound : (b c : Bindings) (n : ℕ) (t : Tree) (v : Option Tree) → n < length b → bound b n ≡ v → bind_variable b n v t ≡ Some c
+pub variable_bound : (b c : Bindings) (n : ℕ) (t : Tree) (v : Option Tree) → n < length b → bound b n ≡ v → bind_variable b n v t ≡ Some c
     → bound c n ≡ Some t
 variable_bound b c n t None h e f =
     ap (λ (x : Bindings). bound x n) (sym (some_is (set b n (Some t)) c f)) ∙ set_there b n (Some t) h
@@ -218,6 +220,53 @@ place_found parts k place n part h i p v =
     let l : place < length parts = omega (arith, p, h) in
     (l, same_item parts place Nil part l ∙ ap (λ (x : ℕ). get_or parts x part) p ∙ sym i ∙ v)
 
+-- where a variable first stands among the parts from one on
+abbrev pub place_from : ℕ → List Tree → ℕ → Option ℕ
+place_from n parts k = option_map (λ place. place + k) (first_place n (drop k parts))
+
+moved : (k : ℕ) (o : Option ℕ) → option_map (λ place. place + k) (option_map (λ place. place + 1) o) ≡ option_map (λ place. place + (k + 1)) o
+moved k None = refl
+moved k (Some p) = ap Some (omega arith)
+
+same_place : (o : Option ℕ) → o ≡ option_map (λ place. place + 0) o
+same_place None = refl
+same_place (Some p) = ap Some (omega arith)
+
+place_at : (n : ℕ) (parts : List Tree) (k : ℕ) (d : Tree) → k < length parts
+    → place_from n parts k ≡ (if is_variable n (variable_in (get_or parts k d)) then Some k else place_from n parts (k + 1))
+place_at n parts k d h = rw (add-one, drop-cons parts k d) (by (is_variable n (variable_in (get_or parts k d))))
+  where
+    by : (b : Bool) → option_map (λ place. place + k) (if b then Some 0 else option_map (λ place. place + 1) (first_place n (drop (suc k) parts)))
+        ≡ (if b then Some k else option_map (λ place. place + suc k) (first_place n (drop (suc k) parts)))
+    by true = ap Some (omega arith)
+    by false = moved k (first_place n (drop (suc k) parts)) ∙ ap (λ (x : ℕ). option_map (λ place. place + x) (first_place n (drop (suc k) parts))) (omega arith)
+
+-- At first all parts are left.
+pub place_start : (n : ℕ) (parts : List Tree) → first_place n parts ≡ place_from n parts 0
+place_start n parts = same_place (first_place n parts)
+
+-- Where a part isn't the variable, those behind it are left.
+pub place_next : (n : ℕ) (parts : List Tree) (k : ℕ) (part : Tree) (all : Option ℕ) (b : Bool) → k < length parts → part ≡ get_or parts k part
+    → all ≡ place_from n parts k → b ≡ is_variable n (variable_in part) → b ≡ false → all ≡ place_from n parts (k + 1)
+place_next n parts k part all b h i a v f =
+    a ∙ place_at n parts k part h
+    ∙ ap (λ (x : Bool). if x then Some k else place_from n parts (k + 1)) (ap (λ (x : Tree). is_variable n (variable_in x)) (sym i) ∙ sym v ∙ f)
+
+-- Where it is, it's the first one.
+pub place_here : (n : ℕ) (parts : List Tree) (k place : ℕ) (part : Tree) (all : Option ℕ) (b : Bool) → k < length parts → part ≡ get_or parts k part
+    → all ≡ place_from n parts k → place ≡ k → b ≡ is_variable n (variable_in part) → b ≡ true → Some place ≡ all
+place_here n parts k place part all b h i a p v t =
+    ap Some p
+    ∙ sym (a ∙ place_at n parts k part h
+    ∙ ap (λ (x : Bool). if x then Some k else place_from n parts (k + 1)) (ap (λ (x : Tree). is_variable n (variable_in x)) (sym i) ∙ sym v ∙ t))
+
+-- Behind the last part there is none.
+pub place_none : (n : ℕ) (parts : List Tree) (k : ℕ) (all : Option ℕ) → length parts ≤ k → all ≡ place_from n parts k → None ≡ all
+place_none n parts k all h a = sym (a ∙ ap (λ (x : List Tree). option_map (λ place. place + k) (first_place n x)) (drop_all k parts h))
+
+-- The parts of a head, from the left.
+pub ruleset places_in_order = (place_found, place_start, place_next, place_here, place_none)
+
 -- A comparison of a variable with a constant is a guard as a sieve needs it.
 pub guard_compares : (operator : Operator) (orders : Orders) (guard a b constant : Tree) (n : ℕ)
     → Tuple (More (Atom (name_of operator)) (More a (More b Ends))) ≡ guard → (n < 100) × (Atom (variable_name n) ≡ a)
@@ -245,6 +294,43 @@ guard_turned operator orders back guard a b constant n e v is compares turns = (
       ∙ ap (λ (p : Bool). Some (truth p)) (sym (turns (term_cmp t constant))),
 )
 
+-- the variable of a comparison, by what is told of its two sides
+abbrev sides : Option ℕ → Bool → Option ℕ → Bool → Option ℕ
+sides va cb vb ca = option_or (if cb then va else None) (if ca then vb else None)
+
+compared_sides : (operator : Operator) (guard a b : Tree) (va vb : Option ℕ) (ca cb : Bool)
+    → Tuple (More (Atom (name_of operator)) (More a (More b Ends))) ≡ guard → true ≡ is_comparison (name_of operator)
+    → va ≡ variable_in a → vb ≡ variable_in b → ca ≡ is_constant a → cb ≡ is_constant b → sides va cb vb ca ≡ compared guard
+compared_sides operator guard a b va vb ca cb e o f g h i =
+    (λ j. sides (f j) (i j) (g j) (h j))
+    ∙ ap (λ (x : Bool). if x then sides (variable_in a) (is_constant b) (variable_in b) (is_constant a) else None) o
+    ∙ ap compared e
+
+-- The variable stands first.
+pub first_compared : (operator : Operator) (guard a b : Tree) (n : ℕ) → Tuple (More (Atom (name_of operator)) (More a (More b Ends))) ≡ guard
+    → true ≡ is_comparison (name_of operator) → Some n ≡ variable_in a → true ≡ is_constant b → Some n ≡ compared guard
+first_compared operator guard a b n e o f i = compared_sides operator guard a b (Some n) _ _ true e o f refl refl i
+
+nothing : (b : Bool) (o : Option ℕ) → o ≡ option_or (if b then None else None) o
+nothing true o = refl
+nothing false o = refl
+
+-- It stands second, or nowhere.
+pub second_compared : (operator : Operator) (guard a b : Tree) (n : ℕ) → Tuple (More (Atom (name_of operator)) (More a (More b Ends))) ≡ guard
+    → true ≡ is_comparison (name_of operator) → None ≡ variable_in a → Some n ≡ variable_in b → true ≡ is_constant a → Some n ≡ compared guard
+second_compared operator guard a b n e o f g h =
+    nothing (is_constant b) (Some n) ∙ compared_sides operator guard a b None (Some n) true _ e o f g h refl
+
+pub nowhere : (operator : Operator) (guard a b : Tree) → Tuple (More (Atom (name_of operator)) (More a (More b Ends))) ≡ guard
+    → true ≡ is_comparison (name_of operator) → None ≡ variable_in a → None ≡ variable_in b → None ≡ compared guard
+nowhere operator guard a b e o f g = none (is_constant b) (is_constant a) ∙ compared_sides operator guard a b None None _ _ e o f g refl refl
+  where
+    none : (cb ca : Bool) → None ≡ sides None cb None ca
+    none true true = refl
+    none true false = refl
+    none false true = refl
+    none false false = refl
+
 -- The value of a constant, by its code.
 pub literal_is : (P : Type 0) (r : Option Part) (t e : Tree) → MatchOption r P (λ part. tree_of part ≡ t) → is_itself t ≡ true → t ≡ e
     → IfSome r (λ part. (s : Scene) → value s e ≡ Some (tree_of part))
@@ -255,6 +341,104 @@ pub constant_is : (P : Type 0) (r : Option Part) (t e : Tree) → MatchOption r 
     → Tuple (More (Atom (codes "const")) (More t Ends)) ≡ e → IfSome r (λ part. (s : Scene) → value s e ≡ Some (tree_of part))
 constant_is P None t e m f = tt
 constant_is P (Some part) t e m f = λ s. sym (constant_value s e t f) ∙ ap (λ (x : Tree). Some x) (sym m)
+
+-- ---- where there is a sieve
+
+-- where a clause's comparison stands, by the number of its variable
+abbrev compared_at : Tree → List Tree → Option ℕ → Option Compared
+compared_at guard parts o =
+    option_and_then (λ number. option_map (λ place. record { guard = guard; number = number; place = place }) (first_place number parts)) o
+
+clause_compared : (clause : Clause) (parts : List Tree) (guard : Tree) (others : List Tree) → Tuple (row_of parts) ≡ clause.head
+    → clause.guards.items ≡ guard ∷ others → compared_at guard parts (compared guard) ≡ compared_by (tree_of_clause clause)
+clause_compared clause parts guard others h f =
+    ap (λ (x : List Tree). compared_at guard x (compared guard)) (sym (elements_are parts))
+    ∙ ap (λ (x : List Tree). compared_by (tree_of_parts (Tuple (row_of parts)) (list_of x Nil) (Cons clause.body Nil))) (sym f)
+    ∙ ap (λ (x : Tree). compared_by (tree_of_parts x (list_of clause.guards.items Nil) (Cons clause.body Nil))) h
+
+found_none : (o : Option Compared) (r : Option Sieve) → r ≡ None → None ≡ o → IsFound o r
+found_none o r e n = subst (λ (x : Option Compared). IsFound x r) n e
+
+head_compared : (head guards body : Tree) → false ≡ is_tuple head → None ≡ compared_by (tree_of_parts head guards body)
+head_compared (Integer n) guards body e = refl
+head_compared (Atom text) guards body e = refl
+head_compared (Tuple row) guards body e = cc
+head_compared Nil guards body e = refl
+head_compared (Cons head tail) guards body e = refl
+head_compared (Binary bytes) guards body e = refl
+
+-- There is none where the head is no tuple, or there is no guard, or the first one is no comparison, or its variable is no part of the head.
+pub no_head_found : (clause : Clause) (r : Option Sieve) → r ≡ None → false ≡ is_tuple clause.head → IsFound (compared_by (tree_of_clause clause)) r
+no_head_found clause r e h = found_none _ r e (head_compared clause.head (list_of clause.guards.items Nil) (Cons clause.body Nil) h)
+
+pub no_guard_found : (clause : Clause) (parts : List Tree) (r : Option Sieve) → r ≡ None → Tuple (row_of parts) ≡ clause.head
+    → clause.guards.items ≡ [] → IsFound (compared_by (tree_of_clause clause)) r
+no_guard_found clause parts r e h f =
+    found_none _ r e (ap (λ (x : List Tree). compared_by (tree_of_parts (Tuple (row_of parts)) (list_of x Nil) (Cons clause.body Nil))) (sym f)
+    ∙ ap (λ (x : Tree). compared_by (tree_of_parts x (list_of clause.guards.items Nil) (Cons clause.body Nil))) h)
+
+pub no_comparison_found : (clause : Clause) (parts : List Tree) (guard : Tree) (others : List Tree) (r : Option Sieve) → r ≡ None
+    → Tuple (row_of parts) ≡ clause.head → clause.guards.items ≡ guard ∷ others → None ≡ compared guard → IsFound (compared_by (tree_of_clause clause)) r
+no_comparison_found clause parts guard others r e h f n =
+    found_none _ r e (ap (compared_at guard parts) n ∙ clause_compared clause parts guard others h f)
+
+pub no_place_found : (clause : Clause) (parts : List Tree) (guard : Tree) (others : List Tree) (n : ℕ) (r : Option Sieve) → r ≡ None
+    → Tuple (row_of parts) ≡ clause.head → clause.guards.items ≡ guard ∷ others → Some n ≡ compared guard → None ≡ first_place n parts
+    → IsFound (compared_by (tree_of_clause clause)) r
+no_place_found clause parts guard others n r e h f c p =
+    found_none _ r e (ap (λ (x : Option ℕ). option_map (λ place. record { guard = guard; number = n; place = place }) x) p
+    ∙ ap (compared_at guard parts) c ∙ clause_compared clause parts guard others h f)
+
+asked_first : (sieve : Sieve) (guard : Tree) (n : ℕ) → IsGuardOf guard n sieve.orders (tree_of sieve.constant)
+    → IsFound (Some (record { guard = guard; number = n; place = sieve.place })) (Some sieve)
+asked_first sieve guard n g = λ object scene e.
+    ap (λ (x : Bool). nat_le (sieve.place + 1) (length (elements_of object)) && x)
+    (sym (ap is_truth (g.1 scene (get_or (elements_of object) sieve.place Nil) e) ∙ truth_is _))
+
+-- Else there is one, which asks that guard.
+pub clause_found : (sieve : Sieve) (clause : Clause) (parts : List Tree) (guard : Tree) (others : List Tree) (n : ℕ) → Tuple (row_of parts) ≡ clause.head
+    → clause.guards.items ≡ guard ∷ others → IsGuardOf guard n sieve.orders (tree_of sieve.constant) → Some n ≡ compared guard
+    → Some sieve.place ≡ first_place n parts → IsFound (compared_by (tree_of_clause clause)) (Some sieve)
+clause_found sieve clause parts guard others n h f g c p =
+    subst (λ (x : Option Compared). IsFound x (Some sieve))
+    (ap (λ (x : Option ℕ). option_map (λ place. record { guard = guard; number = n; place = place }) x) p
+    ∙ ap (compared_at guard parts) c ∙ clause_compared clause parts guard others h f)
+    (asked_first sieve guard n g)
+
+first_by : (others : List Clause) (clause : Clause) → length others ≡ 0
+    → compared_by (tree_of_clause clause) ≡ compared_first (list_of (trees_of_clauses (clause ∷ others)) Nil)
+first_by [] clause l = refl
+first_by (c ∷ cs) clause l = absurd (omega arith)
+
+-- A specification of one clause is asked for its first guard.
+pub only_found : (clauses others : List Clause) (clause : Clause) (source : Tree) (r : Option Sieve) → list_of (trees_of_clauses clauses) Nil ≡ source
+    → clauses ≡ clause ∷ others → length others ≡ 0 → IsFound (compared_by (tree_of_clause clause)) r → IsFound (compared_first source) r
+only_found clauses others clause source r s f l i =
+    subst (λ (x : Option Compared). IsFound x r)
+    (first_by others clause l ∙ ap (λ (x : List Clause). compared_first (list_of (trees_of_clauses x) Nil)) (sym f) ∙ ap compared_first s) i
+
+no_first_by : (others : List Clause) (clause : Clause) → length others ≢ 0
+    → None ≡ compared_first (list_of (trees_of_clauses (clause ∷ others)) Nil)
+no_first_by [] clause l = absurd (l refl)
+no_first_by (c ∷ cs) clause l = refl
+
+-- One of more clauses, or of none, isn't.
+pub more_found : (clauses others : List Clause) (clause : Clause) (source : Tree) (r : Option Sieve) → list_of (trees_of_clauses clauses) Nil ≡ source
+    → clauses ≡ clause ∷ others → length others ≢ 0 → r ≡ None → IsFound (compared_first source) r
+more_found clauses others clause source r s f l e =
+    found_none _ r e
+    (no_first_by others clause l ∙ ap (λ (x : List Clause). compared_first (list_of (trees_of_clauses x) Nil)) (sym f) ∙ ap compared_first s)
+
+pub none_found : (clauses : List Clause) (source : Tree) (r : Option Sieve) → list_of (trees_of_clauses clauses) Nil ≡ source
+    → clauses ≡ [] → r ≡ None → IsFound (compared_first source) r
+none_found clauses source r s f e =
+    found_none _ r e (ap (λ (x : List Clause). compared_first (list_of (trees_of_clauses x) Nil)) (sym f) ∙ ap compared_first s)
+
+-- Where a clause has no sieve.
+pub ruleset no_sieves = (no_head_found, no_guard_found, no_comparison_found, no_place_found)
+
+-- Where a specification has one.
+pub ruleset sieves_of_clauses = (only_stops, only_found, more_found, none_found)
 
 -- ---- an object by its code
 

@@ -1,4 +1,5 @@
 pub mod Bound
+pub mod ByCode
 pub mod ClauseView
 pub mod ConstantView
 pub mod ExpressionFalls

@@ -23,3 +23,10 @@ IsKnown None clause object table = MayFit clause.head (tree_of object)
 IsKnown (Some false) clause object table = clause_result (tree_of_clause clause) (tree_of object) ≡ None
 IsKnown (Some true) clause object table =
     (clause_result (tree_of_clause clause) (tree_of object) ≡ value (scene_in object table) clause.body) × MayFit clause.head (tree_of object)
+
+-- A result is told by its code, or that there is none.
+abbrev pub IsByCode : Quick → Type 0
+IsByCode quick.None = Unit {0}
+IsByCode (quick.Part part) = Unit {0}
+IsByCode (quick.Term term) = ⊥
+IsByCode quick.Unknown = ⊥

@@ -28,7 +28,7 @@ impl Model for Constant {
 }
 
 impl Constant {
-    ghost use Rattle.std.specs.Prelude.{◌≡◌, false, IfOk, IfErr, MatchOption};
+    ghost use Rattle.std.specs.Prelude.{◌≡◌, false, IfOk, IfErr, MatchOption, is_some};
     ghost use Rattle.ca_term.specs.Object.{fits};
     ghost use Rattle.ca_order.specs.CodesView.{tree_of};
 
@@ -56,7 +56,8 @@ impl Constant {
     // Its code.
     #[inline(always)]
     pub(crate) fn part(&self) -> Option<Part<'_>>
-        ensures { MatchOption result (fits self.now ≡ false) (λ part. tree_of part ≡ self.now) }
+        ensures part { MatchOption result (fits self.now ≡ false) (λ part. tree_of part ≡ self.now) }
+        ensures coded { is_some result ≡ fits self.now }
     {
         match &self.code {
             Some(code) => Some(Part::of(code.as_slice())),

@@ -1,10 +1,11 @@
 //! What a specification makes of an object, by the object's code.
-ghost use Rattle.std.specs.Prelude.{◌≡◌, ◌≤◌, ◌∷◌, IfOk, IfSome, OnErr, is_some, length, option_map};
+ghost use Rattle.std.specs.Prelude.{◌≡◌, ◌≤◌, ◌∷◌, IfOk, IfSome, IsSome, OnErr, is_some, length, option_map};
 ghost use Rattle.ca_term.specs.Code.{code_of};
 ghost use Rattle.ca_term.specs.Tree.{Cons, IsTerm, Nil, Tree, list_of};
 ghost use Rattle.ca_match.specs.Match.{clause_result, guarded, no_bindings, pass, result_of};
 ghost use Rattle.ca_order.specs.CodesView.{tree_of};
 ghost use Rattle.ca_order.specs.Languages.{IsTermCode};
+ghost use Rattle.ca_spec.specs.ByCode.{IsOnePlain, IsPlain};
 ghost use Rattle.ca_spec.specs.ClauseView.{tree_of_clause, trees_of_clauses};
 ghost use Rattle.ca_spec.specs.FoundView.{tree_of_found};
 ghost use Rattle.ca_spec.specs.PartBound.{parts_of, scene_in};
@@ -42,14 +43,16 @@ pub fn apply_code<'a>(
     result_of_clauses(alloc, spec.clauses.as_slice(), Part::of(code))
 }
 
-/// The code of the result that `apply` gives the object whose code this is, or `Some(None)` where it gives none; `None` where that isn't told: of several
-/// clauses, of many variables, and of a result that is no part of the object, the object or a constant. It takes no memory, and less time than `apply_code`.
+/// The code of the result that `apply` gives the object whose code this is, or `Some(None)` where it gives none; `None` where that isn't told. It is told of
+/// each specification of one plain clause (`IsOnePlain`): of the variables '$0' to '$3', whose guards compare variables, the object and constants or test
+/// their kinds, or are `andalso`, `orelse` and `not` of these, and whose body is one of them. It takes no memory, and less time than `apply_code`.
 #[inline(always)]
-#[tactic(auto, using(crate::proofs::LeftClauses::only_told))]
+#[tactic(auto, using(crate::proofs::LeftClauses::only_told, crate::proofs::PlainClauses::no_plain))]
 pub fn told_by_code<'a>(spec: &'a Spec, code: &'a [u8]) -> Option<Option<Part<'a>>>
     requires { IsTermCode code.now }
-    ensures { IfSome result (λ told. (object : Tree) → IsTerm object → code.entry.now ≡ code_of object
+    ensures result { IfSome result (λ told. (object : Tree) → IsTerm object → code.entry.now ≡ code_of object
         → option_map tree_of told ≡ result_of spec.entry.now object) }
+    ensures told { IsOnePlain spec.entry.now → IsSome result }
 {
     let (clause, others) = spec.clauses.as_slice().split_first()?;
     if !others.is_empty() {
@@ -62,7 +65,8 @@ pub fn told_by_code<'a>(spec: &'a Spec, code: &'a [u8]) -> Option<Option<Part<'a
 // What the code tells of a clause's result, where the clause has few variables and its body may be a part.
 #[inline(always)]
 fn told_of_few<'a>(clause: &'a Clause, object: Part<'a>) -> Option<Option<Part<'a>>>
-    ensures { IfSome result (λ told. option_map tree_of told ≡ clause_result (tree_of_clause clause.entry.now) (tree_of object.entry)) }
+    ensures result { IfSome result (λ told. option_map tree_of told ≡ clause_result (tree_of_clause clause.entry.now) (tree_of object.entry)) }
+    ensures told { IsPlain clause.entry.now.head (list_of clause.entry.now.guards.items Nil) clause.entry.now.body → IsSome result }
 {
     if clause.places > FEWER || !may_be_part(&clause.body) {
         return None;

@@ -1,15 +1,16 @@
 //! Results of objects' codes, where a head, guards and a body are told by parts of the code alone.
-ghost use Rattle.std.specs.Prelude.{◌≡◌, ◌≤◌, ◌∷◌, [], Some, IfOk, IfSome, length};
-ghost use Rattle.ca_term.specs.Tree.{Nil, list_of};
+ghost use Rattle.std.specs.Prelude.{◌≡◌, ◌≤◌, ◌∷◌, [], Some, IfOk, IfSome, IsSome, is_some, length, true};
+ghost use Rattle.ca_term.specs.Tree.{Nil, Tree, list_of};
 ghost use Rattle.ca_match.specs.Match.{clause_result, is_truth, no_bindings, pass, value};
-ghost use Rattle.ca_match.specs.OperatorView.{meaning_of};
+ghost use Rattle.ca_match.specs.OperatorView.{meaning_of, name_of};
 ghost use Rattle.ca_match.specs.Operators.{Short, applied, truth};
 ghost use Rattle.ca_order.specs.CodesView.{tree_of};
+ghost use Rattle.ca_spec.specs.ByCode.{AreBound, IsPlain, are_plain, call_of_one, is_comparison, is_operand, is_plain, is_test};
 ghost use Rattle.ca_spec.specs.ClauseView.{tree_of_clause};
 ghost use Rattle.ca_spec.specs.PartBound.{parts_of, scene_in};
 ghost use Rattle.ca_spec.specs.Places.{places};
-ghost use Rattle.ca_spec.specs.QuickView.{IsKnown, IsTold};
-ghost use Rattle.ca_spec.specs.Reached.{IsReached};
+ghost use Rattle.ca_spec.specs.QuickView.{IsByCode, IsKnown, IsTold};
+ghost use Rattle.ca_spec.specs.Reached.{AreShort, IsReached};
 
 use crate::clause::Clause;
 use crate::expression::{Expression, Form};
@@ -27,7 +28,8 @@ fn operand<'a>(
     object: Part<'a>,
     table: &[Option<Part<'a>>],
 ) -> Option<Part<'a>>
-    ensures { IfSome result (λ part. Some (tree_of part) ≡ value (scene_in object.entry table.now) expression.now) }
+    ensures part { IfSome result (λ part. Some (tree_of part) ≡ value (scene_in object.entry table.now) expression.now) }
+    ensures told { (head : Tree) → AreBound head (parts_of table.now) → is_operand head expression.now ≡ true → IsSome result }
 {
     match &expression.form {
         Form::Variable(number) => bound_part(*number as usize, table),
@@ -41,7 +43,9 @@ fn operand<'a>(
 
 // Whether an expression is of a kind whose value may be a part of the object's code or a constant's code.
 #[inline(always)]
-pub(crate) fn may_be_part(expression: &Expression) -> bool {
+pub(crate) fn may_be_part(expression: &Expression) -> bool
+    ensures { (head : Tree) → is_operand head expression.now ≡ true → result ≡ true }
+{
     match &expression.form {
         Form::Variable(_) | Form::Whole | Form::Literal(_) | Form::Constant(_) => true,
         Form::AllBound | Form::Tuple(_) | Form::List(_, _) | Form::One(_, _) | Form::Two(_, _, _) =>
@@ -52,7 +56,8 @@ pub(crate) fn may_be_part(expression: &Expression) -> bool {
 // Whether a comparison of two terms holds, by their codes, or `None` for other operators.
 #[inline(always)]
 fn compared(operator: Operator, a: Part<'_>, b: Part<'_>) -> Option<bool>
-    ensures { IfSome result (λ holds. Some (truth holds) ≡ applied (meaning_of operator) (Some (tree_of a.entry) ∷ Some (tree_of b.entry) ∷ [])) }
+    ensures holds { IfSome result (λ holds. Some (truth holds) ≡ applied (meaning_of operator) (Some (tree_of a.entry) ∷ Some (tree_of b.entry) ∷ [])) }
+    ensures told { is_some result ≡ is_comparison (name_of operator) }
 {
     let order = a.order(b);
     match operator {
@@ -71,7 +76,8 @@ fn compared(operator: Operator, a: Part<'_>, b: Part<'_>) -> Option<bool>
 // Whether a test of a term's kind holds, by its code, or `None` for other operators.
 #[tactic(auto, using(crate::proofs::Operands::kind_tests))]
 fn tested(operator: Operator, a: Part<'_>) -> Option<bool>
-    ensures { IfSome result (λ holds. Some (truth holds) ≡ applied (meaning_of operator) (Some (tree_of a.entry) ∷ [])) }
+    ensures holds { IfSome result (λ holds. Some (truth holds) ≡ applied (meaning_of operator) (Some (tree_of a.entry) ∷ [])) }
+    ensures told { is_some result ≡ is_test (name_of operator) }
 {
     let rank = a.rank();
     match operator {
@@ -89,7 +95,8 @@ fn tested(operator: Operator, a: Part<'_>) -> Option<bool>
 #[cycle(known)]
 #[inline(always)]
 fn known<'a>(guard: &'a Expression, object: Part<'a>, table: &[Option<Part<'a>>]) -> Option<bool>
-    ensures { IfSome result (λ known. Some (truth known) ≡ value (scene_in object.entry table.now) guard.now) }
+    ensures known { IfSome result (λ known. Some (truth known) ≡ value (scene_in object.entry table.now) guard.now) }
+    ensures told { (head : Tree) → AreBound head (parts_of table.now) → is_plain head guard.now ≡ true → IsSome result }
 {
     match &guard.form {
         Form::Two(operator, a, b) => match operator.stop() {
@@ -116,8 +123,10 @@ fn known_comparison<'a>(
     object: Part<'a>,
     table: &[Option<Part<'a>>],
 ) -> Option<bool>
-    ensures { let scene = scene_in object.entry table.now in
+    ensures known { let scene = scene_in object.entry table.now in
         IfSome result (λ known. Some (truth known) ≡ applied (meaning_of operator) (value scene a.now ∷ value scene b.now ∷ [])) }
+    ensures told { (head : Tree) → AreBound head (parts_of table.now) → is_comparison (name_of operator) ≡ true → is_operand head a.now ≡ true
+        → is_operand head b.now ≡ true → IsSome result }
 {
     let a = operand(a, object, table)?;
     let b = operand(b, object, table)?;
@@ -135,8 +144,9 @@ fn known_short<'a>(
     object: Part<'a>,
     table: &[Option<Part<'a>>],
 ) -> Option<bool>
-    ensures { let scene = scene_in object.entry table.now in
+    ensures known { let scene = scene_in object.entry table.now in
         IfSome result (λ known. Some (truth known) ≡ applied (Short stop) (value scene a.now ∷ value scene b.now ∷ [])) }
+    ensures told { (head : Tree) → AreBound head (parts_of table.now) → is_plain head a.now ≡ true → is_plain head b.now ≡ true → IsSome result }
 {
     let first = known(a, object, table)?;
     if first == stop {
@@ -155,8 +165,9 @@ fn known_of_one<'a>(
     object: Part<'a>,
     table: &[Option<Part<'a>>],
 ) -> Option<bool>
-    ensures { let scene = scene_in object.entry table.now in
+    ensures known { let scene = scene_in object.entry table.now in
         IfSome result (λ known. Some (truth known) ≡ applied (meaning_of operator) (value scene a.now ∷ [])) }
+    ensures told { (head : Tree) → AreBound head (parts_of table.now) → is_plain head (call_of_one operator a.now) ≡ true → IsSome result }
 {
     if let Operator::Not = operator {
         let holds = known(a, object, table)?;
@@ -169,7 +180,8 @@ fn known_of_one<'a>(
 #[inline(always)]
 #[tactic(auto, using(crate::proofs::Operands::truth_known))]
 fn holds<'a>(guard: &'a Expression, object: Part<'a>, table: &[Option<Part<'a>>]) -> Option<bool>
-    ensures { IfSome result (λ holds. is_truth (value (scene_in object.entry table.now) guard.now) ≡ holds) }
+    ensures holds { IfSome result (λ holds. is_truth (value (scene_in object.entry table.now) guard.now) ≡ holds) }
+    ensures told { (head : Tree) → AreBound head (parts_of table.now) → is_plain head guard.now ≡ true → IsSome result }
 {
     let known = known(guard, object, table)?;
     Some(known)
@@ -183,7 +195,8 @@ pub(crate) fn pass<'a>(
     object: Part<'a>,
     table: &[Option<Part<'a>>],
 ) -> Option<bool>
-    ensures { IfSome result (λ passed. passed ≡ pass (scene_in object.entry table.now) (list_of guards.now Nil)) }
+    ensures passed { IfSome result (λ passed. passed ≡ pass (scene_in object.entry table.now) (list_of guards.now Nil)) }
+    ensures told { (head : Tree) → AreBound head (parts_of table.now) → are_plain head (list_of guards.now Nil) ≡ true → IsSome result }
 {
     for guard in guards {
         match holds(guard, object, table) {
@@ -209,7 +222,7 @@ pub(crate) enum Quick<'a> {
 
 // Whether a clause's head fits an object and its guards are all true, where the object's code tells; with this table, which is empty.
 #[inline(always)]
-#[tactic(auto, using(crate::proofs::QuickResults::known_clauses))]
+#[tactic(auto, using(crate::proofs::QuickResults::known_clauses, crate::proofs::PlainClauses::head_bound))]
 pub(crate) fn passed<'a>(
     clause: &'a Clause,
     object: Part<'a>,
@@ -217,7 +230,9 @@ pub(crate) fn passed<'a>(
 ) -> Option<bool>
     requires room { places clause.now.head ≤ length table.old }
     requires none { parts_of table.old ≡ no_bindings }
-    ensures { IsKnown result clause.entry.now object.entry table.new }
+    ensures known { IsKnown result clause.entry.now object.entry table.new }
+    ensures told { AreShort clause.entry.now.head → are_plain clause.entry.now.head (list_of clause.entry.now.guards.items Nil) ≡ true → IsSome result }
+    ensures bound { result ≡ Some true → AreBound clause.entry.now.head (parts_of table.new) }
 {
     match fit_object(&clause.head, clause.asked, object, table) {
         Some(true) => pass(clause.guards.as_slice(), object, table),
@@ -238,6 +253,8 @@ pub(crate) fn result_where<'a>(
     requires { IsKnown known clause.now object table.now }
     ensures told { IsTold result (clause_result (tree_of_clause clause.entry.now) (tree_of object.entry)) }
     ensures reached { IsReached result clause.entry.now.head (tree_of object.entry) }
+    ensures coded { IsSome known → (known ≡ Some true → AreBound clause.entry.now.head (parts_of table.now))
+        → is_operand clause.entry.now.head clause.entry.now.body ≡ true → IsByCode result }
 {
     match known {
         Some(true) => told_value(&clause.body, object, table),
@@ -257,6 +274,7 @@ pub(crate) fn quick_result<'a>(
     requires none { parts_of table.old ≡ no_bindings }
     ensures told { IsTold result (clause_result (tree_of_clause clause.entry.now) (tree_of object.entry)) }
     ensures reached { IsReached result clause.entry.now.head (tree_of object.entry) }
+    ensures coded { IsPlain clause.entry.now.head (list_of clause.entry.now.guards.items Nil) clause.entry.now.body → IsByCode result }
 {
     let known = passed(clause, object, table);
     result_where(known, clause, object, table)
@@ -266,7 +284,8 @@ pub(crate) fn quick_result<'a>(
 #[inline(always)]
 #[tactic(auto, using(crate::proofs::Values::expression_values))]
 fn told_value<'a>(body: &'a Expression, object: Part<'a>, table: &[Option<Part<'a>>]) -> Quick<'a>
-    ensures { IsTold result (value (scene_in object.entry table.now) body.now) }
+    ensures told { IsTold result (value (scene_in object.entry table.now) body.now) }
+    ensures coded { (head : Tree) → AreBound head (parts_of table.now) → is_operand head body.now ≡ true → IsByCode result }
 {
     match operand(body, object, table) {
         Some(part) => Quick::Part(part),

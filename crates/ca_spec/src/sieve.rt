@@ -1,15 +1,20 @@
 //! What objects must be for a specification to give them a result, as far as one element tells.
-ghost use Rattle.std.specs.Prelude.{◌≡◌, ◌<◌, IfSome, None, Some, false, true};
+ghost use Rattle.std.specs.Prelude.{◌≡◌, ◌<◌, IfSome, None, Some, false, is_some, option_map, true};
 ghost use Rattle.std.specs.Ordering.{ordering_reverse};
 ghost use Rattle.std.specs.declared.cmp.Ordering.{Ordering};
 ghost use Rattle.ca_match.specs.Match.{Scene, clause_result, value};
+ghost use Rattle.ca_match.specs.OperatorView.{name_of};
+ghost use Rattle.ca_match.specs.Operators.{is_tuple};
+ghost use Rattle.ca_match.specs.Specification.{is_variable};
 ghost use Rattle.ca_match.specs.Spelling.{variable_name};
 ghost use Rattle.ca_order.specs.CodesView.{tree_of};
 ghost use Rattle.ca_order.specs.Languages.{IsTermCode};
 ghost use Rattle.ca_term.specs.Code.{code_of};
 ghost use Rattle.ca_term.specs.Tree.{Atom, IsTerm, Tree, Tuple, row_of};
+ghost use Rattle.ca_spec.specs.ByCode.{is_comparison, is_constant, variable_in};
 ghost use Rattle.ca_spec.specs.ClauseView.{tree_of_clause};
-ghost use Rattle.ca_spec.specs.SieveView.{Compares, IsGuardOf, IsSieveOf, IsSoAt, StandsAt, has, passes};
+ghost use Rattle.ca_spec.specs.SieveView.{Compares, IsFound, IsGuardOf, IsSieveOf, IsSoAt, StandsAt, has, passes};
+ghost use Rattle.ca_spec.specs.SieveView.{compared, compared_by, compared_first, first_place};
 
 use crate::clause::Clause;
 use crate::expression::{Expression, Form};
@@ -49,10 +54,12 @@ fn has(orders: Orders, order: Ordering) -> bool
 }
 
 impl<'a> Sieve<'a> {
-    /// The sieve of a specification of one clause whose first guard compares a variable, which is one of the head's parts, with a constant; else `None`.
-    #[tactic(auto, using(crate::proofs::Sieves::only_stops))]
+    /// The sieve of a specification of one clause whose first guard compares a variable, which is one of the head's parts, with a constant whose code isn't
+    /// longer than codes may be; else `None`.
+    #[tactic(auto, using(crate::proofs::Sieves::sieves_of_clauses))]
     pub fn of(spec: &'a Spec) -> Option<Sieve<'a>>
-        ensures { IfSome result (λ sieve. IsSieveOf spec.entry.now sieve) }
+        ensures stops { IfSome result (λ sieve. IsSieveOf spec.entry.now sieve) }
+        ensures found { IsFound (compared_first spec.entry.now) result }
     {
         let (clause, others) = spec.clauses.as_slice().split_first()?;
         if others.is_empty() {
@@ -84,8 +91,10 @@ impl<'a> Sieve<'a> {
 }
 
 // The sieve of a clause.
+#[tactic(auto, using(crate::proofs::Sieves::no_sieves))]
 fn sieve_of_clause<'a>(clause: &'a Clause) -> Option<Sieve<'a>>
-    ensures { IfSome result (λ sieve. (object : Tree) → passes sieve object ≡ false → clause_result (tree_of_clause clause.entry.now) object ≡ None) }
+    ensures stops { IfSome result (λ sieve. (object : Tree) → passes sieve object ≡ false → clause_result (tree_of_clause clause.entry.now) object ≡ None) }
+    ensures found { IsFound (compared_by (tree_of_clause clause.entry.now)) result }
 {
     let parts = parts_of(&clause.head)?;
     let (guard, _) = clause.guards.as_slice().split_first()?;
@@ -100,7 +109,8 @@ fn sieve_of_clause<'a>(clause: &'a Clause) -> Option<Sieve<'a>>
 
 // The parts of a head that is a tuple.
 fn parts_of(head: &Pattern) -> Option<&[Pattern]>
-    ensures { IfSome result (λ parts. Tuple (row_of parts.now) ≡ head.now) }
+    ensures parts { IfSome result (λ parts. Tuple (row_of parts.now) ≡ head.now) }
+    ensures found { is_some result ≡ is_tuple head.now }
 {
     match &head.shape {
         Shape::Tuple(parts) => Some(parts.as_slice()),
@@ -109,9 +119,10 @@ fn parts_of(head: &Pattern) -> Option<&[Pattern]>
 }
 
 // The first place of a variable among the parts of a head.
-#[tactic(auto, using(crate::proofs::Sieves::place_found))]
+#[tactic(auto, using(crate::proofs::Sieves::places_in_order))]
 fn place_of(parts: &[Pattern], number: u8) -> Option<usize>
-    ensures { IfSome result (λ place. StandsAt parts.now number place) }
+    ensures stands { IfSome result (λ place. StandsAt parts.now number place) }
+    ensures found { result ≡ first_place number parts.now }
 {
     let mut place = 0;
     for part in parts {
@@ -125,7 +136,8 @@ fn place_of(parts: &[Pattern], number: u8) -> Option<usize>
 
 // Whether a part of a head is this variable.
 fn is_variable(part: &Pattern, number: u8) -> bool
-    ensures { result ≡ true → part.now ≡ Atom (variable_name number) }
+    ensures named { result ≡ true → part.now ≡ Atom (variable_name number) }
+    ensures found { result ≡ is_variable number (variable_in part.now) }
 {
     match &part.shape {
         Shape::Variable(own) => *own == number,
@@ -135,7 +147,8 @@ fn is_variable(part: &Pattern, number: u8) -> bool
 
 // The variable of a guard that compares one with a constant, the orders in which the guard is true, and the constant's code.
 fn comparison<'a>(guard: &'a Expression) -> Option<(u8, Orders, Part<'a>)>
-    ensures { IfSome result (λ c. IsGuardOf guard.entry.now c.0 c.1 (tree_of c.2)) }
+    ensures compares { IfSome result (λ c. IsGuardOf guard.entry.now c.0 c.1 (tree_of c.2)) }
+    ensures found { option_map (λ c. c.0) result ≡ compared guard.entry.now }
 {
     let Form::Two(operator, a, b) = &guard.form else {
         return None;
@@ -152,7 +165,8 @@ fn comparison<'a>(guard: &'a Expression) -> Option<(u8, Orders, Part<'a>)>
 
 // The variable that an expression is.
 fn variable(expression: &Expression) -> Option<u8>
-    ensures { IfSome result (λ number. (number < 100) × (Atom (variable_name number) ≡ expression.now)) }
+    ensures named { IfSome result (λ number. (number < 100) × (Atom (variable_name number) ≡ expression.now)) }
+    ensures found { result ≡ variable_in expression.now }
 {
     match &expression.form {
         Form::Variable(number) => Some(*number),
@@ -162,7 +176,8 @@ fn variable(expression: &Expression) -> Option<u8>
 
 // The code of the constant that an expression is.
 fn constant<'a>(expression: &'a Expression) -> Option<Part<'a>>
-    ensures { IfSome result (λ part. (scene : Scene) → value scene expression.entry.now ≡ Some (tree_of part)) }
+    ensures means { IfSome result (λ part. (scene : Scene) → value scene expression.entry.now ≡ Some (tree_of part)) }
+    ensures found { is_some result ≡ is_constant expression.entry.now }
 {
     match &expression.form {
         Form::Literal(constant) => constant.part(),
@@ -184,7 +199,8 @@ fn turned(orders: Orders) -> Orders
 
 // In which orders a comparison is true, or `None` for other operators.
 fn orders_of(operator: Operator) -> Option<Orders>
-    ensures { IfSome result (λ orders. Compares operator orders) }
+    ensures compares { IfSome result (λ orders. Compares operator orders) }
+    ensures found { is_some result ≡ is_comparison (name_of operator) }
 {
     Some(Orders {
         less: is_so_at(operator, Ordering::Less)?,
@@ -195,7 +211,8 @@ fn orders_of(operator: Operator) -> Option<Orders>
 
 // Whether a comparison is true of two terms of this order, or `None` for other operators.
 fn is_so_at(operator: Operator, order: Ordering) -> Option<bool>
-    ensures { IfSome result (λ so. IsSoAt operator order so) }
+    ensures so { IfSome result (λ so. IsSoAt operator order so) }
+    ensures found { is_some result ≡ is_comparison (name_of operator) }
 {
     match operator {
         Operator::Greater => Some(order.is_gt()),

@@ -15,7 +15,7 @@ invariant_of-result c =
     let held : AreOf c.args.first.now c.head.new.variables =
     none_held c.args.first.now c.none-variables.result c.head.new.variables c.none-variables.ensures c.in_ok-head.ensures.variables in
     record {
-      enough = omega (arith, held.places_are, ap places c.in_ok-head.ensures.ok, c.places.ensures.value);
+      exact = omega (arith, held.places_are, ap places c.in_ok-head.ensures.ok, c.places.ensures.value);
       in_range = c.places.ensures.within;
       front = c.asked_parts-asked.ensures;
     }
