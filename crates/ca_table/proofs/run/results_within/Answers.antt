@@ -17,7 +17,7 @@ collect-collected-requires g c =
     let b = g.S.OrderedStore.knows c.range.new.self in
     let o = range_opens _ _ a b (bound_of c.args.lo) (bound_of c.args.hi) c.wanted.result c.range.result c.done.result c.done.ensures
     c.in_default.not-Err c.range.ensures.opens in
-    record { run = opened_run _ _ a b (bound_of c.args.lo) (bound_of c.args.hi) c.wanted.result o.0 o.1; sieve = c.of-sieve.ensures }
+    record { run = opened_run _ _ a b (bound_of c.args.lo) (bound_of c.args.hi) c.wanted.result o.0 o.1; sieve = c.of-sieve.ensures.stops }
 
 pub returns-in-Ok-clause-within : goal.returns-in-Ok-clause-within
 returns-in-Ok-clause-within g c =
