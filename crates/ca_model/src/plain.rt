@@ -25,6 +25,8 @@ pub struct Plain {
     objects: Slab,
     // the open run, if there is one
     run: Option<Run>,
+    // where the object stands that a walk or a run came to last: the next call mostly goes on there, and looks there before it searches
+    near: usize,
 }
 
 impl Model for Plain {
@@ -54,6 +56,7 @@ impl Plain {
             keypos,
             objects: Slab::new(alloc),
             run: None,
+            near: 0,
         }
     }
 
@@ -196,23 +199,25 @@ impl OrderedStore for Plain {
 
     fn above(&mut self, lo: Edge<'_>, into: &mut Code, budget: u32) -> Outcome<bool> {
         let _budget = budget;
-        let at = start_of(&self.objects, lo);
+        let at = start_of(&self.objects, lo, self.near);
         if at == self.objects.len() {
             into.clear();
             return Outcome::Done(false);
         }
         copy(self.objects.object(at), into);
+        self.near = at;
         Outcome::Done(true)
     }
 
     fn below(&mut self, hi: Edge<'_>, into: &mut Code, budget: u32) -> Outcome<bool> {
         let _budget = budget;
-        let end = end_of(&self.objects, hi);
+        let end = end_of(&self.objects, hi, self.near);
         if end == 0 {
             into.clear();
             return Outcome::Done(false);
         }
         copy(self.objects.object(end - 1), into);
+        self.near = end - 1;
         Outcome::Done(true)
     }
 
@@ -228,8 +233,8 @@ impl OrderedStore for Plain {
         let _budget = budget;
         let _want = want;
         let _counts = counts;
-        let end = end_of(&self.objects, hi);
-        let next = start_of(&self.objects, lo).min(end);
+        let end = end_of(&self.objects, hi, self.near);
+        let next = start_of(&self.objects, lo, self.near).min(end);
         self.run = Some(Run { next, end });
         Outcome::Done(true)
     }
@@ -241,6 +246,7 @@ impl OrderedStore for Plain {
             return false;
         }
         copy(self.objects.object(run.next), into);
+        self.near = run.next;
         self.run = Some(Run {
             next: run.next + 1,
             end: run.end,

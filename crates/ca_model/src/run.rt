@@ -14,40 +14,40 @@ pub(crate) struct Run {
     pub(crate) end: usize,
 }
 
-// How many objects stand before a lower edge.
-pub(crate) fn start_of(objects: &Slab, lo: Edge<'_>) -> usize
+// How many objects stand before a lower edge, whose key may stand at this place.
+pub(crate) fn start_of(objects: &Slab, lo: Edge<'_>, near: usize) -> usize
     requires { (keypos : ℕ) × IsStoreMap keypos objects.now.pairs }
     ensures range { result ≤ length objects.now.pairs }
     ensures start { from (bound_of lo.entry) objects.now.pairs ≡ drop result objects.now.pairs }
 {
     match lo {
         Edge::Open => 0,
-        Edge::At(key) => places(objects, key).0,
-        Edge::Past(key) => places(objects, key).1,
+        Edge::At(key) => places(objects, key, near).0,
+        Edge::Past(key) => places(objects, key, near).1,
     }
 }
 
-// How many objects stand before the end of an upper edge.
-pub(crate) fn end_of(objects: &Slab, hi: Edge<'_>) -> usize
+// How many objects stand before the end of an upper edge, whose key may stand at this place.
+pub(crate) fn end_of(objects: &Slab, hi: Edge<'_>, near: usize) -> usize
     requires { (keypos : ℕ) × IsStoreMap keypos objects.now.pairs }
     ensures range { result ≤ length objects.now.pairs }
     ensures end { up_to (bound_of hi.entry) objects.now.pairs ≡ take result objects.now.pairs }
 {
     match hi {
         Edge::Open => objects.len(),
-        Edge::At(key) => places(objects, key).1,
-        Edge::Past(key) => places(objects, key).0,
+        Edge::At(key) => places(objects, key, near).1,
+        Edge::Past(key) => places(objects, key, near).0,
     }
 }
 
 // How many objects have a less key, and how many have no greater one.
-fn places(objects: &Slab, key: &[u8]) -> (usize, usize)
+fn places(objects: &Slab, key: &[u8], near: usize) -> (usize, usize)
     requires { (keypos : ℕ) × IsStoreMap keypos objects.now.pairs }
     ensures { ArePlaces objects.now.pairs key.now result.0 result.1 }
 {
     // A place behind one that was found is at most this.
     let _count = objects.len();
-    match objects.find(key) {
+    match objects.find_near(key, near) {
         Ok(at) => (at, at + 1),
         Err(at) => (at, at),
     }

@@ -86,11 +86,30 @@ impl Slab {
         self.order[..self.len].binary_search_by(|slot| key_in(rows, *slot).cmp(key))
     }
 
+    // The same, looked for first at a place where it may stand.
+    pub(crate) fn find_near(&self, key: &[u8], near: usize) -> Result<usize, usize>
+        ensures bound { IsSearchInRange result (length self.now.pairs) }
+        ensures position { IsBinarySearchResult (λ p. bytes_cmp p.0 key.now) self.now.pairs result }
+    {
+        if near < self.len() && self.key(near).cmp(key).is_eq() {
+            return Ok(near);
+        }
+        self.find(key)
+    }
+
     // How many objects there are.
     pub(crate) fn len(&self) -> usize
         ensures { result ≡ length self.now.pairs }
     {
         self.len
+    }
+
+    // The key of the object at a place.
+    fn key(&self, at: usize) -> &[u8]
+        requires { at < length self.now.pairs }
+        ensures { result.now ≡ (slice_index_or self.now.pairs at nothing).0 }
+    {
+        self.rows[self.order[at] as usize].key()
     }
 
     // The object at a place.
