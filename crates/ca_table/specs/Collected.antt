@@ -141,6 +141,11 @@ IsNextOf keypos s limit last false next = next ≡ AtEnd
 IsNextOf keypos s limit None true next = ⊥
 IsNextOf keypos s limit (Some o) true next = next ≡ At s limit (key_of keypos o)
 
+-- where a client's batches go on behind a key, or at the end where there is none
+abbrev pub going_on : Tree → ℕ → Option Tree → Continuation
+going_on s limit None = AtEnd
+going_on s limit (Some key) = At s limit key
+
 -- where a client's batches go on, with the code of the key that they stand behind
 abbrev pub IsPlaceOf : Continuation → Place → List ℕ → Type 0
 IsPlaceOf Never place.Nowhere code = Unit {0}

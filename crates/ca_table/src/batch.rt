@@ -1,13 +1,14 @@
 //! Batches of a table over a store.
-ghost use Rattle.std.specs.Prelude.{◌≡◌, ◌≤◌, IfErr, IfOk, IfSome, MatchOption, Some, is_some, true};
-ghost use Rattle.ca_term.specs.Object.{is_object, key_of};
-ghost use Rattle.ca_ets.specs.Command.{IsContinuation, continuation_of, response_of};
+ghost use Rattle.std.specs.Prelude.{◌≡◌, ◌≤◌, ℕ, IfErr, IfOk, IfSome, MatchOption, Some, is_some, true};
+ghost use Rattle.ca_term.specs.Object.{is_object};
+ghost use Rattle.ca_term.specs.Tree.{Tree};
+ghost use Rattle.ca_ets.specs.Command.{At, IsContinuation, continuation_of, response_of};
 ghost use Rattle.ca_ets.specs.declared.command.Cmd.TheVariants.{Batch, More};
 ghost use Rattle.ca_match.specs.Specification.{IsSpecification};
 ghost use Rattle.ca_ets.specs.declared.command.Fault.TheVariants.{BadArg};
 ghost use Rattle.ca_ets.specs.Step.{fault_of_specification, limit_of};
 ghost use Rattle.ca_model.specs.Edges.{IsProperBound, bound_of};
-ghost use Rattle.ca_table.specs.Collected.{HasReadToStop, IsBatch, IsNextOf, IsPlaceOf, IsStopped, reply_of_batch};
+ghost use Rattle.ca_table.specs.Collected.{HasReadToStop, IsBatch, IsNextOf, IsPlaceOf, IsStopped, going_on, reply_of_batch};
 ghost use Rattle.ca_table.specs.ComesTo.{ComesToFrom};
 ghost use Rattle.ca_table.specs.ResultsView.{results_of};
 ghost use Rattle.ca_table.specs.Made.{HasMade, HasRead};
@@ -64,9 +65,12 @@ impl<S: OrderedStore + Drop, W: Follower<S>> Table<S, W> {
         let Some(spec) = compiled else {
             return Ok(Outcome::Done(Reply::Error(Fault::BadArg)));
         };
+        let Ok(source) = try_copy(alloc, spec.source()) else {
+            return Err(AllocError);
+        };
         match self.next_batch(alloc, spec, limit, Edge::Open, budget) {
             Ok((reply, next)) => {
-                *cont = next;
+                *cont = begun(source, limit, next);
                 Ok(Outcome::Done(reply))
             }
             Err(Stop::Refused(refusal)) => Ok(refusal),
@@ -94,7 +98,7 @@ impl<S: OrderedStore + Drop, W: Follower<S>> Table<S, W> {
         };
         match self.next_batch(alloc, spec, limit, Edge::Past(code.as_slice()), budget) {
             Ok((reply, next)) => {
-                *cont = next;
+                go_on(cont, next);
                 Ok(Outcome::Done(reply))
             }
             Err(Stop::Refused(refusal)) => Ok(refusal),
@@ -102,7 +106,8 @@ impl<S: OrderedStore + Drop, W: Follower<S>> Table<S, W> {
         }
     }
 
-    // The batch of the objects within a lower edge, and where the next one goes on. The specification is kept for the client's next batch.
+    // The batch of the objects within a lower edge, and the key that the next one goes on behind, if any. The specification is kept for the client's
+    // next batch.
     fn next_batch(
         &mut self,
         alloc: Global,
@@ -110,7 +115,7 @@ impl<S: OrderedStore + Drop, W: Follower<S>> Table<S, W> {
         limit: u64,
         lo: Edge<'_>,
         budget: u32,
-    ) -> Result<(Reply, Cont), Stop>
+    ) -> Result<(Reply, Option<Term>), Stop>
         requires budget { 1 ≤ budget }
         requires edge { IsProperBound (bound_of lo) }
         requires limit { 1 ≤ limit }
@@ -118,8 +123,8 @@ impl<S: OrderedStore + Drop, W: Follower<S>> Table<S, W> {
         ensures read { IfOk result (λ _. HasRead S.promises self.old self.new) }
         ensures halted { IfErr result (λ stop. HasReadToStop S.promises self.old self.new stop) }
         ensures batch { IfOk result (λ b.
-            IsBatch (S.knows self.old) (S.knows self.new) (bound_of lo.entry) spec limit (response_of b.0) (continuation_of b.1)) }
-        ensures next { IfOk result (λ b. IsContinuation (continuation_of b.1)) }
+            IsBatch (S.knows self.old) (S.knows self.new) (bound_of lo.entry) spec limit (response_of b.0) (going_on spec limit b.1)) }
+        ensures next { IfOk result (λ b. IsContinuation (going_on spec limit b.1)) }
         ensures stopped { IfErr result (λ stop. IsStopped (S.knows self.old) (S.knows self.new) budget stop) }
     {
         let found = self.batch_within(alloc, &spec, limit, lo, budget);
@@ -127,7 +132,7 @@ impl<S: OrderedStore + Drop, W: Follower<S>> Table<S, W> {
         found
     }
 
-    // The batch of the objects within a lower edge.
+    // The batch of the objects within a lower edge, and the key.
     fn batch_within(
         &mut self,
         alloc: Global,
@@ -135,7 +140,7 @@ impl<S: OrderedStore + Drop, W: Follower<S>> Table<S, W> {
         limit: u64,
         lo: Edge<'_>,
         budget: u32,
-    ) -> Result<(Reply, Cont), Stop>
+    ) -> Result<(Reply, Option<Term>), Stop>
         requires budget { 1 ≤ budget }
         requires edge { IsProperBound (bound_of lo) }
         requires limit { 1 ≤ limit }
@@ -143,8 +148,8 @@ impl<S: OrderedStore + Drop, W: Follower<S>> Table<S, W> {
         ensures read { IfOk result (λ _. HasRead S.promises self.old self.new) }
         ensures halted { IfErr result (λ stop. HasReadToStop S.promises self.old self.new stop) }
         ensures batch { IfOk result (λ b.
-            IsBatch (S.knows self.old) (S.knows self.new) (bound_of lo.entry) spec.now limit (response_of b.0) (continuation_of b.1)) }
-        ensures next { IfOk result (λ b. IsContinuation (continuation_of b.1)) }
+            IsBatch (S.knows self.old) (S.knows self.new) (bound_of lo.entry) spec.now limit (response_of b.0) (going_on spec.now limit b.1)) }
+        ensures next { IfOk result (λ b. IsContinuation (going_on spec.now limit b.1)) }
         ensures stopped { IfErr result (λ stop. IsStopped (S.knows self.old) (S.knows self.new) budget stop) }
     {
         let keypos = self.keypos();
@@ -153,7 +158,7 @@ impl<S: OrderedStore + Drop, W: Follower<S>> Table<S, W> {
             Err(stop) => return Err(stop),
         };
         let full = is_full(Some(limit), found.results.len());
-        let Ok(next) = next_of(alloc, spec, limit, keypos, found.last, full) else {
+        let Ok(next) = next_of(alloc, keypos, found.last, full) else {
             return Err(Stop::NoMemory);
         };
         Ok((reply_of(found.results, full), next))
@@ -226,45 +231,46 @@ fn reply_of(results: Results, full: bool) -> Reply
     }
 }
 
-// Where the next batch goes on: behind the last object with a result where there are as many as were wanted.
+// The key that the next batch goes on behind, where there are as many results as were wanted: that of the last object with one.
 fn next_of(
     alloc: Global,
-    spec: &Spec,
-    limit: u64,
     keypos: u32,
     last: Option<Object>,
     full: bool,
-) -> Result<Cont, AllocError>
+) -> Result<Option<Term>, AllocError>
     requires keypos { 1 ≤ keypos }
     requires last { full ≡ true → is_some last ≡ true }
     requires object { IfSome last (λ o. is_object keypos o ≡ true) }
-    ensures { IfOk result (λ next. IsNextOf keypos spec.now limit last full (continuation_of next)) }
+    ensures { IfOk result (λ next. (spec : Tree) (limit : ℕ) → IsNextOf keypos spec limit last full (going_on spec limit next)) }
 {
     if !full {
-        return Ok(Cont::AtEnd);
+        return Ok(None);
     }
     let Some(object) = last else { unreachable!() };
-    let Ok(object) = object.term(alloc) else {
-        return Err(AllocError);
-    };
-    let (Ok(spec), Ok(key)) = (
-        try_copy(alloc, spec.source()),
-        try_copy(alloc, key(&object, keypos)),
-    ) else {
-        return Err(AllocError);
-    };
-    Ok(Cont::At { spec, limit, key })
+    let key = object.key(alloc, keypos)?;
+    Ok(Some(key))
 }
 
-// An object's key.
-#[tactic(auto, using(ca_term::proofs::Rows::elements_are, ca_term::proofs::Rows::size_row))]
-fn key(object: &Term, keypos: u32) -> &Term
-    requires keypos { 1 ≤ keypos }
-    requires object { is_object keypos object.now ≡ true }
-    ensures { result.now ≡ key_of keypos object.now }
+// Where the batches of a client who began them go on.
+fn begun(spec: Term, limit: u64, next: Option<Term>) -> Cont
+    ensures { continuation_of result ≡ going_on spec limit next }
 {
-    let Kind::Tuple(items) = object.kind() else {
-        unreachable!()
-    };
-    &items[keypos as usize - 1]
+    match next {
+        Some(key) => Cont::At { spec, limit, key },
+        None => Cont::AtEnd,
+    }
+}
+
+// Lets a client's batches go on behind this key, or at the end. What they are of isn't touched.
+fn go_on(cont: &mut Cont, next: Option<Term>)
+    ensures { (spec : Tree) (limit : ℕ) (key : Tree) → continuation_of cont.old ≡ At spec limit key → continuation_of cont.new ≡ going_on spec limit next }
+{
+    match next {
+        Some(next) => {
+            if let Cont::At { key, .. } = cont {
+                *key = next;
+            }
+        }
+        None => *cont = Cont::AtEnd,
+    }
 }

@@ -2,7 +2,7 @@
 ghost use Rattle.ca_order.specs.Languages.{IsTermCode};
 ghost use Rattle.ca_order.specs.Codes.{IsTermCode-prop};
 
-use crate::listing::term_of;
+use crate::codes::key_of;
 use ca_model::Code;
 use ca_term::Term;
 use std::alloc::{AllocError, Global};
@@ -27,8 +27,9 @@ impl Model for Object {
 }
 
 impl Object {
-    ghost use Rattle.std.specs.Prelude.{◌≡◌, IfOk};
+    ghost use Rattle.std.specs.Prelude.{◌≡◌, ◌≤◌, IfOk, true};
     ghost use Rattle.ca_term.specs.Code.{code_of};
+    ghost use Rattle.ca_term.specs.Object.{is_object, key_of};
     ghost use Rattle.ca_term.specs.Tree.{IsTerm, Tree};
 
     // The object of this code.
@@ -45,11 +46,12 @@ impl Object {
         Object { code: copy }
     }
 
-    // Its term.
-    pub(crate) fn term(&self, alloc: Global) -> Result<Term, AllocError>
-        ensures { IfOk result (λ term. term ≡ self.now) }
+    // Its key. Only the key's part of the code is read as a term.
+    pub(crate) fn key(&self, alloc: Global, keypos: u32) -> Result<Term, AllocError>
+        requires keypos { 1 ≤ keypos }
+        requires object { is_object keypos self.now ≡ true }
+        ensures { IfOk result (λ key. key ≡ key_of keypos self.now) }
     {
-        let term = term_of(alloc, self.code.as_slice())?;
-        Ok(term)
+        key_of(alloc, &self.code, keypos)
     }
 }
