@@ -1,15 +1,22 @@
-//! What is told of the calls of a store on the tree that ask a function.
+//! What is told of a store on the tree: of its calls that ask a function, and whether it is held up.
 ghost use Rattle.ca_client.specs.Following.{asked_on_tree};
 
 use ca_model::{Changed, Code, OrderedStore, Outcome};
 use ca_replace::TreeStore;
 use ca_table::Follower;
 
+// Behind how many kept rows a store on the tree is held up. A call that edits leaves 64 at most, unless another pass lags.
+const MANY_ROWS: u32 = 256;
+
 // It is told all that such a store promises of them, which doesn't speak of the function.
 pub(crate) struct OnTree;
 
 impl<'t> Follower<TreeStore<'t>> for OnTree {
     ghost asked = { asked_on_tree };
+
+    fn is_held_up(store: &TreeStore<'t>) -> bool {
+        store.kept() > MANY_ROWS
+    }
 
     fn remove_if<F: Fn(&[u8]) -> bool>(
         store: &mut TreeStore<'t>,

@@ -63,6 +63,21 @@ fn rest(answer: &Answer, refused: u32) -> u32 {
     }
 }
 
+// What is done behind each line: where the store keeps many rows since the pass of another client lags, as the system has stopped its thread, other threads
+// are let run, the longer the more lines in a row that was so; how many lines that are now. Else clients that go on would take all rows meanwhile, and keep
+// them when that pass has gone on, until their own threads run again.
+fn let_others_go_on<S: OrderedStore + Drop, W: Follower<S>>(
+    table: &Table<S, W>,
+    held_up: u32,
+) -> u32 {
+    if !table.is_held_up() {
+        return 0;
+    }
+    let held_up = held_up.saturating_add(1);
+    pause(held_up);
+    held_up
+}
+
 // Plays one command until it is answered.
 fn answer_to<R: Wait, S: OrderedStore + Drop, W: Follower<S>>(
     rt: &R,
@@ -104,9 +119,9 @@ fn answer_to<R: Wait, S: OrderedStore + Drop, W: Follower<S>>(
 
 /// Plays the lines of a client, in order, as the client of this number, counted from 1: each has one answer, and the gate is told of each before it is
 /// played and behind it. A line that is busy is played again with twice the budget, from 64 up to 2^31, until it is answered; one that finds no room
-/// while another pass lags waits and is played again, 1,000 times at most. Behind a line that found no room other threads are let run. Each command is made
-/// from the text of its line when it is played, and an answer is text as soon as it was given. `Err` where memory wasn't found; what was played before
-/// stands.
+/// while another pass lags waits and is played again, 1,000 times at most. Behind a line that found no room, or that leaves the store held up by others,
+/// other threads are let run. Each command is made from the text of its line when it is played, and an answer is text as soon as it was given. `Err` where
+/// memory wasn't found; what was played before stands.
 pub fn play<R: Wait, S: OrderedStore + Drop, W: Follower<S>, G: Gate>(
     rt: &R,
     alloc: Global,
@@ -121,12 +136,14 @@ pub fn play<R: Wait, S: OrderedStore + Drop, W: Follower<S>, G: Gate>(
     let mut cont = Cont::Never;
     let mut answers = Answers::new(alloc);
     let mut refused = 0_u32;
+    let mut held_up = 0_u32;
     for at in 0..lines.len() {
         let line = lines.line(alloc, at)?;
         gate.before(client, line.number);
         let answer = answer_to(rt, alloc, table, &line.cmd, &mut cont)?;
         gate.after(client, line.number, &answer);
         refused = rest(&answer, refused);
+        held_up = let_others_go_on(table, held_up);
         answers.add(line.number, &answer)?;
     }
     Ok(answers)

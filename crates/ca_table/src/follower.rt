@@ -1,4 +1,4 @@
-//! What whoever owns a table wants to be told of the calls of its store that ask a function.
+//! What whoever owns a table wants to be told of its store: of the calls that ask a function, and whether it is held up.
 ghost use Rattle.std.specs.Prelude.{◌≡◌, ℕ, ◌≤◌, [], None, length};
 ghost use Rattle.ca_term.specs.declared.bounds.TheConstants.{MOST_CODE_BYTES};
 ghost use Rattle.ca_model.specs.declared.outcome.Changed.{Changed};
@@ -15,6 +15,9 @@ use ca_model::{Changed, Code, OrderedStore, Outcome};
 pub trait Follower<S: OrderedStore> {
     /// Of a call with this budget: the store before it and behind it, and what it came to.
     ghost asked: { ℕ → S → S → Outcome Changed → Type 0 };
+
+    /// Whether the store keeps much that it can give back only behind others, so that they should go on before its next call.
+    fn is_held_up(store: &S) -> bool;
 
     /// The store's `remove_if`.
     fn remove_if<F: Fn(&[u8]) -> bool>(
@@ -55,12 +58,16 @@ pub trait Follower<S: OrderedStore> {
         ensures asked { asked budget store.old store.new result };
 }
 
-/// Nobody follows the store: nothing is told beyond the trait.
+/// Nobody follows the store: nothing is told beyond the trait, and the store is never held up.
 #[derive(Clone, Copy, Debug)]
 pub struct Unfollowed;
 
 impl<S: OrderedStore> Follower<S> for Unfollowed {
     ghost asked = { λ budget s t outcome. Unit {0} };
+
+    fn is_held_up(_store: &S) -> bool {
+        false
+    }
 
     fn remove_if<F: Fn(&[u8]) -> bool>(
         store: &mut S,

@@ -97,6 +97,11 @@ impl<S: OrderedStore + Drop, W: Follower<S>> Table<S, W> {
         self.store
     }
 
+    /// Whether the store is held up by others, as its follower tells.
+    pub fn is_held_up(&self) -> bool {
+        W::is_held_up(&self.store)
+    }
+
     /// Does this to the store, and answers whether doing it again may come to more.
     pub fn tend<U: Upkeep<S>>(&mut self, upkeep: &U) -> bool
         ensures { S.knows self.new ≡ S.knows self.old }
