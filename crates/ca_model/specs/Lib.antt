@@ -5,11 +5,13 @@ pub mod Function
 pub mod History
 pub mod Known
 pub mod Lawful
+pub mod NearView
 pub mod Passes
 pub mod Places
 pub mod PlainView
 pub mod Promises
 pub mod RowView
+pub mod RowsView
 pub mod RunView
 pub mod Runs
 pub mod Slab

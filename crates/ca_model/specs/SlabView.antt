@@ -24,7 +24,7 @@ pub record AreSlots (rows : List Pair) (order : List ℕ) (len : ℕ) : Type 0 w
   pub slots : (slot : ℕ) → length rows ≤ slot → times slot order ≡ 0
 
 abbrev pub list_of : Inside → PairList
-list_of slab = list_in slab.rows.items slab.order.items slab.len
+list_of slab = list_in slab.rows slab.order.items slab.len
 
 abbrev pub IsKept : Inside → Type 0
-IsKept slab = AreSlots slab.rows.items slab.order.items slab.len
+IsKept slab = AreSlots slab.rows slab.order.items slab.len

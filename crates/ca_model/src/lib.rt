@@ -3,9 +3,11 @@
 
 mod edge;
 mod laws;
+mod near;
 mod outcome;
 mod plain;
 mod row;
+mod rows;
 mod run;
 mod slab;
 mod store;

@@ -6,7 +6,7 @@ ghost use Rattle.ca_term.specs.declared.bounds.TheConstants.{MOST_CODE_BYTES};
 ghost use Rattle.ca_model.specs.StoreMap.{Pair, bytes_cmp};
 ghost use Rattle.ca_model.specs.Slab.{nothing, placed, count_placed, with_moved, with_freed};
 
-use crate::row::Row;
+use crate::rows::Rows;
 use std::alloc::{AllocError, Global};
 use std::marker::Model;
 
@@ -14,7 +14,7 @@ use std::marker::Model;
 // those of the free slots. Contracts see the list of the pairs, and for how many more there is room.
 #[derive(Drop)]
 pub(crate) struct Slab {
-    rows: Vec<Row>,
+    rows: Rows,
     order: Vec<u32>,
     len: usize,
 }
@@ -41,7 +41,7 @@ impl Slab {
         ensures spare { result.spare ≡ 0 }
     {
         Slab {
-            rows: Vec::new(alloc),
+            rows: Rows::new(alloc),
             order: Vec::new(alloc),
             len: 0,
         }
@@ -70,9 +70,8 @@ impl Slab {
         let Ok(slot) = u32::try_from(self.rows.len()) else {
             return Err(AllocError);
         };
-        self.rows.reserve(1)?;
         self.order.reserve(1)?;
-        self.rows.push_reserved(Row::new());
+        self.rows.add()?;
         self.order.push_reserved(slot);
         Ok(())
     }
@@ -82,8 +81,8 @@ impl Slab {
         ensures bound { IsSearchInRange result (length self.now.pairs) }
         ensures position { IsBinarySearchResult (λ p. bytes_cmp p.0 key.now) self.now.pairs result }
     {
-        let rows = self.rows.as_slice();
-        self.order[..self.len].binary_search_by(|slot| key_in(rows, *slot).cmp(key))
+        let rows = &self.rows;
+        self.order[..self.len].binary_search_by(|slot| rows.key(*slot as usize).cmp(key))
     }
 
     // The same, looked for first at a place where it may stand.
@@ -109,7 +108,7 @@ impl Slab {
         requires { at < length self.now.pairs }
         ensures { result.now ≡ (slice_index_or self.now.pairs at nothing).0 }
     {
-        self.rows[self.order[at] as usize].key()
+        self.rows.key(self.order[at] as usize)
     }
 
     // The object at a place.
@@ -117,7 +116,7 @@ impl Slab {
         requires { at < length self.now.pairs }
         ensures { result.now ≡ (slice_index_or self.now.pairs at nothing).1 }
     {
-        self.rows[self.order[at] as usize].object()
+        self.rows.object(self.order[at] as usize)
     }
 
     // Puts an object at a place: in that of another one, or between two where there is room.
@@ -138,11 +137,11 @@ impl Slab {
         match place {
             Ok(at) => {
                 let slot = self.order[at] as usize;
-                set_row(&mut self.rows, slot, object, key_at, key_end);
+                self.rows.set(slot, object, key_at, key_end);
             }
             Err(at) => {
                 let slot = self.order[self.len] as usize;
-                set_row(&mut self.rows, slot, object, key_at, key_end);
+                self.rows.set(slot, object, key_at, key_end);
                 take_free(self.order.as_mut_slice(), self.len, at);
                 self.len += 1;
             }
@@ -158,26 +157,6 @@ impl Slab {
         set_free(self.order.as_mut_slice(), self.len, at);
         self.len -= 1;
     }
-}
-
-// The key in a slot.
-fn key_in(rows: &[Row], slot: u32) -> &[u8]
-    ensures { result.now ≡ (slice_index_or rows.now slot nothing).0 }
-{
-    match rows.get(slot as usize) {
-        Some(row) => row.key(),
-        None => &[],
-    }
-}
-
-// Puts an object into a slot.
-fn set_row(rows: &mut Vec<Row>, slot: usize, object: &[u8], key_at: usize, key_end: usize)
-    requires range { slot < length rows.old.items }
-    requires key { (key_at ≤ key_end) × (key_end ≤ length object.now) }
-    requires short { length object.now ≤ MOST_CODE_BYTES }
-    ensures { rows.new.items ≡ slice_set rows.old.items slot (slice_range object.now key_at key_end, object.now) }
-{
-    rows[slot].set(object, key_at, key_end);
 }
 
 // Moves the number behind the first `len` ones to a place among them.
