@@ -4,8 +4,8 @@ ghost use Rattle.ca_model.specs.NearView.{near_of};
 
 use std::marker::Model;
 
-// An object of at most so many bytes is short; with its numbers it has 64 bytes.
-pub(crate) const SHORT: usize = 58;
+// An object of at most so many bytes is short; with its numbers it has 128 bytes.
+pub(crate) const SHORT: usize = 122;
 
 // A short object's code, and where its key's code stands in it; or nothing. Contracts see a pair of the key and the object.
 #[derive(Drop)]
