@@ -1,5 +1,6 @@
 -- What follows an update: how its base's statistic moved, and what was done about the new base.
 use Rattle.std.specs.Prelude.{◌≡◌, ◌≢◌, ◌⊎◌, ℕ, ◌+◌, ◌<◌, ◌≤◌, Bool, true, false, ℤ, List, length, slice_index, Result, Ok, Err}
+use Rattle.ca_base.specs.Readiness.{IsReady}
 use Rattle.ca_base.specs.declared.stop.Exchange.TheVariants as exchange
 use Rattle.ca_base.specs.declared.stop.Stop.{Stop}
 use Rattle.ca_base.specs.declared.stop.Stop.TheVariants as stop
@@ -21,13 +22,22 @@ use Rattle.ca_node.specs.declared.link.Link.{Link}
 use Rattle.ca_node.specs.Links.{IsIn}
 use Rattle.ca_node.specs.Place.{HasKey, Place}
 use Rattle.ca_node.specs.Row.{IsUnmarked}
-use Rattle.ca_node.specs.Told.{MyTree, link_word}
-use Rattle.ca_node.specs.TreeView.{Note, Renewal, Tries, TreeView}
+use Rattle.ca_node.specs.Told.{IsKnown, MyTree, link_word}
+use Rattle.ca_node.specs.TreeView.{Note, Quiet, Renewal, Tries, TreeView}
 use Rattle.ca_replace.specs.declared.adapting.Adapting.{Adapting}
 use Rattle.ca_replace.specs.declared.adapting.Last.{Last}
 use Rattle.ca_rows.specs.declared.sizes.Sizes.{Sizes}
+use Rattle.ca_rows.specs.declared.space.Pass.{Pass}
+use Rattle.ca_rows.specs.declared.space.Space.{Space}
 use Rattle.ca_rows.specs.declared.view.Met.{Met}
 use Rattle.ca_rows.specs.Told.{met_of}
+
+module _ {R : Type 0} where
+  -- The pass is pinned, holds no row, and has no range and no attempt to join, of a history that is known: it may do what is due behind its update.
+  pub record MayAdapt (space : Space R TreeView) (pass : Pass R TreeView) : Type 0 where
+    pub ready : IsReady space pass
+    pub known : IsKnown space.table.shared.key pass.seat.me.0.upper
+    pub quiet : pass.seat.me.0.upper.ranges.own ≡ Quiet
 
 -- Of a base with this word for its statistic, an update makes one with this statistic: it depends on whether the call lost an exchange of a link.
 abbrev pub IsMoved : Tuning → ℕ → Bool → ℤ → Type 0

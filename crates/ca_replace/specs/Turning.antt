@@ -1,13 +1,17 @@
 -- What a call's attempts come to, beside the event that is entered in the log: one of them, and all until one isn't followed by another.
-use Rattle.std.specs.Prelude.{ℕ, ◌+◌, min, Bool, true, List, None, Result, Ok, Err}
+use Rattle.std.specs.Prelude.{◌≡◌, ◌≢◌, ℕ, ◌+◌, min, Bool, true, List, None, Some, Result, Ok, Err, OnOk}
 use Rattle.std.specs.declared.option.Option.{Option}
-use Rattle.ca_base.specs.Readiness.{StaysReady}
+use Rattle.ca_base.specs.Putting.{object_at}
+use Rattle.ca_base.specs.Readiness.{StaysReady, shown_last}
+use Rattle.ca_base.specs.Targets.{event_of, key_in}
+use Rattle.ca_base.specs.declared.target.Insertion.{Insertion}
+use Rattle.ca_base.specs.declared.target.Removal.{Removal}
 use Rattle.ca_base.specs.declared.stop.Stop.{Stop}
 use Rattle.ca_base.specs.declared.stop.Stop.TheVariants as stop
 use Rattle.ca_model.specs.declared.outcome.Spent.{Spent}
 use Rattle.ca_range.specs.declared.helped.Helped.{Helped}
 use Rattle.ca_range.specs.declared.helped.Helped.TheVariants as helped
-use Rattle.ca_model.specs.Event.{Event}
+use Rattle.ca_model.specs.Event.{Event, Remove}
 use Rattle.ca_replace.specs.declared.attempting.Halt.{Halt}
 use Rattle.ca_replace.specs.declared.attempting.Halt.TheVariants as halt
 use Rattle.ca_replace.specs.declared.adapting.Adapting.{Adapting}
@@ -18,6 +22,7 @@ use Rattle.ca_node.specs.TreeView.{TreeView}
 use Rattle.ca_replace.specs.declared.adapting.Course.{Course}
 use Rattle.ca_replace.specs.Adapting.{HasGoneOn, IsCauseMetInAttempts, noted}
 use Rattle.ca_replace.specs.Attempting.{HasStopped, HasTriedTo, IsPaidTo, StaysAt}
+use Rattle.ca_replace.specs.Causes.{IsFullSince}
 use Rattle.ca_replace.specs.Crowding.{Crowds}
 use Rattle.ca_replace.specs.Cutting.{HasCut, HasCutInAttempts}
 use Rattle.ca_replace.specs.Growing.{HasGrown, HasGrownInAttempts}
@@ -73,6 +78,22 @@ module _ {R : Type 0} where
     pub stays : StaysAt space.table.shared.key key r pass.seat.me.0.upper new.seat.me.0.upper b.again marked
     pub crowds : Crowds space r pass new
     pub turn : IsTurn (λ _. true) adds space.table.shared.key t 0 a b (met_of new.seat.me) r pass.seat.me new.seat.me
+
+  -- So it is where an object was to be put into that base, and where one was to be removed from it.
+  abbrev pub HasPut : Space R TreeView → Tuning → Insertion → Bool → Course → Course → Result (Unit {0}) Halt → Pass R TreeView → Pass R TreeView → Type 0
+  HasPut space t insertion marked a b r pass new = HasEdited space t (λ event. event ≡ event_of insertion (shown_last pass).objects)
+      (key_in insertion.keyed) (Some (key_in insertion.keyed)) marked a b r pass new
+
+  abbrev pub HasRemoved : Space R TreeView → Tuning → Removal → Bool → Course → Course → Result (Unit {0}) Halt → Pass R TreeView → Pass R TreeView → Type 0
+  HasRemoved space t removal marked a b r pass new = HasEdited space t
+      (λ event. event ≡ Remove removal.key.now (Some (object_at (Ok removal.at) (shown_last pass).objects))) removal.key.now None marked a b r pass new
+
+-- A put comes to nothing for want of room so: one in the place of an object neither stops at the last level nor splits a base; and where one of a new key stops
+-- there, the base is full.
+pub record LacksRoom (z : Sizes) (key : List ℕ) (place : Result ℕ ℕ) (r : Result (Unit {0}) Halt) (v : TreeView) : Type 0 where
+  pub deep : OnOk place (r ≢ Err halt.Deep)
+  pub no_split : OnOk place (r ≢ Err halt.Split)
+  pub full : r ≡ Err halt.Deep → IsFullSince z (Some key) v
 
 -- what is handed on behind the split of a full base: a turn where it was split, and that an exchange of a link was lost where that was
 abbrev pub course_after : {T : Type 0} → Result T Stop → Course → Course

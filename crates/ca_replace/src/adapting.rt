@@ -5,8 +5,8 @@ ghost use Rattle.ca_base.specs.Finding.{IsReadable};
 ghost use Rattle.ca_base.specs.Progress.{IsFurther};
 ghost use Rattle.ca_node.specs.Told.{IsKnown};
 ghost use Rattle.ca_node.specs.States.{IsAlone};
-ghost use Rattle.ca_node.specs.TreeView.{Note, Quiet};
-ghost use Rattle.ca_replace.specs.Adapting.{HasAdapted, HasLookedAgain, HasLookedToJoin, HasSettled, IsCauseMet, IsMoved, IsNew, noted};
+ghost use Rattle.ca_node.specs.TreeView.{Note};
+ghost use Rattle.ca_replace.specs.Adapting.{HasAdapted, HasLookedAgain, HasLookedToJoin, HasSettled, IsCauseMet, IsMoved, IsNew, noted, MayAdapt};
 ghost use Rattle.ca_replace.specs.Growing.{Grows};
 ghost use Rattle.ca_replace.specs.Cutting.{HasCutDue};
 ghost use Rattle.ca_replace.specs.declared.attempting.Halt.TheVariants.{Deep as IsDeep};
@@ -80,9 +80,7 @@ pub(crate) fn settle(
     tried: Result<(), Stop>,
     course: &mut Course,
 ) -> Result<(), Halt>
-    requires ready { IsReady tree.now.space pass.old }
-    requires known { IsKnown (sizes tree.now.space) (tree_of pass.old) }
-    requires quiet { (tree_of pass.old).ranges.own ≡ Quiet }
+    requires may { MayAdapt tree.now.space pass.old }
     requires placed { IsOk tried → IsNew placed.now.row placed.now.key.now (met_of (known pass.old)) (tree_of pass.old) }
     ensures frame { StaysReady tree.now.space pass.old pass.new }
     ensures come { result ≡ come_to tried }
@@ -125,9 +123,7 @@ fn adapt(
     statistic: i32,
     spent: &mut Spent,
 ) -> Adapted
-    requires ready { IsReady tree.now.space pass.old }
-    requires known { IsKnown (sizes tree.now.space) (tree_of pass.old) }
-    requires quiet { (tree_of pass.old).ranges.own ≡ Quiet }
+    requires may { MayAdapt tree.now.space pass.old }
     requires placed { IsNew placed.now.row placed.now.key.now (met_of (known pass.old)) (tree_of pass.old) }
     ensures frame { StaysReady tree.now.space pass.old pass.new }
     ensures further { IsFurther (tree_of pass.old) (tree_of pass.new) × IsKnown (sizes tree.now.space) (tree_of pass.new) }
@@ -172,8 +168,7 @@ fn split_again(tree: &Tree, pass: &mut TreePass, placed: &NewBase<'_>, spent: &m
 
 // Walks to the key anew, and tries to join the base that it comes to with its sibling, where that base is the one which was just put in place.
 fn join_again(tree: &Tree, pass: &mut TreePass, placed: &NewBase<'_>, spent: &mut Spent) -> Adapted
-    requires ready { IsReady tree.now.space pass.old }
-    requires quiet { (tree_of pass.old).ranges.own ≡ Quiet }
+    requires may { MayAdapt tree.now.space pass.old }
     requires placed { IsNew placed.now.row placed.now.key.now (met_of (known pass.old)) (tree_of pass.old) }
     ensures frame { StaysReady tree.now.space pass.old pass.new }
     ensures further { IsFurther (tree_of pass.old) (tree_of pass.new) × IsKnown (sizes tree.now.space) (tree_of pass.new) }

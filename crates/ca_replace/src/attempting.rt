@@ -1,28 +1,25 @@
 //! Attempts of a call that edits.
-ghost use Rattle.std.specs.Prelude.{◌≡◌, ◌≢◌, ◌<◌, ◌≤◌, ◌↔◌, ℕ, Bool, Err, IfErr, List, None, Ok, OnOk, Some, [], false, length, map, true, IsTrue, ◌+◌};
+ghost use Rattle.std.specs.Prelude.{◌≡◌, ◌≢◌, ◌<◌, ◌≤◌, ◌↔◌, ℕ, Bool, Err, IfErr, List, None, Ok, Some, false, length, map, true, IsTrue, ◌+◌};
 ghost use Rattle.std.specs.declared.option.Option.{Option};
 ghost use Rattle.ca_model.specs.Places.{IsPlace};
-ghost use Rattle.ca_model.specs.Event.{Event, Remove};
+ghost use Rattle.ca_model.specs.Event.{Event};
 ghost use Rattle.ca_node.specs.Row.{pair};
-ghost use Rattle.ca_replace.specs.declared.attempting.Halt.TheVariants.{Deep as IsDeep, Split as IsSplit};
+ghost use Rattle.ca_replace.specs.declared.attempting.Halt.TheVariants.{Deep as IsDeep};
 ghost use Rattle.ca_replace.specs.Causes.{IsFullSince};
 ghost use Rattle.ca_replace.specs.Crowding.{Crowds, HasFewAlone};
 ghost use Rattle.ca_replace.specs.Cutting.{IsFullFor};
-ghost use Rattle.ca_replace.specs.Attempting.{BeginsAt, IsAsking, IsIdle, IsLooking, HasFetched, HasTriedSince, HasTriedTo, StaysAt, StaysFor, split_to};
-ghost use Rattle.ca_node.specs.Told.{IsKnown, IsSettled};
+ghost use Rattle.ca_replace.specs.Attempting.{BeginsAt, IsLooking, HasFetched, HasTriedSince, StaysFor, split_to};
 ghost use Rattle.ca_node.specs.Walking.{IsWalked};
 ghost use Rattle.ca_node.specs.declared.cursor.Spot.TheVariants.{At as IsAt};
-ghost use Rattle.ca_node.specs.States.{IsAlone, IsUnanswered};
-ghost use Rattle.ca_base.specs.Progress.{IsFurther};
-ghost use Rattle.ca_base.specs.Putting.{object_at, IsRoom, IsFor};
-ghost use Rattle.ca_base.specs.Targets.{IsKeyed, event_of, key_in};
+ghost use Rattle.ca_base.specs.Putting.{IsRoom, IsFor};
+ghost use Rattle.ca_base.specs.Targets.{IsKeyed, key_in};
 ghost use Rattle.ca_rows.specs.declared.sizes.Sizes.{Sizes};
-ghost use Rattle.ca_replace.specs.Looking.{HasLooked};
-ghost use Rattle.ca_replace.specs.Turning.{HasEdited, TakesTurn, course_after, course_helped, helped_to, paid};
+ghost use Rattle.ca_replace.specs.Looking.{HasFound, MayEdit, MayExchange};
+ghost use Rattle.ca_replace.specs.Turning.{TakesTurn, course_after, course_helped, helped_to, paid, HasPut, HasRemoved, LacksRoom, HasEdited};
 ghost use Rattle.ca_rows.specs.Passes.{IsReading, KeepsList, sizes, known};
 ghost use Rattle.ca_node.specs.TreePasses.{tree_of};
-ghost use Rattle.ca_node.specs.TreeView.{Quiet};
-ghost use Rattle.ca_base.specs.Readiness.{IsReady, StaysReady, shown_last};
+ghost use Rattle.ca_base.specs.Readiness.{StaysReady, shown_last};
+ghost use Rattle.ca_replace.specs.Between.{MayBegin};
 
 use crate::adapting::{Course, NewBase, next_statistic, note_stop, settle};
 use crate::giving::{add, spent_in_all};
@@ -83,12 +80,8 @@ pub(crate) trait Attempt {
         room: &mut Self::Room,
         course: &mut Course,
     ) -> Result<Self::Answer, Halt>
-        requires ready { IsReady tree.now.space pass.old }
         requires may { may self.now (sizes tree.now.space) }
-        requires known { IsKnown (sizes tree.now.space) (tree_of pass.old) }
-        requires asking { IsAsking (tree_of pass.old) }
-        requires idle { IsIdle false pass.old }
-        requires begins { BeginsAt (sizes tree.now.space) (about self.now) (tree_of pass.old) course.old.again }
+        requires begins { MayBegin tree.now.space (about self.now) course.old.again false pass.old }
         ensures frame { StaysReady tree.now.space pass.old pass.new }
         ensures tried { HasTriedSince (λ answer. tells self.now answer left.new) (sizes tree.now.space) result (tree_of pass.old) (tree_of pass.new) }
         ensures stays { StaysFor tree.now.space (about self.now) result pass.old pass.new course.new }
@@ -106,13 +99,9 @@ pub(crate) fn find(
     key: &[u8],
     again: Option<Cursor>,
 ) -> (Cursor, Result<u32, u32>)
-    requires reading { IsReading space.now pass.old }
     requires leaf { (sizes space.now).leaf ≤ 120 }
-    requires unanswered { IsUnanswered (tree_of pass.old) }
-    requires begins { BeginsAt (sizes space.now) key.now (tree_of pass.old) again }
-    ensures looked { HasLooked space.now key.now result.0 result.1 pass.old pass.new }
-    ensures loads { (tree_of pass.new).loads ≤ (tree_of pass.old).loads + ((sizes space.now).levels + 1) }
-    ensures met { (tree_of pass.new).ranges.unfinished ≡ (tree_of pass.old).ranges.unfinished }
+    requires begins { MayBegin space.now key.now again false pass.old }
+    ensures found { HasFound space.now key.now result.0 result.1 pass.old pass.new }
 {
     let cursor = walk_again(space, pass, key, again);
     let place = search(space, pass, cursor.base, key);
@@ -141,13 +130,9 @@ pub(crate) fn fetch(
     again: Option<Cursor>,
     old: &mut Code,
 ) -> (Cursor, Result<u32, u32>)
-    requires reading { IsReading space.now pass.old }
     requires leaf { (sizes space.now).leaf ≤ 120 }
-    requires unanswered { IsUnanswered (tree_of pass.old) }
-    requires begins { BeginsAt (sizes space.now) key.now (tree_of pass.old) again }
-    ensures looked { HasLooked space.now key.now result.0 result.1 pass.old pass.new }
-    ensures loads { (tree_of pass.new).loads ≤ (tree_of pass.old).loads + ((sizes space.now).levels + 1) }
-    ensures met { (tree_of pass.new).ranges.unfinished ≡ (tree_of pass.old).ranges.unfinished }
+    requires begins { MayBegin space.now key.now again false pass.old }
+    ensures found { HasFound space.now key.now result.0 result.1 pass.old pass.new }
     ensures fetched { HasFetched (sizes space.now) (tree_of pass.new) key.now result.1 old.new.items }
 {
     let (cursor, place) = find(space, pass, key, again);
@@ -168,18 +153,12 @@ pub(crate) fn put_there(
     insertion: &Insertion<'_>,
     course: &mut Course,
 ) -> Result<(), Halt>
-    requires ready { IsReady tree.now.space pass.old }
-    requires looking { IsLooking (sizes tree.now.space) (tree_of pass.old) (key_in insertion.now.keyed) cursor }
-    requires unanswered { IsUnanswered (tree_of pass.old) }
-    requires idle { IsIdle false pass.old }
+    requires may { MayEdit tree.now.space (key_in insertion.now.keyed) cursor pass.old }
     requires keyed { IsKeyed (sizes tree.now.space).keypos insertion.now.keyed }
     requires place { IsPlace (map pair (shown_last pass.old).objects) (key_in insertion.now.keyed) insertion.now.place }
     requires call { IsFor insertion.now.why insertion.now.place }
-    ensures edited { HasEdited tree.now.space tree.now.tuning (λ event. event ≡ event_of insertion.now (shown_last pass.old).objects)
-        (key_in insertion.now.keyed) (Some (key_in insertion.now.keyed)) course.new.marked course.old course.new result pass.old pass.new }
-    ensures deep { OnOk insertion.now.place (result ≢ Err IsDeep) }
-    ensures no_split { OnOk insertion.now.place (result ≢ Err IsSplit) }
-    ensures full { result ≡ Err IsDeep → IsFullSince (sizes tree.now.space) (Some (key_in insertion.now.keyed)) (tree_of pass.new) }
+    ensures edited { HasPut tree.now.space tree.now.tuning insertion.now course.new.marked course.old course.new result pass.old pass.new }
+    ensures no_room { LacksRoom (sizes tree.now.space) (key_in insertion.now.keyed) insertion.now.place result (tree_of pass.new) }
 {
     match clear(&tree.space, pass, cursor, &tree.tuning, turns_left(course)) {
         Way::Free(marked) => {
@@ -199,19 +178,12 @@ fn put_settled(
     insertion: &Insertion<'_>,
     course: &mut Course,
 ) -> Result<(), Halt>
-    requires ready { IsReady tree.now.space pass.old }
-    requires looking { IsLooking (sizes tree.now.space) (tree_of pass.old) (key_in insertion.now.keyed) cursor }
-    requires settled { IsSettled (tree_of pass.old) (shown_last pass.old).its }
-    requires quiet { (tree_of pass.old).ranges.own ≡ Quiet }
-    requires unmet { IsAlone (sizes tree.now.space) (tree_of pass.old) → (tree_of pass.old).ranges.unfinished ≡ [] }
+    requires may { MayExchange tree.now.space (key_in insertion.now.keyed) cursor pass.old }
     requires keyed { IsKeyed (sizes tree.now.space).keypos insertion.now.keyed }
     requires place { IsPlace (map pair (shown_last pass.old).objects) (key_in insertion.now.keyed) insertion.now.place }
     requires call { IsFor insertion.now.why insertion.now.place }
-    ensures edited { HasEdited tree.now.space tree.now.tuning (λ event. event ≡ event_of insertion.now (shown_last pass.old).objects)
-        (key_in insertion.now.keyed) (Some (key_in insertion.now.keyed)) false course.old course.new result pass.old pass.new }
-    ensures deep { OnOk insertion.now.place (result ≢ Err IsDeep) }
-    ensures no_split { OnOk insertion.now.place (result ≢ Err IsSplit) }
-    ensures full { result ≡ Err IsDeep → IsFullSince (sizes tree.now.space) (Some (key_in insertion.now.keyed)) (tree_of pass.new) }
+    ensures edited { HasPut tree.now.space tree.now.tuning insertion.now false course.old course.new result pass.old pass.new }
+    ensures no_room { LacksRoom (sizes tree.now.space) (key_in insertion.now.keyed) insertion.now.place result (tree_of pass.new) }
 {
     let space = &tree.space;
     let many = count(space, pass, cursor.base);
@@ -282,20 +254,13 @@ fn make_room(
     many: u32,
     course: &mut Course,
 ) -> Halt
-    requires ready { IsReady tree.now.space pass.old }
-    requires looking { (key : List ℕ) × IsLooking (sizes tree.now.space) (tree_of pass.old) key cursor }
-    requires settled { IsSettled (tree_of pass.old) (shown_last pass.old).its }
+    requires may { (key : List ℕ) × MayExchange tree.now.space key cursor pass.old }
     requires many { (many ≡ length (shown_last pass.old).objects) × (tree.now.tuning.leaf ≤ many) }
-    ensures frame { StaysReady tree.now.space pass.old pass.new }
-    ensures further { IsFurther (tree_of pass.old) (tree_of pass.new) × IsKnown (sizes tree.now.space) (tree_of pass.new) }
-    ensures stays { (key : List ℕ) → IsLooking (sizes tree.now.space) (tree_of pass.old) key cursor → StaysAt {T = Unit {0}} (sizes tree.now.space) key (Err result)
-        (tree_of pass.old) (tree_of pass.new) course.new.again false }
+    ensures edited { (key : List ℕ) → IsLooking (sizes tree.now.space) (tree_of pass.old) key cursor
+        → IsFullFor (sizes tree.now.space) (Some key) (shown_last pass.old)
+        → HasEdited tree.now.space tree.now.tuning (λ _. ⊥) key (Some key) false course.old course.new (Err result) pass.old pass.new }
     ensures deep { result ≡ IsDeep → (sizes tree.now.space).levels ≤ (shown_last pass.old).place.level }
     ensures still { result ≡ IsDeep → tree_of pass.new ≡ tree_of pass.old }
-    ensures crowds { Crowds {T = Unit {0}} tree.now.space (Err result) pass.old pass.new }
-    ensures turn { (key : List ℕ) → IsLooking (sizes tree.now.space) (tree_of pass.old) key cursor
-        → IsFullFor (sizes tree.now.space) (Some key) (shown_last pass.old)
-        → TakesTurn {T = Unit {0}} (λ _. true) (Some key) tree.now course.old course.new 0 (Err result) pass.old pass.new }
 {
     course.again = Some(cursor);
     if cursor.level >= tree.tuning.levels {
@@ -337,14 +302,9 @@ pub(crate) fn remove_there(
     removal: &Removal<'_>,
     course: &mut Course,
 ) -> Result<(), Halt>
-    requires ready { IsReady tree.now.space pass.old }
-    requires looking { IsLooking (sizes tree.now.space) (tree_of pass.old) removal.now.key.now cursor }
-    requires unanswered { IsUnanswered (tree_of pass.old) }
-    requires idle { IsIdle false pass.old }
+    requires may { MayEdit tree.now.space removal.now.key.now cursor pass.old }
     requires place { IsPlace (map pair (shown_last pass.old).objects) removal.now.key.now (Ok removal.now.at) }
-    ensures edited { HasEdited tree.now.space tree.now.tuning
-        (λ event. event ≡ Remove removal.now.key.now (Some (object_at (Ok removal.now.at) (shown_last pass.old).objects))) removal.now.key.now None
-        course.new.marked course.old course.new result pass.old pass.new }
+    ensures edited { HasRemoved tree.now.space tree.now.tuning removal.now course.new.marked course.old course.new result pass.old pass.new }
     ensures deep { result ≢ Err IsDeep }
 {
     match clear(&tree.space, pass, cursor, &tree.tuning, turns_left(course)) {
@@ -365,15 +325,9 @@ fn remove_settled(
     removal: &Removal<'_>,
     course: &mut Course,
 ) -> Result<(), Halt>
-    requires ready { IsReady tree.now.space pass.old }
-    requires looking { IsLooking (sizes tree.now.space) (tree_of pass.old) removal.now.key.now cursor }
-    requires settled { IsSettled (tree_of pass.old) (shown_last pass.old).its }
-    requires quiet { (tree_of pass.old).ranges.own ≡ Quiet }
-    requires unmet { IsAlone (sizes tree.now.space) (tree_of pass.old) → (tree_of pass.old).ranges.unfinished ≡ [] }
+    requires may { MayExchange tree.now.space removal.now.key.now cursor pass.old }
     requires place { IsPlace (map pair (shown_last pass.old).objects) removal.now.key.now (Ok removal.now.at) }
-    ensures edited { HasEdited tree.now.space tree.now.tuning
-        (λ event. event ≡ Remove removal.now.key.now (Some (object_at (Ok removal.now.at) (shown_last pass.old).objects))) removal.now.key.now None
-        false course.old course.new result pass.old pass.new }
+    ensures edited { HasRemoved tree.now.space tree.now.tuning removal.now false course.old course.new result pass.old pass.new }
     ensures deep { result ≢ Err IsDeep }
 {
     let space = &tree.space;

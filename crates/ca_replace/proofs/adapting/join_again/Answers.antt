@@ -52,7 +52,8 @@ returns-clause-met c = join_met c.args.tree.now.space.table.shared.key c.args.pl
 pub returns-clause-tried : goal.returns-clause-tried
 returns-clause-tried c = joins_there c.args.tree.now.space.table.shared.key c.args.placed.now.key c.args.placed.now.row c.args.pass.now.seat.me
     c.walk-cursor.new.pass.seat.me c.try_join.new.pass.seat.me c.walk-cursor.result c.try_join.result c.requires.placed
-    c.walk-cursor.ensures.walked c.if-cursor-placed.false c.try_join.ensures.steps c.requires.ready.own.1 c.try_join.ensures.joined
+    c.walk-cursor.ensures.walked c.if-cursor-placed.false c.try_join.ensures.steps
+    c.requires.may.ready.own.1 c.try_join.ensures.joined
 
 pub returns-then-cursor-placed-clause-won : goal.returns-then-cursor-placed-clause-won
 returns-then-cursor-placed-clause-won c alone = absurd (c.if-cursor-placed.true

@@ -9,8 +9,9 @@ use Rattle.ca_model.specs.History.{Put}
 use Rattle.ca_base.specs.Finding.{IsReadable, IsAtCursor}
 use Rattle.ca_node.specs.Layout.{base_form, object_form}
 use Rattle.ca_node.specs.Place.{HasKey}
+use Rattle.ca_node.specs.States.{IsAlone}
 use Rattle.ca_node.specs.Told.{MyTree, IsKnown, IsSettled}
-use Rattle.ca_node.specs.TreeView.{TreeView}
+use Rattle.ca_node.specs.TreeView.{Quiet, TreeView}
 use Rattle.ca_base.specs.Putting.{IsRoom, IsShownLast, first_note, gone, last_items, object_at, put_event}
 use Rattle.ca_replace.specs.Adapting.{IsMoved, IsCauseMet}
 use Rattle.ca_replace.proofs.Tuning.{tuned_on}
@@ -53,7 +54,7 @@ why_of (Err why) = why
 
 pub count-many-requires-clause-readable : goal.count-many-requires-clause-readable
 count-many-requires-clause-readable c =
-    (first_note c.args.pass.now.seat.me.0.upper.notes, c.requires.looking.readable)
+    (first_note c.args.pass.now.seat.me.0.upper.notes, c.requires.may.looking.readable)
 
 pub next_statistic-statistic-requires-clause-readable : goal.next_statistic-statistic-requires-clause-readable
 next_statistic-statistic-requires-clause-readable c = (
@@ -61,25 +62,8 @@ next_statistic-statistic-requires-clause-readable c = (
   subst (λ (m : MyTree).
       IsReadable c.args.tree.now.space.table.shared.key m.0.upper c.args.cursor.base
       (first_note c.args.pass.now.seat.me.0.upper.notes))
-      (sym c.count-many.ensures.frame.still) c.requires.looking.readable,
+      (sym c.count-many.ensures.frame.still) c.requires.may.looking.readable,
 )
-
-pub settle-requires-clause-quiet : goal.settle-requires-clause-quiet
-settle-requires-clause-quiet c = c.put_at-tried.ensures.frame.own_range
-    ∙ (ap (λ (m : MyTree). m.0.upper.ranges.own) (c.next_statistic-statistic.ensures.frame.still
-    ∙ c.count-many.ensures.frame.still) ∙ c.requires.quiet)
-
-pub settle-requires-clause-known : goal.settle-requires-clause-known
-settle-requires-clause-known c = known_then c.args.tree.now.space.table.shared.key
-    (λ (u : TreeView).
-    put_event c.args.insertion.now.why (key_in c.args.insertion.now.keyed)
-    (object_at c.args.insertion.now.place (first_note u.notes).objects)
-    c.args.insertion.now.keyed.object.now)
-    c.put_at-tried.result c.args.pass.now.seat.me.0.upper
-    c.next_statistic-statistic.new.pass.seat.me.0.upper c.put_at-tried.new.pass.seat.me.0.upper
-    (ap (λ (m : MyTree). m.0.upper) (c.next_statistic-statistic.ensures.frame.still
-    ∙ c.count-many.ensures.frame.still)) c.requires.looking.known
-    c.put_at-tried.ensures.put
 
 pub settle-requires-clause-placed : goal.settle-requires-clause-placed
 settle-requires-clause-placed c won = is_new _ c.args.tree.now.space.table.shared.key
@@ -90,7 +74,7 @@ settle-requires-clause-placed c won = is_new _ c.args.tree.now.space.table.share
     (subst (λ (m : MyTree).
     HasKey (first_note m.0.upper.notes).place.span (key_in c.args.insertion.now.keyed))
     (sym (c.next_statistic-statistic.ensures.frame.still ∙ c.count-many.ensures.frame.still))
-    c.requires.looking.about) c.put_at-tried.ensures.renewed
+    c.requires.may.looking.about) c.put_at-tried.ensures.renewed
     c.put_at-tried.ensures.placed won
 
 -- The exchange and what followed it.
@@ -114,50 +98,24 @@ settling c = record {
   settled = c.settle.ensures.settled;
 }
 
-pub returns-then-not-has_room-clause-full : goal.returns-then-not-has_room-clause-full
-returns-then-not-has_room-clause-full c =
-    λ deep. full_there c.args.tree.now.space.table.shared.key c.args.pass.now.seat.me.0.upper
-    c.make_room.new.pass.seat.me.0.upper c.args.cursor (key_in c.args.insertion.now.keyed)
-    c.args.insertion.now.place c.count-many.result
-    c.requires.looking
-    (c.make_room.ensures.still (ap why_of deep)
-    ∙ ap (λ (m : MyTree). m.0.upper) c.count-many.ensures.frame.still)
-    (subst (λ (m : MyTree).
-    c.args.tree.now.space.table.shared.key.levels ≤ (first_note m.0.upper.notes).place.level)
-    c.count-many.ensures.frame.still
-    (c.make_room.ensures.deep (ap why_of deep))) c.requires.place
-    (λ room. no_room c.has_room.result c.if-not-has_room.true
-    (c.has_room.ensures.1 (subst (λ n. IsRoom c.args.insertion.now.place c.count-many.result n)
-    (tuned_on c.args.tree.now).leaf room)))
-    (c.count-many.ensures.count (first_note c.args.pass.now.seat.me.0.upper.notes)
-    c.requires.looking.readable)
-
 on_ok : (r : Result ℕ ℕ) {P : Type 0} → P → OnOk r P
 on_ok (Ok at) p = p
 on_ok (Err at) p = tt
 
-pub returns-clause-deep : goal.returns-clause-deep
-returns-clause-deep c = on_ok c.args.insertion.now.place c.settle.ensures.deep
-
-pub returns-clause-no_split : goal.returns-clause-no_split
-returns-clause-no_split c =
-    on_ok c.args.insertion.now.place
-    (come_unsplit c.put_at-tried.result c.settle.result c.settle.ensures.come)
-
 pub next_statistic-statistic-requires-clause-reading : goal.next_statistic-statistic-requires-clause-reading
 next_statistic-statistic-requires-clause-reading c = record {
   own = (
-    c.count-many.ensures.frame.same.0 ∙ c.requires.ready.own.0,
+    c.count-many.ensures.frame.same.0 ∙ c.requires.may.ready.own.0,
     ap (λ (m : MyTree). m.0.sizes) c.count-many.ensures.frame.still
-        ∙ c.requires.ready.own.1,
+        ∙ c.requires.may.ready.own.1,
   );
   pinned = ap (λ (m : MyTree). m.0.pin.pinned) c.count-many.ensures.frame.still
-      ∙ c.requires.ready.pinned;
+      ∙ c.requires.may.ready.pinned;
 }
 
 pub put_at-tried-requires-clause-ready : goal.put_at-tried-requires-clause-ready
 put_at-tried-requires-clause-ready c = ready_read (reads_both c.count-many.ensures.frame
-    c.next_statistic-statistic.ensures.frame) c.requires.ready
+    c.next_statistic-statistic.ensures.frame) c.requires.may.ready
 
 pub put_at-tried-requires-clause-place : goal.put_at-tried-requires-clause-place
 put_at-tried-requires-clause-place c = subst
@@ -171,7 +129,7 @@ put_at-tried-requires-clause-about c = subst
     (λ (m : MyTree).
     HasKey (first_note m.0.upper.notes).place.span (key_in c.args.insertion.now.keyed))
     (sym (c.next_statistic-statistic.ensures.frame.still ∙ c.count-many.ensures.frame.still))
-    c.requires.looking.about
+    c.requires.may.looking.about
 
 pub put_at-tried-requires-clause-room : goal.put_at-tried-requires-clause-room
 put_at-tried-requires-clause-room c = subst
@@ -179,54 +137,15 @@ put_at-tried-requires-clause-room c = subst
     (sym (tuned_on c.args.tree.now).leaf)
     (c.has_room.ensures.0 c.if-not-has_room.false)
 
-pub settle-requires-clause-ready : goal.settle-requires-clause-ready
-settle-requires-clause-ready c = ready_after
-    (ready_read (reads_both c.count-many.ensures.frame
-    c.next_statistic-statistic.ensures.frame) c.requires.ready)
-    c.put_at-tried.ensures.frame (subst (λ (n : ℕ). 0 < n)
-    (sym (tried_number c.args.tree.now.space.table.shared.key (event_of c.args.insertion.now
-    (first_note c.next_statistic-statistic.new.pass.seat.me.0.upper.notes).objects) c.put_at-tried.result
-    c.next_statistic-statistic.new.pass.seat.me.0.upper c.put_at-tried.new.pass.seat.me.0.upper
-    c.put_at-tried.ensures.put
-    ∙ ap (λ (m : MyTree). m.0.upper.number) (c.next_statistic-statistic.ensures.frame.still
-    ∙ c.count-many.ensures.frame.still)))
-    c.requires.ready.number)
-
-pub returns-clause-full : goal.returns-clause-full
-returns-clause-full c = λ e. absurd (c.settle.ensures.deep e)
-
-pub make_room-requires-clause-ready : goal.make_room-requires-clause-ready
-make_room-requires-clause-ready c = ready_read c.count-many.ensures.frame c.requires.ready
-
-pub make_room-requires-clause-looking : goal.make_room-requires-clause-looking
-make_room-requires-clause-looking c = (
-  (key_in c.args.insertion.now.keyed),
-  subst (λ (m : MyTree).
-      IsLooking c.args.tree.now.space.table.shared.key m.0.upper (key_in c.args.insertion.now.keyed)
-      c.args.cursor)
-      (sym c.count-many.ensures.frame.still) c.requires.looking,
-)
-
 pub make_room-requires-clause-many : goal.make_room-requires-clause-many
 make_room-requires-clause-many c = (
   subst (λ (m : MyTree). c.count-many.result
       ≡ length (first_note m.0.upper.notes).objects) (sym c.count-many.ensures.frame.still)
       (c.count-many.ensures.count (first_note c.args.pass.now.seat.me.0.upper.notes)
-      c.requires.looking.readable),
+      c.requires.may.looking.readable),
   no_less c.args.insertion.now.place c.count-many.result c.args.tree.now.tuning.leaf
       (λ room. no_room c.has_room.result c.if-not-has_room.true (c.has_room.ensures.1 room)),
 )
-
-pub returns-then-not-has_room-clause-deep : goal.returns-then-not-has_room-clause-deep
-returns-then-not-has_room-clause-deep c =
-    no_place _ c.args.insertion.now.place c.count-many.result c.args.tree.now.tuning.leaf
-    (λ room. no_room c.has_room.result
-    c.if-not-has_room.true (c.has_room.ensures.1 room))
-
-pub returns-then-not-has_room-clause-no_split : goal.returns-then-not-has_room-clause-no_split
-returns-then-not-has_room-clause-no_split c =
-    no_place _ c.args.insertion.now.place c.count-many.result c.args.tree.now.tuning.leaf
-    (λ room. no_room c.has_room.result c.if-not-has_room.true (c.has_room.ensures.1 room))
 
 pub put_at-tried-requires-clause-target : goal.put_at-tried-requires-clause-target
 put_at-tried-requires-clause-target c = let z = c.args.tree.now.space.table.shared.key in
@@ -237,19 +156,14 @@ put_at-tried-requires-clause-target c = let z = c.args.tree.now.space.table.shar
           let leaf = (tuned_on c.args.tree.now).leaf in omega arith;
       shown = subst
           (λ (m : MyTree). IsShownLast z m.0.upper c.args.cursor.base) same
-          (shown_last z u _ c.args.cursor c.requires.looking c.requires.settled);
+          (shown_last z u _ c.args.cursor c.requires.may.looking c.requires.may.settled);
       at = subst
           (λ (m : MyTree). IsAtCursor z (first_note m.0.upper.notes) c.args.cursor) same
-          c.requires.looking.at;
+          c.requires.may.looking.at;
       many_are = subst (λ (m : MyTree). c.count-many.result
           ≡ length (first_note m.0.upper.notes).objects) same
-          (c.count-many.ensures.count (first_note u.notes) c.requires.looking.readable);
+          (c.count-many.ensures.count (first_note u.notes) c.requires.may.looking.readable);
     }
-
-pub make_room-requires-clause-settled : goal.make_room-requires-clause-settled
-make_room-requires-clause-settled c = subst
-    (λ (m : MyTree). IsSettled m.0.upper (first_note m.0.upper.notes).its)
-    (sym c.count-many.ensures.frame.still) c.requires.settled
 
 pub returns-clause-edited : goal.returns-clause-edited
 returns-clause-edited c = record {
@@ -266,18 +180,19 @@ returns-clause-edited c = record {
       c.put_at-tried.new.pass.seat.me.0.upper c.settle.new.pass.seat.me.0.upper
       (ap (λ (m : MyTree). m.0.upper) (c.next_statistic-statistic.ensures.frame.still
       ∙ c.count-many.ensures.frame.still)) c.settle.ensures.come
-      c.requires.looking.known c.put_at-tried.ensures.put c.settle.ensures.further;
+      c.requires.may.looking.known c.put_at-tried.ensures.put c.settle.ensures.further;
   stays = subst
       (λ (again : Option Cursor). StaysAt c.args.tree.now.space.table.shared.key
       (key_in c.args.insertion.now.keyed) c.settle.result c.args.pass.now.seat.me.0.upper
       c.settle.new.pass.seat.me.0.upper again false) (sym c.settle.ensures.again)
       (settled_stays c.put_at-tried.result (key_in c.args.insertion.now.keyed) c.args.cursor (settling c)
-      c.requires.looking);
+      c.requires.may.looking);
   crowds = settled_crowds c.args.tree.now.space (base_form ∷ object_form ∷ [])
       (gone c.args.insertion.now.place (last_items c.next_statistic-statistic.new.pass.seat.me.0.upper)) c.args.cursor.base (event_of c.args.insertion.now
       (first_note c.next_statistic-statistic.new.pass.seat.me.0.upper.notes).objects) c.put_at-tried.result c.settle.result
       c.args.pass.now c.next_statistic-statistic.new.pass c.put_at-tried.new.pass c.settle.new.pass c.settle.ensures.come
-      (reads_both c.count-many.ensures.frame c.next_statistic-statistic.ensures.frame) c.requires.ready.own.1 c.put_at-tried.ensures.frame
+      (reads_both c.count-many.ensures.frame c.next_statistic-statistic.ensures.frame)
+      c.requires.may.ready.own.1 c.put_at-tried.ensures.frame
       c.put_at-tried.ensures.put c.put_at-tried.ensures.back c.put_at-tried.ensures.crowded c.settle.ensures.still;
   turn = record {
     met_as = settled_met (IsCauseMet c.settle.new.course.adapting.last.adapted
@@ -293,7 +208,7 @@ returns-clause-edited c = record {
         (subst (λ (m : MyTree).
         IsReadable c.args.tree.now.space.table.shared.key m.0.upper c.args.cursor.base note)
         (sym c.count-many.ensures.frame.still)
-        c.requires.looking.readable)))
+        c.requires.may.looking.readable)))
         c.word_of.ensures;
     counted = settled_paid c.args.course.now.spent c.put_at-tried.new.spent c.settle.new.course.spent
         c.args.pass.now.seat.me
@@ -315,46 +230,120 @@ returns-clause-edited c = record {
         c.settle.ensures.come c.put_at-tried.ensures.found c.settle.ensures.settled;
     loads = settled_loads c.put_at-tried.result (settling c);
     grown = settled_grown (settling c) (Some (key_in c.args.insertion.now.keyed))
-        c.requires.looking.listed c.settle.ensures.grows;
-    won = settled_won (settling c) c.requires.looking.listed c.put_at-tried.ensures.won
-        c.settle.ensures.won c.requires.unmet;
+        c.requires.may.looking.listed c.settle.ensures.grows;
+    won = settled_won (settling c) c.requires.may.looking.listed c.put_at-tried.ensures.won
+        c.settle.ensures.won c.requires.may.unmet;
     cut = settled_cut (settling c) (Some (key_in c.args.insertion.now.keyed)) c.settle.ensures.cut;
   };
 }
 
 pub returns-then-not-has_room-clause-edited : goal.returns-then-not-has_room-clause-edited
-returns-then-not-has_room-clause-edited c = record {
-  frame = stays_read c.count-many.ensures.frame c.make_room.ensures.frame;
-  tried = subst
-      (λ (m : MyTree). IsFurther m.0.upper c.make_room.new.pass.seat.me.0.upper × IsKnown
-      c.args.tree.now.space.table.shared.key c.make_room.new.pass.seat.me.0.upper)
+returns-then-not-has_room-clause-edited c = let z = c.args.tree.now.space.table.shared.key in
+    let key = key_in c.args.insertion.now.keyed in let u = c.args.pass.now.seat.me.0.upper in
+    let last = c.make_room.new.pass.seat.me in let still = c.count-many.ensures.frame.still in
+    let full = full_for z u c.args.cursor key c.args.insertion.now.place c.count-many.result
+    c.requires.may.looking c.requires.place
+    (λ room. no_room c.has_room.result c.if-not-has_room.true
+    (c.has_room.ensures.1 (subst (λ n. IsRoom c.args.insertion.now.place c.count-many.result n)
+    (tuned_on c.args.tree.now).leaf room)))
+    (c.count-many.ensures.count (first_note u.notes) c.requires.may.looking.readable) in
+    let did = c.make_room.ensures.edited key
+    (subst (λ (m : MyTree). IsLooking z m.0.upper key c.args.cursor) (sym still)
+    c.requires.may.looking)
+    (subst (λ (m : MyTree). IsFullFor z (Some key) (first_note m.0.upper.notes)) (sym still) full)
+    in record {
+      frame = stays_read c.count-many.ensures.frame did.frame;
+      tried = subst (λ (m : MyTree). IsFurther m.0.upper last.0.upper × IsKnown z last.0.upper)
+          still did.tried;
+      stays = subst (λ (m : MyTree). StaysAt {T = Unit {0}} z key (Err c.make_room.result) m.0.upper
+          last.0.upper c.make_room.new.course.again false) still did.stays;
+      crowds = crowds_read c.args.tree.now.space {T = Unit {0}} (Err c.make_room.result)
+          c.args.pass.now
+          c.count-many.new.pass c.make_room.new.pass c.count-many.ensures.frame did.crowds;
+      turn = subst (λ (m : MyTree). IsTurn {T = Unit {0}} (λ _. true) (Some key) z
+          c.args.tree.now.tuning 0
+          c.args.course.now c.make_room.new.course (met_of last) (Err c.make_room.result) m last)
+          still did.turn;
+    }
+
+pub settle-requires-clause-may : goal.settle-requires-clause-may
+settle-requires-clause-may c = record {
+  ready = ready_after
+      (ready_read (reads_both c.count-many.ensures.frame
+      c.next_statistic-statistic.ensures.frame) c.requires.may.ready)
+      c.put_at-tried.ensures.frame (subst (λ (n : ℕ). 0 < n)
+      (sym (tried_number c.args.tree.now.space.table.shared.key (event_of c.args.insertion.now
+      (first_note c.next_statistic-statistic.new.pass.seat.me.0.upper.notes).objects)
+      c.put_at-tried.result
+      c.next_statistic-statistic.new.pass.seat.me.0.upper c.put_at-tried.new.pass.seat.me.0.upper
+      c.put_at-tried.ensures.put
+      ∙ ap (λ (m : MyTree). m.0.upper.number) (c.next_statistic-statistic.ensures.frame.still
+      ∙ c.count-many.ensures.frame.still)))
+      c.requires.may.ready.number);
+  known = known_then c.args.tree.now.space.table.shared.key
+      (λ (u : TreeView).
+      put_event c.args.insertion.now.why (key_in c.args.insertion.now.keyed)
+      (object_at c.args.insertion.now.place (first_note u.notes).objects)
+      c.args.insertion.now.keyed.object.now)
+      c.put_at-tried.result c.args.pass.now.seat.me.0.upper
+      c.next_statistic-statistic.new.pass.seat.me.0.upper c.put_at-tried.new.pass.seat.me.0.upper
+      (ap (λ (m : MyTree). m.0.upper) (c.next_statistic-statistic.ensures.frame.still
+      ∙ c.count-many.ensures.frame.still)) c.requires.may.looking.known
+      c.put_at-tried.ensures.put;
+  quiet = c.put_at-tried.ensures.frame.own_range
+      ∙ (ap (λ (m : MyTree). m.0.upper.ranges.own) (c.next_statistic-statistic.ensures.frame.still
+      ∙ c.count-many.ensures.frame.still) ∙ c.requires.may.quiet);
+}
+
+pub make_room-requires-clause-may : goal.make_room-requires-clause-may
+make_room-requires-clause-may c = let still = sym c.count-many.ensures.frame.still in (
+  key_in c.args.insertion.now.keyed,
+  record {
+    ready = ready_read c.count-many.ensures.frame c.requires.may.ready;
+    looking = subst (λ (m : MyTree).
+        IsLooking c.args.tree.now.space.table.shared.key m.0.upper (key_in
+        c.args.insertion.now.keyed)
+        c.args.cursor)
+        (sym c.count-many.ensures.frame.still) c.requires.may.looking;
+    settled = subst
+        (λ (m : MyTree). IsSettled m.0.upper (first_note m.0.upper.notes).its)
+        (sym c.count-many.ensures.frame.still) c.requires.may.settled;
+    quiet = subst (λ (m : MyTree). m.0.upper.ranges.own ≡ Quiet) still c.requires.may.quiet;
+    unmet = subst
+        (λ (m : MyTree). IsAlone c.args.tree.now.space.table.shared.key m.0.upper →
+        m.0.upper.ranges.unfinished ≡ []) still
+        c.requires.may.unmet;
+  },
+)
+
+pub returns-clause-no_room : goal.returns-clause-no_room
+returns-clause-no_room c = record {
+  deep = on_ok c.args.insertion.now.place c.settle.ensures.deep;
+  no_split = on_ok c.args.insertion.now.place
+      (come_unsplit c.put_at-tried.result c.settle.result c.settle.ensures.come);
+  full = λ e. absurd (c.settle.ensures.deep e);
+}
+
+pub returns-then-not-has_room-clause-no_room : goal.returns-then-not-has_room-clause-no_room
+returns-then-not-has_room-clause-no_room c = record {
+  deep = no_place _ c.args.insertion.now.place c.count-many.result c.args.tree.now.tuning.leaf
+      (λ room. no_room c.has_room.result
+      c.if-not-has_room.true (c.has_room.ensures.1 room));
+  no_split = no_place _ c.args.insertion.now.place c.count-many.result c.args.tree.now.tuning.leaf
+      (λ room. no_room c.has_room.result c.if-not-has_room.true (c.has_room.ensures.1 room));
+  full = λ deep. full_there c.args.tree.now.space.table.shared.key c.args.pass.now.seat.me.0.upper
+      c.make_room.new.pass.seat.me.0.upper c.args.cursor (key_in c.args.insertion.now.keyed)
+      c.args.insertion.now.place c.count-many.result
+      c.requires.may.looking
+      (c.make_room.ensures.still (ap why_of deep)
+      ∙ ap (λ (m : MyTree). m.0.upper) c.count-many.ensures.frame.still)
+      (subst (λ (m : MyTree).
+      c.args.tree.now.space.table.shared.key.levels ≤ (first_note m.0.upper.notes).place.level)
       c.count-many.ensures.frame.still
-      c.make_room.ensures.further;
-  stays = let z = c.args.tree.now.space.table.shared.key in
-      let key = key_in c.args.insertion.now.keyed in let still = c.count-many.ensures.frame.still in
-      subst (λ (m : MyTree). StaysAt {T = Unit {0}} z key (Err c.make_room.result) m.0.upper
-      c.make_room.new.pass.seat.me.0.upper c.make_room.new.course.again false) still
-      (c.make_room.ensures.stays key
-      (subst (λ (m : MyTree). IsLooking z m.0.upper key c.args.cursor) (sym still)
-      c.requires.looking));
-  crowds = crowds_read c.args.tree.now.space {T = Unit {0}} (Err c.make_room.result) c.args.pass.now c.count-many.new.pass c.make_room.new.pass
-      c.count-many.ensures.frame c.make_room.ensures.crowds;
-  turn = let z = c.args.tree.now.space.table.shared.key in
-      let key = key_in c.args.insertion.now.keyed in let u = c.args.pass.now.seat.me.0.upper in
-      let last = c.make_room.new.pass.seat.me in let still = c.count-many.ensures.frame.still in
-      let full =
-      full_for z u c.args.cursor key c.args.insertion.now.place c.count-many.result
-      c.requires.looking c.requires.place
+      (c.make_room.ensures.deep (ap why_of deep))) c.requires.place
       (λ room. no_room c.has_room.result c.if-not-has_room.true
-      (c.has_room.ensures.1 (subst
-      (λ n. IsRoom c.args.insertion.now.place c.count-many.result n)
+      (c.has_room.ensures.1 (subst (λ n. IsRoom c.args.insertion.now.place c.count-many.result n)
       (tuned_on c.args.tree.now).leaf room)))
-      (c.count-many.ensures.count (first_note u.notes) c.requires.looking.readable) in
-      subst (λ (m : MyTree). IsTurn {T = Unit {0}} (λ _. true) (Some key) z c.args.tree.now.tuning 0
-      c.args.course.now c.make_room.new.course (met_of last) (Err c.make_room.result) m last) still
-      (c.make_room.ensures.turn key
-      (subst (λ (m : MyTree). IsLooking z m.0.upper key c.args.cursor) (sym still)
-      c.requires.looking)
-      (subst (λ (m : MyTree). IsFullFor z (Some key) (first_note m.0.upper.notes)) (sym still)
-      full));
+      (c.count-many.ensures.count (first_note c.args.pass.now.seat.me.0.upper.notes)
+      c.requires.may.looking.readable);
 }

@@ -19,61 +19,51 @@ use Rattle.ca_node.specs.Told.{MyTree}
 use Rattle.ca_replace.proofs.attempting.put_there.Goals as goal
 
 pub clear-requires-clause-number : goal.clear-requires-clause-number
-clear-requires-clause-number c = c.requires.idle.number
+clear-requires-clause-number c = c.requires.may.idle.number
 
 pub clear-requires-clause-quiet : goal.clear-requires-clause-quiet
-clear-requires-clause-quiet c = c.requires.idle.quiet
+clear-requires-clause-quiet c = c.requires.may.idle.quiet
 
 pub clear-requires-clause-none_met : goal.clear-requires-clause-none_met
-clear-requires-clause-none_met c = c.requires.idle.none_met refl
+clear-requires-clause-none_met c = c.requires.may.idle.none_met refl
 
 pub clear-requires-clause-tuned : goal.clear-requires-clause-tuned
 clear-requires-clause-tuned c = tuned_on c.args.tree.now
 
 pub clear-requires-clause-at : goal.clear-requires-clause-at
-clear-requires-clause-at c = let l = c.requires.looking in record {
+clear-requires-clause-at c = let l = c.requires.may.looking in record {
   shown = record { noted = first_noted _ _ _ l.readable; here = l.readable.here; is_base = l.readable.is_base };
   at = l.at;
   above = l.begins.placed.above;
   high = l.begins.placed.high;
 }
 
-pub put_settled-done-requires-clause-ready : goal.put_settled-done-requires-clause-ready
-put_settled-done-requires-clause-ready c = ready_behind
-    (marked_look c.in-Free.ensures.cleared.0 c.in-Free.ensures.cleared.2 c.args.tree.now.space (key_in c.args.insertion.now.keyed) c.args.cursor
-    c.args.insertion.now.place c.requires.looking c.requires.place c.requires.unanswered)
-    c.requires.ready c.requires.looking.known
-
-pub put_settled-done-requires-clause-looking : goal.put_settled-done-requires-clause-looking
-put_settled-done-requires-clause-looking c =
-    (marked_look c.in-Free.ensures.cleared.0 c.in-Free.ensures.cleared.2 c.args.tree.now.space (key_in c.args.insertion.now.keyed) c.args.cursor
-    c.args.insertion.now.place c.requires.looking c.requires.place c.requires.unanswered).looking
-
-pub put_settled-done-requires-clause-settled : goal.put_settled-done-requires-clause-settled
-put_settled-done-requires-clause-settled c = c.in-Free.ensures.cleared.1
-
-pub put_settled-done-requires-clause-quiet : goal.put_settled-done-requires-clause-quiet
-put_settled-done-requires-clause-quiet c =
-    (marked_look c.in-Free.ensures.cleared.0 c.in-Free.ensures.cleared.2 c.args.tree.now.space (key_in c.args.insertion.now.keyed) c.args.cursor
-    c.args.insertion.now.place c.requires.looking c.requires.place c.requires.unanswered).own_range ∙ c.requires.idle.quiet
-
-pub put_settled-done-requires-clause-unmet : goal.put_settled-done-requires-clause-unmet
-put_settled-done-requires-clause-unmet c = λ alone. let look = marked_look c.in-Free.ensures.cleared.0 c.in-Free.ensures.cleared.2 c.args.tree.now.space
-    (key_in c.args.insertion.now.keyed) c.args.cursor c.args.insertion.now.place c.requires.looking c.requires.place c.requires.unanswered in
-    c.in-Free.ensures.alone
-    (alone_on c.args.tree.now.space.table.shared.key c.clear.new.pass.seat.me.0.upper c.args.pass.now.seat.me.0.upper (sym look.further.number) alone)
-    c.requires.looking.known
+pub put_settled-done-requires-clause-may : goal.put_settled-done-requires-clause-may
+put_settled-done-requires-clause-may c = let look = marked_look c.in-Free.ensures.cleared.0
+    c.in-Free.ensures.cleared.2 c.args.tree.now.space
+    (key_in c.args.insertion.now.keyed) c.args.cursor c.args.insertion.now.place
+    c.requires.may.looking c.requires.place c.requires.may.unanswered in record {
+      ready = ready_behind look c.requires.may.ready c.requires.may.looking.known;
+      looking = look.looking;
+      settled = c.in-Free.ensures.cleared.1;
+      quiet = look.own_range ∙ c.requires.may.idle.quiet;
+      unmet = λ alone. c.in-Free.ensures.alone
+          (alone_on c.args.tree.now.space.table.shared.key c.clear.new.pass.seat.me.0.upper
+          c.args.pass.now.seat.me.0.upper
+          (sym look.further.number) alone) c.requires.may.looking.known;
+    }
 
 pub put_settled-done-requires-clause-place : goal.put_settled-done-requires-clause-place
 put_settled-done-requires-clause-place c =
     (marked_look c.in-Free.ensures.cleared.0 c.in-Free.ensures.cleared.2 c.args.tree.now.space (key_in c.args.insertion.now.keyed) c.args.cursor
-    c.args.insertion.now.place c.requires.looking c.requires.place c.requires.unanswered).place
+    c.args.insertion.now.place c.requires.may.looking c.requires.place
+    c.requires.may.unanswered).place
 
 pub returns-in-Free-clause-edited : goal.returns-in-Free-clause-edited
 returns-in-Free-clause-edited c = let l = c.in-Free.ensures.cleared in let marked = c.in-Free.marked in
     let look = (marked_look c.in-Free.ensures.cleared.0 c.in-Free.ensures.cleared.2 c.args.tree.now.space (key_in c.args.insertion.now.keyed) c.args.cursor
-    c.args.insertion.now.place c.requires.looking c.requires.place c.requires.unanswered) in
-    let ready = c.requires.ready in let known = c.requires.looking.known in
+    c.args.insertion.now.place c.requires.may.looking c.requires.place c.requires.may.unanswered) in
+    let ready = c.requires.may.ready in let known = c.requires.may.looking.known in
     let z = c.args.tree.now.space.table.shared.key in let u = c.args.pass.now.seat.me.0.upper in
     let w = c.clear.new.pass.seat.me.0.upper in let new = c.put_settled-done.new.pass in let r = c.put_settled-done.result in
     let b : Course = record c.put_settled-done.new.course { marked = marked } in let did = c.put_settled-done.ensures.edited in
@@ -82,7 +72,7 @@ returns-in-Free-clause-edited c = let l = c.in-Free.ensures.cleared in let marke
       tried = tried_on (tells (first_note u.notes)) z r u w new.seat.me.0.upper look.further
           (subst (λ (n : Note). HasTriedTo (tells n) z r w new.seat.me.0.upper) (same_note l.0 l.2) did.tried);
       stays = stays_behind z (key_in c.args.insertion.now.keyed) r u w new.seat.me.0.upper c.put_settled-done.new.course.again false marked look.since
-          (λ _. refl) (λ e. still_unmet l.0 l.2 (c.requires.idle.none_met refl) e) did.stays;
+          (λ _. refl) (λ e. still_unmet l.0 l.2 (c.requires.may.idle.none_met refl) e) did.stays;
       crowds = crowds_tried look ready known r new did.crowds;
       turn = turn_tried look ready known new (λ (_ : Unit {0}). true) (Some (key_in c.args.insertion.now.keyed)) (Some (key_in c.args.insertion.now.keyed)) c.args.tree.now.tuning
           c.args.course.now b _ r (turn_marked (λ (_ : Unit {0}). true) (Some (key_in c.args.insertion.now.keyed)) z c.args.tree.now.tuning c.args.course.now
@@ -97,15 +87,15 @@ returns-in-Helped-clause-edited c = let z = c.args.tree.now.space.table.shared.k
     (key_in c.args.insertion.now.keyed) (Some (key_in c.args.insertion.now.keyed)) x.1.marked c.args.course.now x.1 (Err x.0) c.args.pass.now c.clear.new.pass)
     (λ i. (sym c.after_help.ensures.halt i, sym c.after_help.ensures.course i))
     (edited_by_help c.args.tree.now.space c.args.tree.now.tuning (tells (first_note c.args.pass.now.seat.me.0.upper.notes) tt) (key_in c.args.insertion.now.keyed) (Some (key_in c.args.insertion.now.keyed))
-    c.args.course.now c.in-Helped.helped c.in-Helped.spent c.args.pass.now c.clear.new.pass c.in-Helped.ensures.cleared c.requires.looking.known)
+    c.args.course.now c.in-Helped.helped c.in-Helped.spent c.args.pass.now c.clear.new.pass
+    c.in-Helped.ensures.cleared c.requires.may.looking.known)
 
-pub returns-in-Helped-clause-deep : goal.returns-in-Helped-clause-deep
-returns-in-Helped-clause-deep c = on_ok_too c.args.insertion.now.place
-    (λ e. help_not_deep c.in-Helped.helped (sym c.after_help.ensures.halt ∙ ap halt_of e))
-
-pub returns-in-Helped-clause-no_split : goal.returns-in-Helped-clause-no_split
-returns-in-Helped-clause-no_split c = on_ok_too c.args.insertion.now.place
-    (λ e. help_not_split c.in-Helped.helped (sym c.after_help.ensures.halt ∙ ap halt_of e))
-
-pub returns-in-Helped-clause-full : goal.returns-in-Helped-clause-full
-returns-in-Helped-clause-full c = λ e. absurd (help_not_deep c.in-Helped.helped (sym c.after_help.ensures.halt ∙ ap halt_of e))
+pub returns-in-Helped-clause-no_room : goal.returns-in-Helped-clause-no_room
+returns-in-Helped-clause-no_room c = record {
+  deep = on_ok_too c.args.insertion.now.place
+      (λ e. help_not_deep c.in-Helped.helped (sym c.after_help.ensures.halt ∙ ap halt_of e));
+  no_split = on_ok_too c.args.insertion.now.place
+      (λ e. help_not_split c.in-Helped.helped (sym c.after_help.ensures.halt ∙ ap halt_of e));
+  full = λ e. absurd (help_not_deep c.in-Helped.helped (sym c.after_help.ensures.halt ∙ ap halt_of
+      e));
+}

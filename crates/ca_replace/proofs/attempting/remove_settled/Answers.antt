@@ -30,7 +30,7 @@ use Rattle.ca_replace.proofs.attempting.remove_settled.Goals as goal
 
 pub count-many-requires-clause-readable : goal.count-many-requires-clause-readable
 count-many-requires-clause-readable c =
-    (first_note c.args.pass.now.seat.me.0.upper.notes, c.requires.looking.readable)
+    (first_note c.args.pass.now.seat.me.0.upper.notes, c.requires.may.looking.readable)
 
 pub next_statistic-statistic-requires-clause-readable : goal.next_statistic-statistic-requires-clause-readable
 next_statistic-statistic-requires-clause-readable c = (
@@ -38,25 +38,8 @@ next_statistic-statistic-requires-clause-readable c = (
   subst (λ (m : MyTree).
       IsReadable c.args.tree.now.space.table.shared.key m.0.upper c.args.cursor.base
       (first_note c.args.pass.now.seat.me.0.upper.notes))
-      (sym c.count-many.ensures.frame.still) c.requires.looking.readable,
+      (sym c.count-many.ensures.frame.still) c.requires.may.looking.readable,
 )
-
-pub settle-requires-clause-quiet : goal.settle-requires-clause-quiet
-settle-requires-clause-quiet c = c.remove_at-tried.ensures.frame.own_range
-    ∙ (ap (λ (m : MyTree). m.0.upper.ranges.own) (c.next_statistic-statistic.ensures.frame.still
-    ∙ c.count-many.ensures.frame.still) ∙ c.requires.quiet)
-
-pub settle-requires-clause-known : goal.settle-requires-clause-known
-settle-requires-clause-known c = known_then c.args.tree.now.space.table.shared.key
-    (λ (u : TreeView).
-    Remove c.args.removal.now.key.now
-    (Some (object_at (Ok c.args.removal.now.at) (first_note u.notes).objects)))
-    c.remove_at-tried.result c.args.pass.now.seat.me.0.upper
-    c.next_statistic-statistic.new.pass.seat.me.0.upper
-    c.remove_at-tried.new.pass.seat.me.0.upper
-    (ap (λ (m : MyTree). m.0.upper) (c.next_statistic-statistic.ensures.frame.still
-    ∙ c.count-many.ensures.frame.still)) c.requires.looking.known
-    c.remove_at-tried.ensures.removed
 
 pub settle-requires-clause-placed : goal.settle-requires-clause-placed
 settle-requires-clause-placed c won = is_new _ c.args.tree.now.space.table.shared.key
@@ -66,7 +49,7 @@ settle-requires-clause-placed c won = is_new _ c.args.tree.now.space.table.share
     (subst (λ (m : MyTree).
     HasKey (first_note m.0.upper.notes).place.span c.args.removal.now.key.now)
     (sym (c.next_statistic-statistic.ensures.frame.still ∙ c.count-many.ensures.frame.still))
-    c.requires.looking.about) c.remove_at-tried.ensures.renewed
+    c.requires.may.looking.about) c.remove_at-tried.ensures.renewed
     c.remove_at-tried.ensures.placed won
 
 -- The exchange and what followed it.
@@ -94,17 +77,17 @@ settling c = record {
 pub next_statistic-statistic-requires-clause-reading : goal.next_statistic-statistic-requires-clause-reading
 next_statistic-statistic-requires-clause-reading c = record {
   own = (
-    c.count-many.ensures.frame.same.0 ∙ c.requires.ready.own.0,
+    c.count-many.ensures.frame.same.0 ∙ c.requires.may.ready.own.0,
     ap (λ (m : MyTree). m.0.sizes) c.count-many.ensures.frame.still
-        ∙ c.requires.ready.own.1,
+        ∙ c.requires.may.ready.own.1,
   );
   pinned = ap (λ (m : MyTree). m.0.pin.pinned) c.count-many.ensures.frame.still
-      ∙ c.requires.ready.pinned;
+      ∙ c.requires.may.ready.pinned;
 }
 
 pub remove_at-tried-requires-clause-ready : goal.remove_at-tried-requires-clause-ready
 remove_at-tried-requires-clause-ready c = ready_read (reads_both c.count-many.ensures.frame
-    c.next_statistic-statistic.ensures.frame) c.requires.ready
+    c.next_statistic-statistic.ensures.frame) c.requires.may.ready
 
 pub remove_at-tried-requires-clause-place : goal.remove_at-tried-requires-clause-place
 remove_at-tried-requires-clause-place c = subst
@@ -118,22 +101,7 @@ pub remove_at-tried-requires-clause-about : goal.remove_at-tried-requires-clause
 remove_at-tried-requires-clause-about c = subst
     (λ (m : MyTree). HasKey (first_note m.0.upper.notes).place.span c.args.removal.now.key.now)
     (sym (c.next_statistic-statistic.ensures.frame.still ∙ c.count-many.ensures.frame.still))
-    c.requires.looking.about
-
-pub settle-requires-clause-ready : goal.settle-requires-clause-ready
-settle-requires-clause-ready c = ready_after
-    (ready_read (reads_both c.count-many.ensures.frame
-    c.next_statistic-statistic.ensures.frame) c.requires.ready)
-    c.remove_at-tried.ensures.frame (subst (λ (n : ℕ). 0 < n)
-    (sym (tried_number c.args.tree.now.space.table.shared.key
-    (Remove c.args.removal.now.key.now
-    (Some (object_at (Ok c.args.removal.now.at) (first_note c.next_statistic-statistic.new.pass.seat.me.0.upper.notes).objects)))
-    c.remove_at-tried.result
-    c.next_statistic-statistic.new.pass.seat.me.0.upper c.remove_at-tried.new.pass.seat.me.0.upper
-    c.remove_at-tried.ensures.removed
-    ∙ ap (λ (m : MyTree). m.0.upper.number) (c.next_statistic-statistic.ensures.frame.still
-    ∙ c.count-many.ensures.frame.still)))
-    c.requires.ready.number)
+    c.requires.may.looking.about
 
 pub remove_at-tried-requires-clause-target : goal.remove_at-tried-requires-clause-target
 remove_at-tried-requires-clause-target c = let z = c.args.tree.now.space.table.shared.key in
@@ -144,13 +112,13 @@ remove_at-tried-requires-clause-target c = let z = c.args.tree.now.space.table.s
           let leaf = (tuned_on c.args.tree.now).leaf in omega arith;
       shown = subst
           (λ (m : MyTree). IsShownLast z m.0.upper c.args.cursor.base) same
-          (shown_last z u _ c.args.cursor c.requires.looking c.requires.settled);
+          (shown_last z u _ c.args.cursor c.requires.may.looking c.requires.may.settled);
       at = subst
           (λ (m : MyTree). IsAtCursor z (first_note m.0.upper.notes) c.args.cursor) same
-          c.requires.looking.at;
+          c.requires.may.looking.at;
       many_are = subst (λ (m : MyTree). c.count-many.result
           ≡ length (first_note m.0.upper.notes).objects) same
-          (c.count-many.ensures.count (first_note u.notes) c.requires.looking.readable);
+          (c.count-many.ensures.count (first_note u.notes) c.requires.may.looking.readable);
     }
 
 pub returns-clause-edited : goal.returns-clause-edited
@@ -167,20 +135,21 @@ returns-clause-edited c = record {
       c.remove_at-tried.new.pass.seat.me.0.upper c.settle.new.pass.seat.me.0.upper
       (ap (λ (m : MyTree). m.0.upper) (c.next_statistic-statistic.ensures.frame.still
       ∙ c.count-many.ensures.frame.still)) c.settle.ensures.come
-      c.requires.looking.known c.remove_at-tried.ensures.removed c.settle.ensures.further;
+      c.requires.may.looking.known c.remove_at-tried.ensures.removed c.settle.ensures.further;
   stays = subst
       (λ (again : Option Cursor). StaysAt c.args.tree.now.space.table.shared.key
       c.args.removal.now.key.now c.settle.result c.args.pass.now.seat.me.0.upper
       c.settle.new.pass.seat.me.0.upper again false) (sym c.settle.ensures.again)
       (settled_stays c.remove_at-tried.result c.args.removal.now.key.now c.args.cursor (settling c)
-      c.requires.looking);
+      c.requires.may.looking);
   crowds = settled_crowds c.args.tree.now.space (base_form ∷ [])
       (gone (Ok c.args.removal.now.at) (last_items c.next_statistic-statistic.new.pass.seat.me.0.upper)) c.args.cursor.base
       (Remove c.args.removal.now.key.now
       (Some (object_at (Ok c.args.removal.now.at) (first_note c.next_statistic-statistic.new.pass.seat.me.0.upper.notes).objects)))
       c.remove_at-tried.result c.settle.result
       c.args.pass.now c.next_statistic-statistic.new.pass c.remove_at-tried.new.pass c.settle.new.pass c.settle.ensures.come
-      (reads_both c.count-many.ensures.frame c.next_statistic-statistic.ensures.frame) c.requires.ready.own.1 c.remove_at-tried.ensures.frame
+      (reads_both c.count-many.ensures.frame c.next_statistic-statistic.ensures.frame)
+      c.requires.may.ready.own.1 c.remove_at-tried.ensures.frame
       c.remove_at-tried.ensures.removed c.remove_at-tried.ensures.back c.remove_at-tried.ensures.crowded c.settle.ensures.still;
   turn = record {
     met_as = settled_met (IsCauseMet c.settle.new.course.adapting.last.adapted
@@ -196,7 +165,7 @@ returns-clause-edited c = record {
         (subst (λ (m : MyTree).
         IsReadable c.args.tree.now.space.table.shared.key m.0.upper c.args.cursor.base note)
         (sym c.count-many.ensures.frame.still)
-        c.requires.looking.readable)))
+        c.requires.may.looking.readable)))
         c.word_of.ensures;
     counted = settled_paid c.args.course.now.spent c.remove_at-tried.new.spent
         c.settle.new.course.spent c.args.pass.now.seat.me
@@ -217,9 +186,39 @@ returns-clause-edited c = record {
         (c.next_statistic-statistic.ensures.frame.still ∙ c.count-many.ensures.frame.still)
         c.settle.ensures.come c.remove_at-tried.ensures.found c.settle.ensures.settled;
     loads = settled_loads c.remove_at-tried.result (settling c);
-    grown = settled_grown (settling c) None c.requires.looking.listed c.settle.ensures.grows;
-    won = settled_won (settling c) c.requires.looking.listed c.remove_at-tried.ensures.won
-        c.settle.ensures.won c.requires.unmet;
+    grown = settled_grown (settling c) None c.requires.may.looking.listed c.settle.ensures.grows;
+    won = settled_won (settling c) c.requires.may.looking.listed c.remove_at-tried.ensures.won
+        c.settle.ensures.won c.requires.may.unmet;
     cut = settled_cut (settling c) None c.settle.ensures.cut;
   };
+}
+
+pub settle-requires-clause-may : goal.settle-requires-clause-may
+settle-requires-clause-may c = record {
+  ready = ready_after
+      (ready_read (reads_both c.count-many.ensures.frame
+      c.next_statistic-statistic.ensures.frame) c.requires.may.ready)
+      c.remove_at-tried.ensures.frame (subst (λ (n : ℕ). 0 < n)
+      (sym (tried_number c.args.tree.now.space.table.shared.key
+      (Remove c.args.removal.now.key.now
+      (Some (object_at (Ok c.args.removal.now.at) (first_note c.next_statistic-statistic.new.pass.seat.me.0.upper.notes).objects)))
+      c.remove_at-tried.result
+      c.next_statistic-statistic.new.pass.seat.me.0.upper c.remove_at-tried.new.pass.seat.me.0.upper
+      c.remove_at-tried.ensures.removed
+      ∙ ap (λ (m : MyTree). m.0.upper.number) (c.next_statistic-statistic.ensures.frame.still
+      ∙ c.count-many.ensures.frame.still)))
+      c.requires.may.ready.number);
+  known = known_then c.args.tree.now.space.table.shared.key
+      (λ (u : TreeView).
+      Remove c.args.removal.now.key.now
+      (Some (object_at (Ok c.args.removal.now.at) (first_note u.notes).objects)))
+      c.remove_at-tried.result c.args.pass.now.seat.me.0.upper
+      c.next_statistic-statistic.new.pass.seat.me.0.upper
+      c.remove_at-tried.new.pass.seat.me.0.upper
+      (ap (λ (m : MyTree). m.0.upper) (c.next_statistic-statistic.ensures.frame.still
+      ∙ c.count-many.ensures.frame.still)) c.requires.may.looking.known
+      c.remove_at-tried.ensures.removed;
+  quiet = c.remove_at-tried.ensures.frame.own_range
+      ∙ (ap (λ (m : MyTree). m.0.upper.ranges.own) (c.next_statistic-statistic.ensures.frame.still
+      ∙ c.count-many.ensures.frame.still) ∙ c.requires.may.quiet);
 }

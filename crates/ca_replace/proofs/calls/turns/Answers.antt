@@ -55,20 +55,8 @@ loop-course-init g c = let z = c.args.tree.now.space.table.shared.key in
           (moved_further k m pin u.seen [] [] ranges is);
     }
 
-pub attempt-tried-requires-clause-ready : goal.attempt-tried-requires-clause-ready
-attempt-tried-requires-clause-ready g c = c.loop-course.invariant.may.ready
-
-pub attempt-tried-requires-clause-known : goal.attempt-tried-requires-clause-known
-attempt-tried-requires-clause-known g c = c.loop-course.invariant.may.known
-
-pub attempt-tried-requires-clause-asking : goal.attempt-tried-requires-clause-asking
-attempt-tried-requires-clause-asking g c = c.loop-course.invariant.may.asking
-
-pub attempt-tried-requires-clause-idle : goal.attempt-tried-requires-clause-idle
-attempt-tried-requires-clause-idle g c = c.loop-course.invariant.may.idle
-
 pub attempt-tried-requires-clause-begins : goal.attempt-tried-requires-clause-begins
-attempt-tried-requires-clause-begins g c = c.loop-course.invariant.may.begins
+attempt-tried-requires-clause-begins g c = c.loop-course.invariant.may
 
 -- Another attempt may begin behind this one.
 pub go_on-requires-clause-marked : goal.go_on-requires-clause-marked

@@ -24,9 +24,6 @@ use Rattle.ca_replace.proofs.Entries.{read_by}
 use Rattle.ca_replace.proofs.Behind.{crowds_behind, few_behind, frame_behind, frame_entered, ready_behind, turn_edited, turn_entered, turn_halted, idle_behind}
 use Rattle.ca_replace.proofs.changing.ChangeCallAttempt.attempt.Goals as goal
 
-pub fetch-place-requires-clause-unanswered : goal.fetch-place-requires-clause-unanswered
-fetch-place-requires-clause-unanswered g c = c.requires.asking.unanswered
-
 pub enter-requires-clause-answer : goal.enter-requires-clause-answer
 enter-requires-clause-answer g c = let key : List ℕ = c.args.self.now.key.now in
     let w = c.fetch-place.new.pass.seat.me.0.upper in
@@ -34,7 +31,7 @@ enter-requires-clause-answer g c = let key : List ℕ = c.args.self.now.key.now 
     (λ (p : Result ℕ ℕ).
     HasFetched c.args.tree.now.space.table.shared.key w key p c.fetch-place.new.old.items)
     c.in_default.is c.fetch-place.ensures.fetched in
-    read_by w (Change key None None) c.fetch-place.ensures.looked.unanswered refl none.0
+    read_by w (Change key None None) c.fetch-place.ensures.found.looked.unanswered refl none.0
 
 pub enter-requires-then-not-f-clause-answer : goal.enter-requires-then-not-f-clause-answer
 enter-requires-then-not-f-clause-answer g c = let key : List ℕ = c.args.self.now.key.now in
@@ -45,7 +42,8 @@ enter-requires-then-not-f-clause-answer g c = let key : List ℕ = c.args.self.n
     c.fetch-place.ensures.fetched in
     subst (λ (o : List ℕ). IsReadSince (Change key (Some o) None) w)
     (sym c.as_slice-then-not-f.ensures.value)
-    (read_by w (Change key (Some old) None) c.fetch-place.ensures.looked.unanswered refl found.0)
+    (read_by w (Change key (Some old) None) c.fetch-place.ensures.found.looked.unanswered refl
+    found.0)
 
 pub returns-in_default-clause-tried : goal.returns-in_default-clause-tried
 returns-in_default-clause-tried g c = let key : List ℕ = c.args.self.now.key.now in
@@ -62,10 +60,11 @@ returns-in_default-clause-tried g c = let key : List ℕ = c.args.self.now.key.n
       refl,
       none.1,
     ) (further_since c.args.pass.now.seat.me.0.upper
-    c.fetch-place.new.pass.seat.me.0.upper c.requires.asking c.fetch-place.ensures.looked.further)
-    c.fetch-place.ensures.looked.looking.known
+    c.fetch-place.new.pass.seat.me.0.upper c.requires.begins.asking
+    c.fetch-place.ensures.found.looked.further)
+    c.fetch-place.ensures.found.looked.looking.known
     (since_before c.args.pass.now.seat.me.0.upper c.fetch-place.new.pass.seat.me.0.upper
-    c.fetch-place.ensures.looked.since) c.enter.ensures.entered
+    c.fetch-place.ensures.found.looked.since) c.enter.ensures.entered
 
 pub returns-then-not-f-clause-tried : goal.returns-then-not-f-clause-tried
 returns-then-not-f-clause-tried g c = let key : List ℕ = c.args.self.now.key.now in
@@ -88,10 +87,11 @@ returns-then-not-f-clause-tried g c = let key : List ℕ = c.args.self.now.key.n
       refl,
     )
     (further_since c.args.pass.now.seat.me.0.upper
-    c.fetch-place.new.pass.seat.me.0.upper c.requires.asking c.fetch-place.ensures.looked.further)
-    c.fetch-place.ensures.looked.looking.known
+    c.fetch-place.new.pass.seat.me.0.upper c.requires.begins.asking
+    c.fetch-place.ensures.found.looked.further)
+    c.fetch-place.ensures.found.looked.looking.known
     (since_before c.args.pass.now.seat.me.0.upper c.fetch-place.new.pass.seat.me.0.upper
-    c.fetch-place.ensures.looked.since)
+    c.fetch-place.ensures.found.looked.since)
     (subst (λ (o : List ℕ). IsEntered (Change key (Some o) None) c.fetch-place.new.pass.seat.me
     c.enter-then-not-f.new.pass.seat.me) c.as_slice-then-not-f.ensures.value
     c.enter-then-not-f.ensures.entered)
@@ -139,15 +139,6 @@ put_there-requires-clause-keyed g c = let l = left g c in record {
       c.f.new.arg4 c.as_slice-2.ensures.value l.key)) l.pair;
 }
 
-pub put_there-requires-clause-looking : goal.put_there-requires-clause-looking
-put_there-requires-clause-looking g c = let l = left g c in
-    subst (λ (q : Pair).
-    IsLooking c.args.tree.now.space.table.shared.key c.fetch-place.new.pass.seat.me.0.upper q.0
-    c.fetch-place.result.0)
-    (sym (pair_of_bytes c.as_slice-2.result.now c.f.new.arg3.items c.args.self.now.key.now
-    c.f.new.arg4 c.as_slice-2.ensures.value l.key))
-    c.fetch-place.ensures.looked.looking
-
 pub put_there-requires-clause-place : goal.put_there-requires-clause-place
 put_there-requires-clause-place g c = let l = left g c in
     let m = map pair (first_note c.fetch-place.new.pass.seat.me.0.upper.notes).objects in
@@ -155,7 +146,7 @@ put_there-requires-clause-place g c = let l = left g c in
     (sym (pair_of_bytes c.as_slice-2.result.now c.f.new.arg3.items c.args.self.now.key.now
     c.f.new.arg4 c.as_slice-2.ensures.value l.key))
     (subst (λ (p : Result ℕ ℕ).
-    IsPlace m c.args.self.now.key.now p) c.in-Ok.is c.fetch-place.ensures.looked.place)
+    IsPlace m c.args.self.now.key.now p) c.in-Ok.is c.fetch-place.ensures.found.looked.place)
 
 pub returns-in-Ok-put_there-clause-tried : goal.returns-in-Ok-put_there-clause-tried
 returns-in-Ok-put_there-clause-tried g c = let key : List ℕ = c.args.self.now.key.now in
@@ -181,79 +172,84 @@ returns-in-Ok-put_there-clause-tried g c = let key : List ℕ = c.args.self.now.
       λ i. Change (own i).0 (Some (found.2 i)) (Some (own i).1),
     )
     (further_since c.args.pass.now.seat.me.0.upper
-    c.fetch-place.new.pass.seat.me.0.upper c.requires.asking c.fetch-place.ensures.looked.further)
+    c.fetch-place.new.pass.seat.me.0.upper c.requires.begins.asking
+    c.fetch-place.ensures.found.looked.further)
     c.in-Ok-put_there.ensures.edited.tried
 
 pub returns-in_default-clause-frame : goal.returns-in_default-clause-frame
 returns-in_default-clause-frame g c =
-    frame_entered c.fetch-place.ensures.looked c.requires.ready c.requires.known c.enter.new.pass _
+    frame_entered c.fetch-place.ensures.found.looked c.requires.begins.ready c.requires.begins.known
+    c.enter.new.pass _
     c.enter.ensures.frame c.enter.ensures.entered
 
 pub returns-then-not-f-clause-frame : goal.returns-then-not-f-clause-frame
 returns-then-not-f-clause-frame g c =
-    frame_entered c.fetch-place.ensures.looked c.requires.ready c.requires.known
+    frame_entered c.fetch-place.ensures.found.looked c.requires.begins.ready c.requires.begins.known
     c.enter-then-not-f.new.pass _ c.enter-then-not-f.ensures.frame
     c.enter-then-not-f.ensures.entered
 
 pub returns-in-Ok-put_there-clause-frame : goal.returns-in-Ok-put_there-clause-frame
 returns-in-Ok-put_there-clause-frame g c =
-    frame_behind c.fetch-place.ensures.looked c.requires.ready c.requires.known c.put_there.new.pass
+    frame_behind c.fetch-place.ensures.found.looked c.requires.begins.ready c.requires.begins.known
+    c.put_there.new.pass
     c.put_there.ensures.edited.frame
 
 pub returns-in-Err-clause-frame : goal.returns-in-Err-clause-frame
 returns-in-Err-clause-frame g c =
-    frame_behind c.fetch-place.ensures.looked c.requires.ready c.requires.known c.put_there.new.pass
+    frame_behind c.fetch-place.ensures.found.looked c.requires.begins.ready c.requires.begins.known
+    c.put_there.new.pass
     c.put_there.ensures.edited.frame
 
 pub returns-in-Err-clause-tried : goal.returns-in-Err-clause-tried
 returns-in-Err-clause-tried g c = (
   further_on c.args.pass.now.seat.me.0.upper c.fetch-place.new.pass.seat.me.0.upper
-      c.put_there.new.pass.seat.me.0.upper c.fetch-place.ensures.looked.further
+      c.put_there.new.pass.seat.me.0.upper c.fetch-place.ensures.found.looked.further
       c.in-Err.ensures.edited.tried.0,
   c.in-Err.ensures.edited.tried.1,
 )
 
-pub put_there-requires-clause-ready : goal.put_there-requires-clause-ready
-put_there-requires-clause-ready g c =
-    ready_behind c.fetch-place.ensures.looked c.requires.ready c.requires.known
-
 pub returns-in_default-clause-turn : goal.returns-in_default-clause-turn
 returns-in_default-clause-turn g c =
-    turn_entered c.fetch-place.ensures.looked c.requires.ready c.requires.known c.enter.new.pass _
+    turn_entered c.fetch-place.ensures.found.looked c.requires.begins.ready c.requires.begins.known
+    c.enter.new.pass _
     c.enter.ensures.frame c.enter.ensures.entered
     is_put None c.args.tree.now.tuning c.args.course.now _ changed.Absent refl _
-    c.fetch-place.ensures.loads
+    c.fetch-place.ensures.found.loads
 
 pub returns-then-not-f-clause-turn : goal.returns-then-not-f-clause-turn
 returns-then-not-f-clause-turn g c =
-    turn_entered c.fetch-place.ensures.looked c.requires.ready c.requires.known
+    turn_entered c.fetch-place.ensures.found.looked c.requires.begins.ready c.requires.begins.known
     c.enter-then-not-f.new.pass _ c.enter-then-not-f.ensures.frame
     c.enter-then-not-f.ensures.entered
     is_put None c.args.tree.now.tuning c.args.course.now _ changed.Kept refl _
-    c.fetch-place.ensures.loads
+    c.fetch-place.ensures.found.loads
 
 pub returns-in-Ok-put_there-clause-turn : goal.returns-in-Ok-put_there-clause-turn
 returns-in-Ok-put_there-clause-turn g c =
-    turn_edited c.fetch-place.ensures.looked c.requires.ready c.requires.known c.put_there.new.pass
+    turn_edited c.fetch-place.ensures.found.looked c.requires.begins.ready c.requires.begins.known
+    c.put_there.new.pass
     is_put (Some _) None
     c.args.tree.now.tuning c.args.course.now c.put_there.new.course _ changed.Put refl
-    c.in-Ok-put_there.ensures.edited.turn _ c.fetch-place.ensures.loads
+    c.in-Ok-put_there.ensures.edited.turn _ c.fetch-place.ensures.found.loads
 
 pub returns-in-Err-clause-few_rows : goal.returns-in-Err-clause-few_rows
-returns-in-Err-clause-few_rows g c = few_behind c.fetch-place.ensures.looked c.requires.ready
-    c.requires.known {T = Unit {0}} (Err c.in-Err.stop)
+returns-in-Err-clause-few_rows g c = few_behind c.fetch-place.ensures.found.looked
+    c.requires.begins.ready
+    c.requires.begins.known {T = Unit {0}} (Err c.in-Err.stop)
 
 pub returns-in-Err-clause-crowds : goal.returns-in-Err-clause-crowds
-returns-in-Err-clause-crowds g c = crowds_behind c.fetch-place.ensures.looked c.requires.ready
-    c.requires.known c.in-Err.stop c.put_there.new.pass c.in-Err.ensures.edited.crowds
+returns-in-Err-clause-crowds g c = crowds_behind c.fetch-place.ensures.found.looked
+    c.requires.begins.ready
+    c.requires.begins.known c.in-Err.stop c.put_there.new.pass c.in-Err.ensures.edited.crowds
 
 pub returns-in-Err-clause-turn : goal.returns-in-Err-clause-turn
 returns-in-Err-clause-turn g c =
-    turn_halted c.fetch-place.ensures.looked c.requires.ready c.requires.known c.put_there.new.pass
+    turn_halted c.fetch-place.ensures.found.looked c.requires.begins.ready c.requires.begins.known
+    c.put_there.new.pass
     is_put (Some _) None
     c.args.tree.now.tuning c.args.course.now c.put_there.new.course _ c.in-Err.stop
-    (λ e. absurd (c.in-Err.ensures.no_split (ap Err e))) c.in-Err.ensures.edited.turn _
-    c.fetch-place.ensures.loads
+    (λ e. absurd (c.in-Err.ensures.no_room.no_split (ap Err e))) c.in-Err.ensures.edited.turn _
+    c.fetch-place.ensures.found.loads
 
 pub returns-in-Err-clause-stays : goal.returns-in-Err-clause-stays
 returns-in-Err-clause-stays g c = let key : List ℕ = c.args.self.now.key.now in
@@ -265,18 +261,27 @@ returns-in-Err-clause-stays g c = let key : List ℕ = c.args.self.now.key.now i
     let l = left_of g.F.Fn c.args.self.now.f.now z.keypos key old c.f.result _ _ _ _ _
     c.if-not-f.false c.as_slice.ensures.value
     c.clear.ensures c.requires.may found.1 c.f.ensures in (
-      c.in-Err.ensures.edited.stays.0 ∙ c.fetch-place.ensures.looked.since,
+      c.in-Err.ensures.edited.stays.0 ∙ c.fetch-place.ensures.found.looked.since,
       subst (λ (q : Pair).
           BeginsAt z q.0 c.put_there.new.pass.seat.me.0.upper c.put_there.new.course.again)
           (pair_of_bytes c.as_slice-2.result.now c.f.new.arg3.items key
           c.f.new.arg4 c.as_slice-2.ensures.value l.key) c.in-Err.ensures.edited.stays.1,
-      λ e. c.in-Err.ensures.edited.stays.2 e ∙ c.fetch-place.ensures.met,
+      λ e. c.in-Err.ensures.edited.stays.2 e ∙ c.fetch-place.ensures.found.unfinished,
     )
 
-pub put_there-requires-clause-unanswered : goal.put_there-requires-clause-unanswered
-put_there-requires-clause-unanswered g c = c.fetch-place.ensures.looked.unanswered
-
-pub put_there-requires-clause-idle : goal.put_there-requires-clause-idle
-put_there-requires-clause-idle g c = idle_behind c.fetch-place.ensures.looked c.requires.ready
-    c.requires.known c.fetch-place.ensures.met
-    c.requires.idle
+pub put_there-requires-clause-may : goal.put_there-requires-clause-may
+put_there-requires-clause-may g c = record {
+  ready = ready_behind c.fetch-place.ensures.found.looked c.requires.begins.ready
+      c.requires.begins.known;
+  looking = let l = left g c in
+      subst (λ (q : Pair).
+      IsLooking c.args.tree.now.space.table.shared.key c.fetch-place.new.pass.seat.me.0.upper q.0
+      c.fetch-place.result.0)
+      (sym (pair_of_bytes c.as_slice-2.result.now c.f.new.arg3.items c.args.self.now.key.now
+      c.f.new.arg4 c.as_slice-2.ensures.value l.key))
+      c.fetch-place.ensures.found.looked.looking;
+  unanswered = c.fetch-place.ensures.found.looked.unanswered;
+  idle = idle_behind c.fetch-place.ensures.found.looked c.requires.begins.ready
+      c.requires.begins.known c.fetch-place.ensures.found.unfinished
+      c.requires.begins.idle;
+}

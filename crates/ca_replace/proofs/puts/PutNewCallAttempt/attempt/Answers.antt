@@ -17,8 +17,8 @@ enter-requires-clause-answer c = let o = c.args.self.now.keyed in
     c.find-place.result.0
     (slice_range o.object.now o.key_at o.key_end) o.object.now
     c.find-place.result.1 (sym c.is_ok.ensures.value
-    ∙ c.if-is_ok.true) c.find-place.ensures.looked.looking
-    c.find-place.ensures.looked.unanswered c.find-place.ensures.looked.place
+    ∙ c.if-is_ok.true) c.find-place.ensures.found.looked.looking
+    c.find-place.ensures.found.looked.unanswered c.find-place.ensures.found.looked.place
 
 pub returns-then-is_ok-clause-tried : goal.returns-then-is_ok-clause-tried
 returns-then-is_ok-clause-tried c = let o = c.args.self.now.keyed in
@@ -29,13 +29,11 @@ returns-then-is_ok-clause-tried c = let o = c.args.self.now.keyed in
     (e : Event). e ≡ WriteNew k o.object.now new) z (at_pin c.args.pass.now.seat.me.0.upper)
     c.find-place.new.pass.seat.me c.enter.new.pass.seat.me false event refl
     (further_since c.args.pass.now.seat.me.0.upper
-    c.find-place.new.pass.seat.me.0.upper c.requires.asking c.find-place.ensures.looked.further)
-    c.find-place.ensures.looked.looking.known
+    c.find-place.new.pass.seat.me.0.upper c.requires.begins.asking
+    c.find-place.ensures.found.looked.further)
+    c.find-place.ensures.found.looked.looking.known
     (since_before c.args.pass.now.seat.me.0.upper c.find-place.new.pass.seat.me.0.upper
-    c.find-place.ensures.looked.since) c.enter.ensures.entered
-
-pub find-place-requires-clause-unanswered : goal.find-place-requires-clause-unanswered
-find-place-requires-clause-unanswered c = c.requires.asking.unanswered
+    c.find-place.ensures.found.looked.since) c.enter.ensures.entered
 
 pub returns-in-Ok-clause-tried : goal.returns-in-Ok-clause-tried
 returns-in-Ok-clause-tried c = let o = c.args.self.now.keyed in
@@ -46,7 +44,8 @@ returns-in-Ok-clause-tried c = let o = c.args.self.now.keyed in
     (at_pin c.args.pass.now.seat.me.0.upper)
     c.find-place.new.pass.seat.me.0.upper c.put_there.new.pass.seat.me.0.upper refl
     (further_since c.args.pass.now.seat.me.0.upper
-    c.find-place.new.pass.seat.me.0.upper c.requires.asking c.find-place.ensures.looked.further)
+    c.find-place.new.pass.seat.me.0.upper c.requires.begins.asking
+    c.find-place.ensures.found.looked.further)
     c.in-Ok.ensures.edited.tried
 
 -- what an attempt came to
@@ -58,82 +57,89 @@ abbrev stopped_so : Halt → Result (Unit {0}) Halt
 stopped_so why = Err why
 
 pub returns-in-Err-clause-deep : goal.returns-in-Err-clause-deep
-returns-in-Err-clause-deep c deep = c.in-Err.ensures.full (ap stopped_so (ap why_of deep))
+returns-in-Err-clause-deep c deep = c.in-Err.ensures.no_room.full (ap stopped_so (ap why_of deep))
 
 pub returns-then-is_ok-clause-frame : goal.returns-then-is_ok-clause-frame
 returns-then-is_ok-clause-frame c =
-    frame_entered c.find-place.ensures.looked c.requires.ready c.requires.known c.enter.new.pass _
+    frame_entered c.find-place.ensures.found.looked c.requires.begins.ready c.requires.begins.known
+    c.enter.new.pass _
     c.enter.ensures.frame c.enter.ensures.entered
 
 pub returns-in-Ok-clause-frame : goal.returns-in-Ok-clause-frame
 returns-in-Ok-clause-frame c =
-    frame_behind c.find-place.ensures.looked c.requires.ready c.requires.known c.put_there.new.pass
+    frame_behind c.find-place.ensures.found.looked c.requires.begins.ready c.requires.begins.known
+    c.put_there.new.pass
     c.put_there.ensures.edited.frame
 
 pub returns-in-Err-clause-frame : goal.returns-in-Err-clause-frame
 returns-in-Err-clause-frame c =
-    frame_behind c.find-place.ensures.looked c.requires.ready c.requires.known c.put_there.new.pass
+    frame_behind c.find-place.ensures.found.looked c.requires.begins.ready c.requires.begins.known
+    c.put_there.new.pass
     c.put_there.ensures.edited.frame
 
 pub returns-in-Err-clause-tried : goal.returns-in-Err-clause-tried
 returns-in-Err-clause-tried c = (
   further_on c.args.pass.now.seat.me.0.upper c.find-place.new.pass.seat.me.0.upper
-      c.put_there.new.pass.seat.me.0.upper c.find-place.ensures.looked.further
+      c.put_there.new.pass.seat.me.0.upper c.find-place.ensures.found.looked.further
       c.in-Err.ensures.edited.tried.0,
   c.in-Err.ensures.edited.tried.1,
 )
 
-pub put_there-requires-clause-ready : goal.put_there-requires-clause-ready
-put_there-requires-clause-ready c =
-    ready_behind c.find-place.ensures.looked c.requires.ready c.requires.known
-
 pub returns-then-is_ok-clause-turn : goal.returns-then-is_ok-clause-turn
 returns-then-is_ok-clause-turn c =
-    turn_entered c.find-place.ensures.looked c.requires.ready c.requires.known c.enter.new.pass _
+    turn_entered c.find-place.ensures.found.looked c.requires.begins.ready c.requires.begins.known
+    c.enter.new.pass _
     c.enter.ensures.frame c.enter.ensures.entered
     (λ (new : Bool). new) (Some (slice_range c.args.self.now.keyed.object.now
     c.args.self.now.keyed.key_at c.args.self.now.keyed.key_end)) c.args.tree.now.tuning
-    c.args.course.now _ false refl _ c.find-place.ensures.loads
+    c.args.course.now _ false refl _ c.find-place.ensures.found.loads
 
 pub returns-in-Ok-clause-turn : goal.returns-in-Ok-clause-turn
 returns-in-Ok-clause-turn c =
-    turn_edited c.find-place.ensures.looked c.requires.ready c.requires.known c.put_there.new.pass
+    turn_edited c.find-place.ensures.found.looked c.requires.begins.ready c.requires.begins.known
+    c.put_there.new.pass
     (λ (new : Bool). new) (Some (slice_range c.args.self.now.keyed.object.now
     c.args.self.now.keyed.key_at c.args.self.now.keyed.key_end))
     (Some (slice_range c.args.self.now.keyed.object.now c.args.self.now.keyed.key_at
     c.args.self.now.keyed.key_end))
     c.args.tree.now.tuning c.args.course.now c.put_there.new.course _ true refl
-    c.in-Ok.ensures.edited.turn _ c.find-place.ensures.loads
+    c.in-Ok.ensures.edited.turn _ c.find-place.ensures.found.loads
 
 pub returns-in-Err-clause-few_rows : goal.returns-in-Err-clause-few_rows
-returns-in-Err-clause-few_rows c = few_behind c.find-place.ensures.looked c.requires.ready
-    c.requires.known {T = Unit {0}} (Err c.in-Err.stop)
+returns-in-Err-clause-few_rows c = few_behind c.find-place.ensures.found.looked
+    c.requires.begins.ready
+    c.requires.begins.known {T = Unit {0}} (Err c.in-Err.stop)
 
 pub returns-in-Err-clause-crowds : goal.returns-in-Err-clause-crowds
-returns-in-Err-clause-crowds c = crowds_behind c.find-place.ensures.looked c.requires.ready
-    c.requires.known c.in-Err.stop c.put_there.new.pass c.in-Err.ensures.edited.crowds
+returns-in-Err-clause-crowds c = crowds_behind c.find-place.ensures.found.looked
+    c.requires.begins.ready
+    c.requires.begins.known c.in-Err.stop c.put_there.new.pass c.in-Err.ensures.edited.crowds
 
 pub returns-in-Err-clause-turn : goal.returns-in-Err-clause-turn
 returns-in-Err-clause-turn c =
-    turn_halted c.find-place.ensures.looked c.requires.ready c.requires.known c.put_there.new.pass
+    turn_halted c.find-place.ensures.found.looked c.requires.begins.ready c.requires.begins.known
+    c.put_there.new.pass
     (λ (new : Bool). new) (Some (slice_range c.args.self.now.keyed.object.now
     c.args.self.now.keyed.key_at c.args.self.now.keyed.key_end))
     (Some (slice_range c.args.self.now.keyed.object.now c.args.self.now.keyed.key_at
     c.args.self.now.keyed.key_end))
     c.args.tree.now.tuning c.args.course.now c.put_there.new.course _ c.in-Err.stop (λ _. refl)
-    c.in-Err.ensures.edited.turn _ c.find-place.ensures.loads
+    c.in-Err.ensures.edited.turn _ c.find-place.ensures.found.loads
 
 pub returns-in-Err-clause-stays : goal.returns-in-Err-clause-stays
 returns-in-Err-clause-stays c = (
-  c.in-Err.ensures.edited.stays.0 ∙ c.find-place.ensures.looked.since,
+  c.in-Err.ensures.edited.stays.0 ∙ c.find-place.ensures.found.looked.since,
   c.in-Err.ensures.edited.stays.1,
-  λ e. c.in-Err.ensures.edited.stays.2 e ∙ c.find-place.ensures.met,
+  λ e. c.in-Err.ensures.edited.stays.2 e ∙ c.find-place.ensures.found.unfinished,
 )
 
-pub put_there-requires-clause-unanswered : goal.put_there-requires-clause-unanswered
-put_there-requires-clause-unanswered c = c.find-place.ensures.looked.unanswered
-
-pub put_there-requires-clause-idle : goal.put_there-requires-clause-idle
-put_there-requires-clause-idle c = idle_behind c.find-place.ensures.looked c.requires.ready
-    c.requires.known c.find-place.ensures.met
-    c.requires.idle
+pub put_there-requires-clause-may : goal.put_there-requires-clause-may
+put_there-requires-clause-may c = record {
+  ready = ready_behind c.find-place.ensures.found.looked c.requires.begins.ready
+      c.requires.begins.known;
+  looking = c.find-place.ensures.found.looked.looking;
+  unanswered = c.find-place.ensures.found.looked.unanswered;
+  idle = idle_behind c.find-place.ensures.found.looked c.requires.begins.ready
+      c.requires.begins.known c.find-place.ensures.found.unfinished
+      c.requires.begins.idle;
+}

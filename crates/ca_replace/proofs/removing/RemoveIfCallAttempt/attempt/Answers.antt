@@ -20,9 +20,6 @@ use Rattle.ca_replace.proofs.Entries.{read_by}
 use Rattle.ca_replace.proofs.Behind.{crowds_behind, few_behind, frame_behind, frame_entered, ready_behind, turn_edited, turn_entered, turn_halted, idle_behind}
 use Rattle.ca_replace.proofs.removing.RemoveIfCallAttempt.attempt.Goals as goal
 
-pub fetch-place-requires-clause-unanswered : goal.fetch-place-requires-clause-unanswered
-fetch-place-requires-clause-unanswered g c = c.requires.asking.unanswered
-
 pub enter-requires-clause-answer : goal.enter-requires-clause-answer
 enter-requires-clause-answer g c = let key : List ℕ = c.args.self.now.key.now in
     let w = c.fetch-place.new.pass.seat.me.0.upper in
@@ -30,7 +27,7 @@ enter-requires-clause-answer g c = let key : List ℕ = c.args.self.now.key.now 
     (λ (p : Result ℕ ℕ).
     HasFetched c.args.tree.now.space.table.shared.key w key p c.fetch-place.new.old.items)
     c.in_default.is c.fetch-place.ensures.fetched in
-    read_by w (Get key None) c.fetch-place.ensures.looked.unanswered refl none.0
+    read_by w (Get key None) c.fetch-place.ensures.found.looked.unanswered refl none.0
 
 pub enter-requires-then-not-f-clause-answer : goal.enter-requires-then-not-f-clause-answer
 enter-requires-then-not-f-clause-answer g c = let key : List ℕ = c.args.self.now.key.now in
@@ -41,7 +38,7 @@ enter-requires-then-not-f-clause-answer g c = let key : List ℕ = c.args.self.n
     c.fetch-place.ensures.fetched in
     subst (λ (o : List ℕ). IsReadSince (Get key (Some o)) w)
     (sym c.as_slice-then-not-f.ensures.value)
-    (read_by w (Get key (Some old)) c.fetch-place.ensures.looked.unanswered refl found.0)
+    (read_by w (Get key (Some old)) c.fetch-place.ensures.found.looked.unanswered refl found.0)
 
 pub returns-in_default-clause-tried : goal.returns-in_default-clause-tried
 returns-in_default-clause-tried g c = let key : List ℕ = c.args.self.now.key.now in
@@ -58,10 +55,11 @@ returns-in_default-clause-tried g c = let key : List ℕ = c.args.self.now.key.n
       refl,
       none.1,
     ) (further_since c.args.pass.now.seat.me.0.upper
-    c.fetch-place.new.pass.seat.me.0.upper c.requires.asking c.fetch-place.ensures.looked.further)
-    c.fetch-place.ensures.looked.looking.known
+    c.fetch-place.new.pass.seat.me.0.upper c.requires.begins.asking
+    c.fetch-place.ensures.found.looked.further)
+    c.fetch-place.ensures.found.looked.looking.known
     (since_before c.args.pass.now.seat.me.0.upper c.fetch-place.new.pass.seat.me.0.upper
-    c.fetch-place.ensures.looked.since) c.enter.ensures.entered
+    c.fetch-place.ensures.found.looked.since) c.enter.ensures.entered
 
 pub f-requires : goal.f-requires
 f-requires g c = let z = c.args.tree.now.space.table.shared.key in
@@ -93,10 +91,11 @@ returns-then-not-f-clause-tried g c = let key : List ℕ = c.args.self.now.key.n
       refl,
     )
     (further_since c.args.pass.now.seat.me.0.upper
-    c.fetch-place.new.pass.seat.me.0.upper c.requires.asking c.fetch-place.ensures.looked.further)
-    c.fetch-place.ensures.looked.looking.known
+    c.fetch-place.new.pass.seat.me.0.upper c.requires.begins.asking
+    c.fetch-place.ensures.found.looked.further)
+    c.fetch-place.ensures.found.looked.looking.known
     (since_before c.args.pass.now.seat.me.0.upper c.fetch-place.new.pass.seat.me.0.upper
-    c.fetch-place.ensures.looked.since)
+    c.fetch-place.ensures.found.looked.since)
     (subst (λ (o : List ℕ). IsEntered (Get key (Some o)) c.fetch-place.new.pass.seat.me
     c.enter-then-not-f.new.pass.seat.me) c.as_slice-then-not-f.ensures.value
     c.enter-then-not-f.ensures.entered)
@@ -105,7 +104,7 @@ pub remove_there-requires-clause-place : goal.remove_there-requires-clause-place
 remove_there-requires-clause-place g c =
     let m = map pair (first_note c.fetch-place.new.pass.seat.me.0.upper.notes).objects in
     subst (λ (p : Result ℕ ℕ).
-    IsPlace m c.args.self.now.key.now p) c.in-Ok.is c.fetch-place.ensures.looked.place
+    IsPlace m c.args.self.now.key.now p) c.in-Ok.is c.fetch-place.ensures.found.looked.place
 
 pub returns-in-Ok-remove_there-clause-tried : goal.returns-in-Ok-remove_there-clause-tried
 returns-in-Ok-remove_there-clause-tried g c = let key : List ℕ = c.args.self.now.key.now in
@@ -126,90 +125,94 @@ returns-in-Ok-remove_there-clause-tried g c = let key : List ℕ = c.args.self.n
       λ i. Remove key (Some (found.2 i)),
     )
     (further_since c.args.pass.now.seat.me.0.upper
-    c.fetch-place.new.pass.seat.me.0.upper c.requires.asking c.fetch-place.ensures.looked.further)
+    c.fetch-place.new.pass.seat.me.0.upper c.requires.begins.asking
+    c.fetch-place.ensures.found.looked.further)
     c.in-Ok-remove_there.ensures.edited.tried
 
 pub returns-in_default-clause-frame : goal.returns-in_default-clause-frame
 returns-in_default-clause-frame g c =
-    frame_entered c.fetch-place.ensures.looked c.requires.ready c.requires.known c.enter.new.pass _
+    frame_entered c.fetch-place.ensures.found.looked c.requires.begins.ready c.requires.begins.known
+    c.enter.new.pass _
     c.enter.ensures.frame c.enter.ensures.entered
 
 pub returns-then-not-f-clause-frame : goal.returns-then-not-f-clause-frame
 returns-then-not-f-clause-frame g c =
-    frame_entered c.fetch-place.ensures.looked c.requires.ready c.requires.known
+    frame_entered c.fetch-place.ensures.found.looked c.requires.begins.ready c.requires.begins.known
     c.enter-then-not-f.new.pass _ c.enter-then-not-f.ensures.frame
     c.enter-then-not-f.ensures.entered
 
 pub returns-in-Ok-remove_there-clause-frame : goal.returns-in-Ok-remove_there-clause-frame
 returns-in-Ok-remove_there-clause-frame g c =
-    frame_behind c.fetch-place.ensures.looked c.requires.ready c.requires.known
+    frame_behind c.fetch-place.ensures.found.looked c.requires.begins.ready c.requires.begins.known
     c.remove_there.new.pass c.remove_there.ensures.edited.frame
 
 pub returns-in-Err-clause-frame : goal.returns-in-Err-clause-frame
 returns-in-Err-clause-frame g c =
-    frame_behind c.fetch-place.ensures.looked c.requires.ready c.requires.known
+    frame_behind c.fetch-place.ensures.found.looked c.requires.begins.ready c.requires.begins.known
     c.remove_there.new.pass c.remove_there.ensures.edited.frame
 
 pub returns-in-Err-clause-tried : goal.returns-in-Err-clause-tried
 returns-in-Err-clause-tried g c = (
   further_on c.args.pass.now.seat.me.0.upper c.fetch-place.new.pass.seat.me.0.upper
-      c.remove_there.new.pass.seat.me.0.upper c.fetch-place.ensures.looked.further
+      c.remove_there.new.pass.seat.me.0.upper c.fetch-place.ensures.found.looked.further
       c.in-Err.ensures.edited.tried.0,
   c.in-Err.ensures.edited.tried.1,
 )
 
-pub remove_there-requires-clause-ready : goal.remove_there-requires-clause-ready
-remove_there-requires-clause-ready g c =
-    ready_behind c.fetch-place.ensures.looked c.requires.ready c.requires.known
-
 pub returns-in_default-clause-turn : goal.returns-in_default-clause-turn
 returns-in_default-clause-turn g c =
-    turn_entered c.fetch-place.ensures.looked c.requires.ready c.requires.known c.enter.new.pass _
+    turn_entered c.fetch-place.ensures.found.looked c.requires.begins.ready c.requires.begins.known
+    c.enter.new.pass _
     c.enter.ensures.frame c.enter.ensures.entered
     is_put None c.args.tree.now.tuning c.args.course.now _ changed.Absent refl _
-    c.fetch-place.ensures.loads
+    c.fetch-place.ensures.found.loads
 
 pub returns-then-not-f-clause-turn : goal.returns-then-not-f-clause-turn
 returns-then-not-f-clause-turn g c =
-    turn_entered c.fetch-place.ensures.looked c.requires.ready c.requires.known
+    turn_entered c.fetch-place.ensures.found.looked c.requires.begins.ready c.requires.begins.known
     c.enter-then-not-f.new.pass _ c.enter-then-not-f.ensures.frame
     c.enter-then-not-f.ensures.entered
     is_put None c.args.tree.now.tuning c.args.course.now _ changed.Kept refl _
-    c.fetch-place.ensures.loads
+    c.fetch-place.ensures.found.loads
 
 pub returns-in-Ok-remove_there-clause-turn : goal.returns-in-Ok-remove_there-clause-turn
 returns-in-Ok-remove_there-clause-turn g c =
-    turn_edited c.fetch-place.ensures.looked c.requires.ready c.requires.known
+    turn_edited c.fetch-place.ensures.found.looked c.requires.begins.ready c.requires.begins.known
     c.remove_there.new.pass is_put None None
     c.args.tree.now.tuning c.args.course.now c.remove_there.new.course _ changed.Put refl
-    c.in-Ok-remove_there.ensures.edited.turn _ c.fetch-place.ensures.loads
+    c.in-Ok-remove_there.ensures.edited.turn _ c.fetch-place.ensures.found.loads
 
 pub returns-in-Err-clause-few_rows : goal.returns-in-Err-clause-few_rows
-returns-in-Err-clause-few_rows g c = few_behind c.fetch-place.ensures.looked c.requires.ready
-    c.requires.known {T = Unit {0}} (Err c.in-Err.stop)
+returns-in-Err-clause-few_rows g c = few_behind c.fetch-place.ensures.found.looked
+    c.requires.begins.ready
+    c.requires.begins.known {T = Unit {0}} (Err c.in-Err.stop)
 
 pub returns-in-Err-clause-crowds : goal.returns-in-Err-clause-crowds
-returns-in-Err-clause-crowds g c = crowds_behind c.fetch-place.ensures.looked c.requires.ready
-    c.requires.known c.in-Err.stop c.remove_there.new.pass c.in-Err.ensures.edited.crowds
+returns-in-Err-clause-crowds g c = crowds_behind c.fetch-place.ensures.found.looked
+    c.requires.begins.ready
+    c.requires.begins.known c.in-Err.stop c.remove_there.new.pass c.in-Err.ensures.edited.crowds
 
 pub returns-in-Err-clause-turn : goal.returns-in-Err-clause-turn
 returns-in-Err-clause-turn g c =
-    turn_halted c.fetch-place.ensures.looked c.requires.ready c.requires.known
+    turn_halted c.fetch-place.ensures.found.looked c.requires.begins.ready c.requires.begins.known
     c.remove_there.new.pass is_put None None
     c.args.tree.now.tuning c.args.course.now c.remove_there.new.course _ c.in-Err.stop (λ _. refl)
-    c.in-Err.ensures.edited.turn _ c.fetch-place.ensures.loads
+    c.in-Err.ensures.edited.turn _ c.fetch-place.ensures.found.loads
 
 pub returns-in-Err-clause-stays : goal.returns-in-Err-clause-stays
 returns-in-Err-clause-stays g c = (
-  c.in-Err.ensures.edited.stays.0 ∙ c.fetch-place.ensures.looked.since,
+  c.in-Err.ensures.edited.stays.0 ∙ c.fetch-place.ensures.found.looked.since,
   c.in-Err.ensures.edited.stays.1,
-  λ e. c.in-Err.ensures.edited.stays.2 e ∙ c.fetch-place.ensures.met,
+  λ e. c.in-Err.ensures.edited.stays.2 e ∙ c.fetch-place.ensures.found.unfinished,
 )
 
-pub remove_there-requires-clause-unanswered : goal.remove_there-requires-clause-unanswered
-remove_there-requires-clause-unanswered g c = c.fetch-place.ensures.looked.unanswered
-
-pub remove_there-requires-clause-idle : goal.remove_there-requires-clause-idle
-remove_there-requires-clause-idle g c = idle_behind c.fetch-place.ensures.looked c.requires.ready
-    c.requires.known c.fetch-place.ensures.met
-    c.requires.idle
+pub remove_there-requires-clause-may : goal.remove_there-requires-clause-may
+remove_there-requires-clause-may g c = record {
+  ready = ready_behind c.fetch-place.ensures.found.looked c.requires.begins.ready
+      c.requires.begins.known;
+  looking = c.fetch-place.ensures.found.looked.looking;
+  unanswered = c.fetch-place.ensures.found.looked.unanswered;
+  idle = idle_behind c.fetch-place.ensures.found.looked c.requires.begins.ready
+      c.requires.begins.known c.fetch-place.ensures.found.unfinished
+      c.requires.begins.idle;
+}
