@@ -3,7 +3,6 @@
 use Rattle.std.proofs.Common.{◌≡◌, ◌⊎◌, ℕ, ◌+◌, ◌*◌, ◌<◌, ◌≤◌, length, Result, Ok, Err, Vec, inr, ⊎_elim, sym, refl, ap, ◌∙◌, subst, arith}
 use Rattle.std.specs.Global.{Global}
 use Rattle.ca_base.specs.Counting.{losses}
-use Rattle.ca_model.specs.Answer.{IfDone, IfRefused}
 use Rattle.ca_model.specs.Event.{Event}
 use Rattle.ca_model.specs.declared.outcome.Cause.{Cause}
 use Rattle.ca_model.specs.declared.outcome.Cause.TheVariants as cause
@@ -25,7 +24,7 @@ use Rattle.ca_replace.specs.declared.missing.Miss.{Miss}
 use Rattle.ca_replace.specs.declared.missing.Miss.TheVariants as miss
 use Rattle.ca_replace.specs.Alone.{IsCrowdedCause, IsNeverBusy, IsShortOfRows}
 use Rattle.ca_replace.specs.Causes.{IfCaused, IsRefill}
-use Rattle.ca_replace.specs.Leaving.{HasLeft, IsLeftAlone}
+use Rattle.ca_replace.specs.Leaving.{HasLeft}
 use Rattle.ca_replace.specs.LoneReads.{GoesLeftAlone, HasMissedAlone, LooksAlone, PassesAlone, ReadsAloneTo, bases_at}
 use Rattle.ca_replace.specs.Ranging.{IsRangeCaused, cause_of}
 use Rattle.ca_replace.specs.Refusals.{outcome_by}
@@ -268,25 +267,14 @@ refused_other z more u why spent c is = subst (λ (x : Cause). IsCrowdedCause z 
     by (miss.Worn counter) = tt
 
 -- Behind such a call the pass rests, and lost nothing by that.
-pub rests_alone : {T : Type 0} (z : Sizes) (o : Outcome T) (k m p : MyTree)
-    (kept kept' : Vec Kept Global) → p.0.lost ≡ 0 → p.0.pin.left.lost ≤ p.0.lost
-    → IfDone o (λ _. HasLeft m p kept') → IfRefused o (λ _. IsLeftAlone m p kept kept')
-    → ReadsAloneTo z o k m → ReadsAloneTo z o k p
-rests_alone z (outcome.Done x) k m p kept kept' none before l a h = let left = l.left in (
-  passes_then (4 * bases_at k) k m p h.0 (passes_still m p
-      (lone_losses m p (omega arith) none (ap (λ (u : TreeView). u.lost) l.upper))
-      (ap (λ (u : TreeView). u.turns) l.upper)
-      (ap (λ (u : TreeView). u.inventory) l.upper) (ap (λ (u : TreeView). u.seen) l.upper)),
-  tt,
-)
-rests_alone z (outcome.Busy s) k m p kept kept' none before l a h =
-    subst (λ (x : MyTree). PassesAlone (4 * bases_at k) k x × Unit {0}) (sym a.known) h
-rests_alone z (outcome.Full s) k m p kept kept' none before l a h =
-    (subst (λ (x : MyTree). PassesAlone (4 * bases_at k) k x) (sym a.known) h.0, h.1)
-rests_alone z (outcome.Deep s) k m p kept kept' none before l a h =
-    subst (λ (x : MyTree). PassesAlone (4 * bases_at k) k x × Unit {0}) (sym a.known) h
-rests_alone z (outcome.Worn s) k m p kept kept' none before l a h =
-    subst (λ (x : MyTree). PassesAlone (4 * bases_at k) k x × Unit {0}) (sym a.known) h
+pub left_alone : (z : Sizes) (k m p : MyTree) (kept' : Vec Kept Global) → p.0.lost ≡ 0
+    → p.0.pin.left.lost ≤ p.0.lost → HasLeft m p kept' → PassesAlone (4 * bases_at k) k m
+    → PassesAlone (4 * bases_at k) k p
+left_alone z k m p kept' none before l h = let left = l.left in
+    passes_then (4 * bases_at k) k m p h (passes_still m p
+    (lone_losses m p (omega arith) none (ap (λ (u : TreeView). u.lost) l.upper))
+    (ap (λ (u : TreeView). u.turns) l.upper)
+    (ap (λ (u : TreeView). u.inventory) l.upper) (ap (λ (u : TreeView). u.seen) l.upper))
 
 -- It isn't refused for its turns by a budget of four for each base and some.
 pub read_never_busy : {T : Type 0} (Needs : Note → Type 0) (z : Sizes) (number budget : ℕ)

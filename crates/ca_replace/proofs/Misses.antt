@@ -1,6 +1,6 @@
 -- Attempts of calls that read ranges, one behind another: what they met and learnt, and why such a
 -- call is refused.
-use Rattle.std.proofs.Common.{◌≡◌, ℕ, ◌≤◌, [], Vec, vec_len, Result, Ok, Err, IfErr, IfOk, inl, sym, refl, ap, ◌∙◌, subst, ⊎_elim, arith}
+use Rattle.std.proofs.Common.{◌≡◌, ℕ, ◌≤◌, [], Vec, vec_len, Result, Ok, Err, inl, sym, refl, ap, ◌∙◌, subst, ⊎_elim, arith}
 use Rattle.std.specs.declared.option.Option.TheVariants.{None as Nothing}
 use Rattle.std.specs.Global.{Global}
 use Rattle.ca_base.proofs.Counts.{met_both}
@@ -295,12 +295,3 @@ pub further_pinned : (told moment : ℕ) (k m : MyTree) → m ≡ announced told
 further_pinned told moment k m is = let u = k.0.upper in
     moved_further k m (announced told moment k).0.pin u.seen [] []
     (announced told moment k).0.upper.ranges is
-
--- What follows where something came of an attempt, and where nothing did.
-pub ok_then : {T E P Q : Type 0} (r : Result T E) → (P → Q) → IfOk r (λ _. P) → IfOk r (λ _. Q)
-ok_then (Ok x) f p = f p
-ok_then (Err why) f p = tt
-
-pub err_then : {T E P Q : Type 0} (r : Result T E) → (P → Q) → IfErr r (λ _. P) → IfErr r (λ _. Q)
-err_then (Ok x) f p = tt
-err_then (Err why) f p = f p

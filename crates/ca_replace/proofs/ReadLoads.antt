@@ -1,10 +1,7 @@
 -- How many links the attempts of a call load that reads what is within edges, one behind the other.
-use Rattle.std.proofs.Common.{◌≡◌, Bool, ℕ, ◌+◌, ◌-◌, ◌*◌, ◌≤◌, Vec, sym, ap, subst, ⊎_elim, arith}
+use Rattle.std.proofs.Common.{◌≡◌, Bool, ℕ, ◌+◌, ◌*◌, ◌≤◌, Vec, ap, ⊎_elim, arith}
 use Rattle.std.proofs.Math.Nat.{mul-le-mul_left}
 use Rattle.std.specs.Global.{Global}
-use Rattle.ca_model.specs.Answer.{IfDone, IfRefused}
-use Rattle.ca_model.specs.declared.outcome.Outcome.{Outcome}
-use Rattle.ca_model.specs.declared.outcome.Outcome.TheVariants as outcome
 use Rattle.ca_model.specs.declared.outcome.Spent.{Spent}
 use Rattle.ca_node.specs.declared.cursor.Cursor.{Cursor}
 use Rattle.ca_node.specs.declared.cursor.Spot.{Spot}
@@ -15,7 +12,7 @@ use Rattle.ca_range.specs.Clearing.{turns_at}
 use Rattle.ca_range.specs.Loading.{snapshot_loads}
 use Rattle.ca_replace.specs.Aside.{HasLookedAside, HasLookedLeft}
 use Rattle.ca_replace.specs.Bounded.{pinned_in, spent_in}
-use Rattle.ca_replace.specs.Leaving.{HasLeft, IsLeftAlone}
+use Rattle.ca_replace.specs.Leaving.{HasLeft}
 use Rattle.ca_replace.specs.Loading.{LoadsFew, LoadsInLook, LoadsInRead, read_loads}
 use Rattle.ca_replace.proofs.Loads.{at_least, both_times}
 use Rattle.ca_replace.proofs.LooksLeft.{left_behind}
@@ -131,23 +128,11 @@ read_refused z k m n loads pin turns few = loads_still z k m n loads (ap (λ (x 
     (omega arith) few
 
 -- The pass rests behind it.
-module _ (z : Sizes) (k m n : MyTree) (kept kept' : Vec Kept Global) where
-  left_loads : HasLeft m n kept' → n.0.pin.left.lost ≤ n.0.lost → LoadsInRead z k m
+module _ (z : Sizes) (k m n : MyTree) (kept' : Vec Kept Global) where
+  pub left_loads : HasLeft m n kept' → n.0.pin.left.lost ≤ n.0.lost → LoadsInRead z k m
       → LoadsInRead z k n
   left_loads l lost few = let links = ap (λ (u : TreeView). u.lost) l.upper in
       let before = l.left in
       let helped = ap (λ (u : TreeView). u.turns.helped) l.upper in
       let passed = ap (λ (u : TreeView). u.turns.passed) l.upper in
       loads_still z k m n (ap (λ (u : TreeView). u.loads) l.upper) l.bounded.0 (omega arith) few
-
-  alone_loads : IsLeftAlone m n kept kept' → LoadsInRead z k m → LoadsInRead z k n
-  alone_loads a few = subst (λ (x : MyTree). LoadsInRead z k x) (sym a.known) few
-
-  pub rests_loads : {T : Type 0} (o : Outcome T) → IfDone o (λ _. HasLeft m n kept')
-      → IfRefused o (λ _. IsLeftAlone m n kept kept')
-      → n.0.pin.left.lost ≤ n.0.lost → LoadsInRead z k m → LoadsInRead z k n
-  rests_loads (outcome.Done x) l a lost few = left_loads l lost few
-  rests_loads (outcome.Busy s) l a lost few = alone_loads a few
-  rests_loads (outcome.Full s) l a lost few = alone_loads a few
-  rests_loads (outcome.Deep s) l a lost few = alone_loads a few
-  rests_loads (outcome.Worn s) l a lost few = alone_loads a few

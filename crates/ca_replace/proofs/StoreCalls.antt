@@ -3,24 +3,27 @@ use Rattle.std.proofs.Common.{◌≡◌, ℕ, refl, sym, ap, subst, ◌∙◌}
 use Rattle.std.specs.Prelude.{List, None, vec_len}
 use Rattle.arrayvec.specs.ArrayVec.{ArrayVec}
 use Rattle.ca_model.specs.declared.outcome.Outcome.{Outcome}
+use Rattle.ca_model.specs.declared.outcome.Outcome.TheVariants as outcome
 use Rattle.ca_model.specs.Answer.{IfDone, IfRefused}
 use Rattle.ca_model.specs.Event.{Event}
 use Rattle.ca_model.specs.Known.{Declines, Known}
 use Rattle.ca_base.specs.Progress.{IsRefused}
+use Rattle.ca_node.specs.declared.rule.TreeRule.{TreeRule}
 use Rattle.ca_node.specs.Told.{IsKnown}
 use Rattle.ca_node.specs.States.{IsAlone}
 use Rattle.ca_node.specs.TreeView.{Note, Renewal, Tries, TreeView}
 use Rattle.ca_replace.specs.declared.adapting.Last.{Last}
 use Rattle.ca_replace.specs.declared.store.TreeStore.TheInside.{Inside}
+use Rattle.ca_replace.specs.declared.tree.Tree.{Tree}
 use Rattle.ca_replace.specs.Acts.{acts_of}
 use Rattle.ca_replace.specs.Attempting.{HasDoneSuch}
 use Rattle.ca_replace.specs.Bounded.{IsBounded}
 use Rattle.ca_replace.specs.Causes.{IsSparing}
 use Rattle.ca_replace.specs.Loading.{LoadsInRead}
 use Rattle.ca_replace.specs.LoneReads.{ReadsAloneTo}
-use Rattle.ca_replace.specs.Ranging.{HasRangeCause}
+use Rattle.ca_replace.specs.Ranging.{HasDoneOnce, HasRangeCause}
 use Rattle.ca_replace.specs.Resting.{IsBetween, Rests, StoreAndRun, StoreView, known_of, knows, run_left}
-use Rattle.ca_replace.specs.Seen.{store_of}
+use Rattle.ca_replace.specs.Seen.{HasReadBy, store_of}
 use Rattle.ca_replace.specs.StoreView.{IsStore, view_of}
 use Rattle.ca_replace.specs.TreePromises.{HasRead, WasInBudget}
 use Rattle.ca_replace.proofs.Alone.{alone_at, first_number, lone_read}
@@ -117,26 +120,36 @@ module _ (inside : Inside) {old : StoreAndRun} (is : view_of inside ≡ old)
         inside.tree.now.space.table.shared.key o inside.pass.seat.me.0.upper
         new.seat.me.0.upper (rests_first between).known known refused)
 
+-- A call was done, by what the pass knew as it came to its answer.
+pub done_once : {R T : Type 0} (P : T → Event → Type 0) (pass new : Pass R TreeView) (o : Outcome T)
+    → IfDone o (λ x. HasDoneOnce (λ _. P x) pass new)
+    → IfDone o (λ x. HasDoneSuch (P x) pass.seat.me.0.upper new.seat.me.0.upper)
+done_once P pass new (outcome.Done x) h = h.1
+done_once P pass new (outcome.Busy s) h = tt
+done_once P pass new (outcome.Full s) h = tt
+done_once P pass new (outcome.Deep s) h = tt
+done_once P pass new (outcome.Worn s) h = tt
+
 -- A call that reads what is within edges.
-module _ (inside : Inside) {R : Type 0} (new : Pass R TreeView) (Needs : Note → Type 0)
+module _ (tree : Tree) {R : Type 0} (pass new : Pass R TreeView) (last : Last) (Needs : Note → Type
+    0)
     (budget : ℕ) {T : Type 0} (o : Outcome T) where
   abbrev first : StoreView
-  first = store_of inside.tree.now inside.pass inside.last
+  first = store_of tree pass last
 
   abbrev then : StoreView
-  then = store_of inside.tree.now new inside.last
+  then = store_of tree new last
 
-  pub has_read : Rests first → new.number ≡ inside.pass.number
-      → acts_of new.seat.me.0.upper ≡ acts_of inside.pass.seat.me.0.upper
+  pub has_read : Rests first → new.number ≡ pass.number
+      → acts_of new.seat.me.0.upper ≡ acts_of pass.seat.me.0.upper
       → HasRangeCause Needs budget first then o
-      → (IsAlone first.z inside.pass.seat.me.0.upper
-      → ReadsAloneTo first.z o inside.pass.seat.me new.seat.me)
-      → IsBounded (vec_len inside.pass.kept.rows) inside.pass.seat.me new.seat.me
-      → LoadsInRead first.z inside.pass.seat.me new.seat.me
+      → (IsAlone first.z pass.seat.me.0.upper
+      → ReadsAloneTo first.z o pass.seat.me new.seat.me)
+      → IsBounded (vec_len pass.kept.rows) pass.seat.me new.seat.me
+      → LoadsInRead first.z pass.seat.me new.seat.me
       → HasRead Needs budget first then o
-  has_read resting number acts caused alone bounded loads = let pass = inside.pass in
-      let z = inside.tree.now.space.table.shared.key in
-      let table = inside.tree.now.space.table.shared.table_id in
+  has_read resting number acts caused alone bounded loads = let z = tree.space.table.shared.key in
+      let table = tree.space.table.shared.table_id in
       let reads = λ (one : z.passes ≡ 1).
       alone (alone_at table z pass.number pass.tally pass.kept.rows pass.seat resting one) in record {
         unchanged = record {
@@ -160,11 +173,14 @@ module _ (inside : Inside) {R : Type 0} (new : Pass R TreeView) (Needs : Note �
         loads = loads;
       }
 
-  -- So the store's contract says it of a call that leaves the pass at rest.
-  pub read_promised : {old : StoreAndRun} → view_of inside ≡ old → HasRead Needs budget first then o
-      → IsSparing first then → WasInBudget budget first then o
-      → HasRead Needs budget old.store then o × IsSparing old.store then
-      × WasInBudget budget old.store then o
-  read_promised is read sparing unspent = subst (λ (s : StoreAndRun).
-      HasRead Needs budget s.store then o × IsSparing s.store then
-      × WasInBudget budget s.store then o) is (read, sparing, unspent)
+-- So the store's contract says it of a call that leaves the pass at rest.
+pub read_promised : (inside : Inside) (new : Pass TreeRule TreeView) (Needs : Note → Type 0)
+    (budget : ℕ) {T : Type 0} (o : Outcome T) {old : StoreAndRun} → view_of inside ≡ old
+    → HasReadBy Needs budget inside.tree.now inside.pass new inside.last o
+    → HasRead Needs budget old.store (store_of inside.tree.now new inside.last) o
+    × IsSparing old.store (store_of inside.tree.now new inside.last)
+    × WasInBudget budget old.store (store_of inside.tree.now new inside.last) o
+read_promised inside new Needs budget o is told = let then = store_of inside.tree.now new
+    inside.last in
+    subst (λ (s : StoreAndRun). HasRead Needs budget s.store then o × IsSparing s.store then
+    × WasInBudget budget s.store then o) is told

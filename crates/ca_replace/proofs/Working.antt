@@ -1,5 +1,5 @@
 -- Passes at work in a call that reads a range: from when they rested until they rest again.
-use Rattle.std.proofs.Common.{◌≡◌, ◌⊎◌, ◌≤◌, ℕ, ◌<◌, le_refl, [], Bool, List, Option, sym, refl, ap, ◌∙◌, subst, ⊎_elim}
+use Rattle.std.proofs.Common.{◌≡◌, ◌⊎◌, ◌≤◌, ℕ, ◌<◌, le_refl, [], Bool, List, Option, Result, Ok, Err, sym, refl, ap, ◌∙◌, subst, ⊎_elim}
 use Rattle.ca_base.specs.Readiness.{StaysReady}
 use Rattle.ca_base.specs.Taking.{HoldsFew, lent_of}
 use Rattle.ca_node.specs.Laws.{in_nothing}
@@ -9,7 +9,7 @@ use Rattle.ca_node.specs.TreeView.{Quiet, Ranging, TreeView, left_over}
 use Rattle.ca_node.proofs.Tallies.{tallied_still}
 use Rattle.ca_node.specs.declared.cursor.Cursor.{Cursor}
 use Rattle.ca_replace.specs.Between.{MayBegin}
-use Rattle.ca_replace.specs.Ranging.{IsAtWork}
+use Rattle.ca_replace.specs.Ranging.{IsAtWork, WorksOrRests}
 use Rattle.ca_replace.specs.Resting.{IsAtRest}
 use Rattle.ca_replace.proofs.Between.{announced, left, may_first}
 use Rattle.ca_replace.proofs.Numbering.{numbered_as}
@@ -93,3 +93,14 @@ module _ {R : Type 0} {space : Space R TreeView} {pass new : Pass R TreeView} wh
         (ap (λ (m : MyTree). m.0.upper.splits) is) (ap (λ (m : MyTree). m.0.upper.joins) is)
         w.tallied;
   }
+
+-- Of what a call came to behind attempts that left the pass at rest.
+pub works_on : {R T E : Type 0} (space : Space R TreeView) (r : Result T E) (pass mid new : Pass R
+    TreeView)
+    → mid.number ≡ pass.number → WorksOrRests space r mid new → WorksOrRests space r pass new
+works_on space (Ok x) pass mid new same h = record { number = h.number ∙ same; at_work = h.at_work }
+works_on space (Err why) pass mid new same h = record {
+  number = h.number ∙ same;
+  resting =
+      h.resting;
+}

@@ -16,8 +16,3 @@ pub record HasLeft (m m' : MyTree) (kept' : Vec Kept Global) : Type 0 where
   pub lags : m'.0.pin.lags ≤ m.0.pin.lags + 1
   pub entered : m'.0.pin.entered ≡ m.0.pin.entered
   pub bounded : PinsNever m m'
-
--- Nothing changed.
-pub record IsLeftAlone (m m' : MyTree) (kept kept' : Vec Kept Global) : Type 0 where
-  pub known : m' ≡ m
-  pub list : kept' ≡ kept

@@ -1,5 +1,5 @@
 -- Reads of what is within edges, of a pass that is alone: they spend turns for bases alone, and each attempt comes to something.
-use Rattle.std.specs.Prelude.{◌≡◌, ℕ, ◌+◌, ◌*◌, ◌≤◌, length, Result, Ok, Err, IfErr}
+use Rattle.std.specs.Prelude.{◌≡◌, ℕ, ◌+◌, ◌*◌, ◌≤◌, length, Result, Ok, Err, IfErr, vec_len}
 use Rattle.ca_base.specs.Counting.{losses}
 use Rattle.ca_base.specs.Putting.{first_note}
 use Rattle.ca_model.specs.declared.outcome.Cause.{Cause}
@@ -7,7 +7,7 @@ use Rattle.ca_model.specs.declared.outcome.Outcome.{Outcome}
 use Rattle.ca_node.specs.Aside.{IsLeftOf}
 use Rattle.ca_node.specs.Inventory.{IsListed}
 use Rattle.ca_node.specs.Links.{IsIn}
-use Rattle.ca_node.specs.States.{HasState}
+use Rattle.ca_node.specs.States.{HasState, IsAlone}
 use Rattle.ca_node.specs.Told.{MyTree}
 use Rattle.ca_node.specs.TreeView.{Note, TreeView}
 use Rattle.ca_replace.specs.declared.missing.Miss.{Miss}
@@ -15,6 +15,8 @@ use Rattle.ca_replace.specs.declared.missing.Miss.TheVariants as miss
 use Rattle.ca_replace.specs.Alone.{IsCrowdedCall, IsCrowdedCause, IsShortOfRows}
 use Rattle.ca_replace.specs.Attempting.{helps, passes}
 use Rattle.ca_rows.specs.declared.sizes.Sizes.{Sizes}
+use Rattle.ca_rows.specs.declared.space.Pass.{Pass}
+use Rattle.ca_rows.specs.declared.space.Space.{Space}
 
 -- how many bases a seat knows the tree to have
 abbrev pub bases_at : MyTree → ℕ
@@ -53,6 +55,11 @@ HasMissedAlone z kept (Err (miss.Worn which)) u = Unit {0}
 -- So it is of an attempt, which passed on so often, at most.
 abbrev pub LooksAlone : {T : Type 0} → Sizes → ℕ → ℕ → Result T Miss → MyTree → MyTree → Type 0
 LooksAlone z most kept r m m' = PassesAlone most m m' × HasMissedAlone z kept r m.0.upper
+
+-- So it is of a pass of this space, where it is alone.
+abbrev pub LooksIfAlone : {R T : Type 0} → Space R TreeView → ℕ → Result T Miss → Pass R TreeView → Pass R TreeView → Type 0
+LooksIfAlone space most r pass new = IsAlone space.table.shared.key pass.seat.me.0.upper
+    → LooksAlone space.table.shared.key most (vec_len pass.kept.rows) r pass.seat.me new.seat.me
 
 -- Attempts passed on four times for each base, at most, and where the call is refused for want of rows the space was short of them as it began.
 abbrev pub ReadsAlone : {T : Type 0} → Sizes → Result T Cause → MyTree → MyTree → Type 0

@@ -1,17 +1,19 @@
 -- Calls that read ranges: one attempt of such a call, what its attempts come to, and why such a call is refused.
-use Rattle.std.specs.Prelude.{◌≡◌, ◌⊎◌, ℕ, ◌<◌, ◌≤◌, Result, Ok, Err, Vec}
+use Rattle.std.specs.Prelude.{◌≡◌, ◌⊎◌, ℕ, ◌+◌, ◌*◌, ◌<◌, ◌≤◌, [], Result, Ok, Err, Vec}
 use Rattle.std.specs.declared.option.Option.TheVariants.{None}
 use Rattle.std.specs.Global.{Global}
 use mathlib.Core.Option.{some}
 use Rattle.ca_base.specs.Counting.{HasMet}
-use Rattle.ca_base.specs.Progress.{IsFurther}
+use Rattle.ca_base.specs.Progress.{IsFurther, IsRefused}
 use Rattle.ca_base.specs.Readiness.{IsReady}
 use Rattle.ca_model.specs.Event.{Event}
+use Rattle.ca_model.specs.Known.{one_more}
 use Rattle.ca_model.specs.declared.outcome.Cause.{Cause}
 use Rattle.ca_model.specs.declared.outcome.Cause.TheVariants as cause
 use Rattle.ca_model.specs.declared.outcome.Counter.TheVariants as counter
 use Rattle.ca_model.specs.declared.outcome.Outcome.{Outcome}
 use Rattle.ca_model.specs.declared.outcome.Spent.{Spent}
+use Rattle.ca_node.specs.States.{IsAtPin}
 use Rattle.ca_node.specs.Tallied.{IsTallied}
 use Rattle.ca_node.specs.Told.{IsKnown, MyTree}
 use Rattle.ca_node.specs.TreeView.{Note, Quiet, TreeView}
@@ -21,8 +23,10 @@ use Rattle.ca_replace.specs.Acts.{acts_of}
 use Rattle.ca_replace.specs.declared.missing.Miss.{Miss}
 use Rattle.ca_replace.specs.declared.missing.Miss.TheVariants as miss
 use Rattle.ca_replace.specs.Attempting.{HasDoneSuch, total}
-use Rattle.ca_replace.specs.Causes.{IfCaused, IsCaused}
-use Rattle.ca_replace.specs.Resting.{StoreView}
+use Rattle.ca_replace.specs.Bounded.{IsBounded, looked_in, pinned_in}
+use Rattle.ca_replace.specs.Causes.{EndsAtLag, IfCaused, IsCaused, IsUnspent}
+use Rattle.ca_replace.specs.Loading.{LoadsInRead}
+use Rattle.ca_replace.specs.Resting.{StaysAtRest, StoreView}
 use Rattle.ca_rows.specs.declared.kept.Kept.{Kept}
 use Rattle.ca_rows.specs.declared.sizes.Sizes.{Sizes}
 use Rattle.ca_rows.specs.declared.space.Pass.{Pass}
@@ -42,6 +46,17 @@ module _ {R : Type 0} where
   pub record GetsToWork (space : Space R TreeView) (pass new : Pass R TreeView) : Type 0 where
     pub number : new.number ≡ pass.number
     pub at_work : IsAtWork space new
+
+  -- It is the same pass: where the call was done it is at work, and else it rests.
+  abbrev pub WorksOrRests : {T E : Type 0} → Space R TreeView → Result T E → Pass R TreeView → Pass R TreeView → Type 0
+  WorksOrRests space (Ok x) pass new = GetsToWork space pass new
+  WorksOrRests space (Err why) pass new = StaysAtRest space pass new
+
+-- The pass was just pinned: it was shown nothing since, and found no range of another pass unfinished.
+pub record HasJustPinned (u : TreeView) : Type 0 where
+  pub at_pin : IsAtPin u
+  pub none_met : u.ranges.unfinished ≡ []
+  pub none_shown : u.notes ≡ []
 
 -- An attempt came to nothing for this cause, given the call's budget, and what it spent in all. Where the number of its pass's ranges is the last one, the base
 -- to which it walked last is one of which the call needs more.
@@ -74,10 +89,36 @@ abbrev pub HasRangedTo : {T : Type 0} → (T → TreeView → Event → Type 0) 
 HasRangedTo tells z (Ok x) u v = HasDoneSuch (tells x v) u v × IsKnown z v × (acts_of v ≡ acts_of u)
 HasRangedTo tells z (Err why) u v = IsFurther u v × IsKnown z v × (acts_of v ≡ acts_of u)
 
+-- So it is of an attempt of a pass of this space.
+abbrev pub RangesTo : {R T : Type 0} → (T → TreeView → Event → Type 0) → Space R TreeView → Result T Miss → Pass R TreeView → Pass R TreeView → Type 0
+RangesTo tells space r pass new = HasRangedTo tells space.table.shared.key r pass.seat.me.0.upper new.seat.me.0.upper
+
 -- Attempts did the call, which is told so; or it is refused, and they learnt of others' edits alone. They began no attempt to join, and split no base.
 abbrev pub HasRanged : {T : Type 0} → (T → TreeView → Event → Type 0) → Result T Cause → TreeView → TreeView → Type 0
 HasRanged tells (Ok x) u v = HasDoneSuch (tells x v) u v × (acts_of v ≡ acts_of u)
 HasRanged tells (Err why) u v = IsFurther u v × (acts_of v ≡ acts_of u)
+
+-- So it is as the call ends: where it is refused, that is counted.
+abbrev pub EndsReading : {T : Type 0} → (T → TreeView → Event → Type 0) → Result T Cause → TreeView → TreeView → Type 0
+EndsReading tells (Ok x) u v = HasDoneSuch (tells x v) u v × (acts_of v ≡ acts_of u)
+EndsReading tells (Err why) u v = IsRefused (one_more why) u v × (acts_of v ≡ acts_of u)
+
+-- A call was entered in the log, told so by what the pass knew as it came to its answer.
+abbrev pub HasDoneOnce : {R : Type 0} → (TreeView → Event → Type 0) → Pass R TreeView → Pass R TreeView → Type 0
+HasDoneOnce tells pass new = (then : TreeView) × HasDoneSuch (tells then) pass.seat.me.0.upper new.seat.me.0.upper
+
+-- A pass that kept so many rows pinned so often in such a call, and looked at the others; so many links were loaded; and a pass was found to lag once at most.
+pub record IsReadBounded (z : Sizes) (kept : ℕ) (m m' : MyTree) : Type 0 where
+  pub lags : EndsAtLag m m'
+  pub bounded : IsBounded kept m m'
+  pub loads : LoadsInRead z m m'
+
+-- Such a call came to its answer by this budget, which isn't spent: no pass was found to lag, and there is room for the looks at the others behind it.
+pub record AnswersInBudget (budget : ℕ) (m m' : MyTree) : Type 0 where
+  pub looks : m.0.pin.looks ≤ m'.0.pin.looks
+  pub looked : looked_in m m' + 3 ≤ 3 * pinned_in m m'
+  pub all_seen : m'.0.pin.lags ≡ m.0.pin.lags
+  pub unspent : IsUnspent budget m m'
 
 -- why a call is refused whose last attempt came to this, given what was spent
 abbrev pub cause_of : Miss → Spent → Cause

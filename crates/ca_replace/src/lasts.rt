@@ -1,17 +1,17 @@
 //! Attempts of the call that reads the last object within an upper edge.
-ghost use Rattle.std.specs.Prelude.{◌≡◌, ◌+◌, ◌<◌, ◌≤◌, [], IfErr, IfOk, None, Some, cond, false, map, vec_len};
+ghost use Rattle.std.specs.Prelude.{◌≡◌, ◌+◌, ◌<◌, ◌≤◌, [], IfErr, IfOk, None, Some, cond, false, map};
 ghost use Rattle.ca_model.specs.Edges.{Included, Unbounded, bound_of, last_object, up_to, IsProperBound};
 ghost use Rattle.ca_base.specs.Counting.{HasMet};
 ghost use Rattle.ca_base.specs.Putting.{first_note};
 ghost use Rattle.ca_base.specs.Readiness.{StaysReady};
 ghost use Rattle.ca_node.specs.Row.{pair};
-ghost use Rattle.ca_node.specs.States.{IsAlone, IsReadSince};
+ghost use Rattle.ca_node.specs.States.{IsReadSince};
 ghost use Rattle.ca_node.specs.Told.{IsEntered};
 ghost use Rattle.ca_node.specs.TreePasses.{tree_of};
 ghost use Rattle.ca_node.specs.Walking.{IsWalked};
 ghost use Rattle.ca_range.specs.Loading.{snapshot_loads};
 ghost use Rattle.ca_replace.specs.Attempting.{IsPaid, total};
-ghost use Rattle.ca_replace.specs.LoneReads.{LooksAlone, bases_at};
+ghost use Rattle.ca_replace.specs.LoneReads.{bases_at, LooksIfAlone};
 ghost use Rattle.ca_replace.specs.Ranging.{HasMissedBy, IsAtWork, MayTryAgain, NeverVanishes};
 ghost use Rattle.ca_replace.specs.Within.{FindsBelow, HasAllUpTo, HasLearnt, HasVanished, NeedsBelow, below_event, spot_at};
 ghost use Rattle.ca_rows.specs.Passes.{KeepsList, IsReading, sizes, known};
@@ -111,8 +111,7 @@ fn take_run(
     ensures again { IfErr result (λ why. MayTryAgain NeverVanishes why (known pass.old) (known pass.new)) }
     ensures in_budget { IfOk result (λ _. total spent.new < budget) }
     ensures loads { (tree_of pass.new).loads ≤ (tree_of pass.old).loads + snapshot_loads (sizes tree.now.space) }
-    ensures alone { IsAlone (sizes tree.now.space) (tree_of pass.old) → LooksAlone (sizes tree.now.space) (bases_at (known pass.old))
-        (vec_len pass.old.kept.rows) result (known pass.old) (known pass.new) }
+    ensures alone { LooksIfAlone tree.now.space (bases_at (known pass.old)) result pass.old pass.new }
 {
     let counts = |_object: &[u8]| true;
     let (lo, hi) = edges;

@@ -13,15 +13,17 @@ use crate::adapting::Last;
 use crate::calls::{Order, call, empty_if_refused};
 use crate::changing::ChangeCall;
 use crate::giving::{give_back_kept, keep_few};
+use crate::lasts::BelowCall;
 use crate::looking::look_up;
 use crate::opened::OpenRun;
 use crate::puts::{PutCall, PutNewCall};
-use crate::reading::{above, below, range};
+use crate::ranging::read_or_refuse;
+use crate::reading::read;
 use crate::refusing::outcome_by;
 use crate::removing::{RemoveCall, RemoveIfCall};
 use crate::running::found_next;
 use crate::tree::Tree;
-use crate::within::RangeCall;
+use crate::within::{AboveCall, RangeCall};
 use ca_adapt::Adapted;
 use ca_base::Keyed;
 use ca_model::{Changed, Code, Edge, OrderedStore, Outcome};
@@ -278,11 +280,19 @@ impl OrderedStore for TreeStore<'_> {
     }
 
     fn above(&mut self, lo: Edge<'_>, into: &mut Code, budget: u32) -> Outcome<bool> {
-        above(self.tree, &mut self.pass, lo, into, budget)
+        let what = &AboveCall { lo };
+        let order = Order { what, budget };
+        let outcome = read(self.tree, &mut self.pass, &order, &mut *into);
+        empty_if_refused(&outcome, into);
+        outcome
     }
 
     fn below(&mut self, hi: Edge<'_>, into: &mut Code, budget: u32) -> Outcome<bool> {
-        below(self.tree, &mut self.pass, hi, into, budget)
+        let what = &BelowCall { hi };
+        let order = Order { what, budget };
+        let outcome = read(self.tree, &mut self.pass, &order, &mut *into);
+        empty_if_refused(&outcome, into);
+        outcome
     }
 
     fn range<F: Fn(&[u8]) -> bool>(
@@ -300,8 +310,9 @@ impl OrderedStore for TreeStore<'_> {
             counts,
         };
         let what = &RangeCall { sought };
+        let order = Order { what, budget };
         let mut run = OpenRun::none();
-        match range(self.tree, &mut self.pass, what, budget, &mut run) {
+        match read_or_refuse(self.tree, &mut self.pass, &order, &mut run) {
             Ok(whole) => {
                 self.run = Some(run);
                 Outcome::Done(whole)

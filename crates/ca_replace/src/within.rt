@@ -1,5 +1,5 @@
 //! Attempts of calls that read what is within edges: a run, and the first object within a lower edge.
-ghost use Rattle.std.specs.Prelude.{◌≡◌, ◌≤◌, ◌+◌, ◌<◌, [], IfErr, IfOk, None, Some, cond, false, vec_len};
+ghost use Rattle.std.specs.Prelude.{◌≡◌, ◌≤◌, ◌+◌, ◌<◌, [], IfErr, IfOk, None, Some, cond, false};
 ghost use Rattle.ca_base.specs.Counting.{HasMet};
 ghost use Rattle.ca_base.specs.Readiness.{StaysReady};
 ghost use Rattle.ca_model.specs.Edges.{bound_of, first_object, from, IsProperBound};
@@ -7,14 +7,14 @@ ghost use Rattle.ca_model.specs.Event.{Above};
 ghost use Rattle.ca_model.specs.Function.{MayBeAskedForAll};
 ghost use Rattle.ca_model.specs.StoreMap.{IsStoreMap};
 ghost use Rattle.ca_model.specs.declared.edge.Edge.TheVariants.{Open as IsOpen};
-ghost use Rattle.ca_node.specs.States.{IsAlone, IsReadSince};
+ghost use Rattle.ca_node.specs.States.{IsReadSince};
 ghost use Rattle.ca_node.specs.Told.{IsEntered};
 ghost use Rattle.ca_node.specs.TreePasses.{tree_of};
 ghost use Rattle.ca_range.specs.Looking.{IsNotEnough};
 ghost use Rattle.ca_range.specs.Snapshots.{HasRun, IsRemembered};
 ghost use Rattle.ca_range.specs.Loading.{snapshot_loads};
 ghost use Rattle.ca_replace.specs.Attempting.{IsPaid, total};
-ghost use Rattle.ca_replace.specs.LoneReads.{LooksAlone, bases_at};
+ghost use Rattle.ca_replace.specs.LoneReads.{bases_at, LooksIfAlone};
 ghost use Rattle.ca_replace.specs.Ranging.{HasMissedBy, IsAtWork, MayTryAgain, NeverVanishes};
 ghost use Rattle.ca_replace.specs.Running.{all_of};
 ghost use Rattle.ca_replace.specs.Within.{FindsAbove, HasLearnt, HasOpened, NeedsAbove, above_event};
@@ -189,8 +189,7 @@ pub(crate) fn snap<F: Fn(&[u8]) -> bool>(
     ensures again { IfErr result (λ why. MayTryAgain NeverVanishes why (known pass.old) (known pass.new)) }
     ensures in_budget { IfOk result (λ _. total spent.new < budget) }
     ensures loads { (tree_of pass.new).loads ≤ (tree_of pass.old).loads + snapshot_loads (sizes tree.now.space) }
-    ensures alone { IsAlone (sizes tree.now.space) (tree_of pass.old) → LooksAlone (sizes tree.now.space) (bases_at (known pass.old))
-        (vec_len pass.old.kept.rows) result (known pass.old) (known pass.new) }
+    ensures alone { LooksIfAlone tree.now.space (bases_at (known pass.old)) result pass.old pass.new }
 {
     let mut account = Account::new();
     account.spent = *spent;

@@ -46,10 +46,10 @@ tries-requires-clause-resting g c = c.loop-answer.invariant.resting
 pub tries-requires-clause-unspent : goal.tries-requires-clause-unspent
 tries-requires-clause-unspent g c = c.loop-answer.invariant.unspent
 
-pub returns-in-Ok-clause-works : goal.returns-in-Ok-clause-works
-returns-in-Ok-clause-works g c = record {
-  number = c.in-Ok.ensures.works.number ∙ c.loop-answer.invariant.number;
-  at_work = c.in-Ok.ensures.works.at_work;
+pub returns-in-Ok-clause-frame : goal.returns-in-Ok-clause-frame
+returns-in-Ok-clause-frame g c = record {
+  number = c.in-Ok.ensures.frame.number ∙ c.loop-answer.invariant.number;
+  at_work = c.in-Ok.ensures.frame.at_work;
 }
 
 pub returns-in-Ok-clause-come : goal.returns-in-Ok-clause-come
@@ -61,63 +61,10 @@ returns-in-Ok-clause-come g c = let z = c.args.tree.now.space.table.shared.key i
     c.loop-answer.invariant.further c.loop-answer.invariant.acts c.in-Ok.ensures.tried in
     (on.0, on.2)
 
-pub returns-in-Ok-clause-lags : goal.returns-in-Ok-clause-lags
-returns-in-Ok-clause-lags g c = (
-  (let before = c.loop-answer.invariant.lags in let same = c.tries.ensures.pinned.lags in omega
-      arith),
-  c.tries.ensures.pinned.entered ∙ c.loop-answer.invariant.lags,
-)
-
-pub returns-in-Ok-clause-looks : goal.returns-in-Ok-clause-looks
-returns-in-Ok-clause-looks g c = let before = c.loop-answer.invariant.looks in let
-    same = c.tries.ensures.pinned.looks in
-    omega arith
-
-pub returns-in-Ok-clause-all_seen : goal.returns-in-Ok-clause-all_seen
-returns-in-Ok-clause-all_seen g c = c.tries.ensures.pinned.lags ∙ c.loop-answer.invariant.lags
-
-pub returns-in-Ok-clause-bounded : goal.returns-in-Ok-clause-bounded
-returns-in-Ok-clause-bounded g c = bounded_by (vec_len c.loop-answer.pass.kept.rows)
-    (vec_len c.args.pass.now.kept.rows) c.args.pass.now.seat.me
-    c.loop-answer.pass.seat.me c.tries.new.pass.seat.me c.tries.new.pass.seat.me
-    c.loop-answer.invariant.yet c.tries.ensures.paced
-    c.tries.ensures.pinned.looks refl (omega arith) refl (omega arith)
-
-pub returns-in-Ok-clause-looked : goal.returns-in-Ok-clause-looked
-returns-in-Ok-clause-looked g c = looked_by (vec_len c.loop-answer.pass.kept.rows)
-    (vec_len c.args.pass.now.kept.rows) c.args.pass.now.seat.me
-    c.loop-answer.pass.seat.me c.tries.new.pass.seat.me c.tries.new.pass.seat.me
-    c.loop-answer.invariant.yet c.tries.ensures.paced
-    c.tries.ensures.pinned.looks refl (omega arith) refl (omega arith) refl
-
-pub returns-then-not-is_without_row-clause-bounded :
-    goal.returns-then-not-is_without_row-clause-bounded
-returns-then-not-is_without_row-clause-bounded g c = bounded_by
-    (vec_len c.loop-answer.pass.kept.rows) (vec_len c.args.pass.now.kept.rows)
-    c.args.pass.now.seat.me c.loop-answer.pass.seat.me c.tries.new.pass.seat.me
-    c.keep_few.new.pass.seat.me c.loop-answer.invariant.yet
-    c.tries.ensures.paced c.tries.ensures.pinned.looks c.keep_few.ensures.gave.bounded.0
-    c.keep_few.ensures.gave.bounded.1
-    c.keep_few.ensures.gave.lags.1
-    (kept_more c.keep_few.result c.tries.new.pass.seat.me c.keep_few.new.pass.seat.me
-    c.keep_few.ensures.gave c.keep_few.ensures.lost)
-
-pub returns-in-Err-refill-clause-bounded : goal.returns-in-Err-refill-clause-bounded
-returns-in-Err-refill-clause-bounded g c = bounded_by (vec_len c.loop-answer.pass.kept.rows)
-    (vec_len c.args.pass.now.kept.rows)
-    c.args.pass.now.seat.me c.loop-answer.pass.seat.me c.tries.new.pass.seat.me
-    c.refill.new.pass.seat.me c.loop-answer.invariant.yet
-    c.tries.ensures.paced c.tries.ensures.pinned.looks c.refill.ensures.gave.bounded.0
-    c.refill.ensures.gave.bounded.1
-    c.refill.ensures.gave.lags.1
-    (paid_more c.tries.new.spent c.refill.new.spent c.tries.new.pass.seat.me
-    c.refill.new.pass.seat.me c.refill.ensures.counted)
-
-pub returns-then-not-is_without_row-clause-rests :
-    goal.returns-then-not-is_without_row-clause-rests
-returns-then-not-is_without_row-clause-rests g c = record {
+pub returns-then-not-is_without_row-clause-frame : goal.returns-then-not-is_without_row-clause-frame
+returns-then-not-is_without_row-clause-frame g c = record {
   number = c.keep_few.ensures.frame.number
-      ∙ (c.in-Err.ensures.rests.number ∙ c.loop-answer.invariant.number);
+      ∙ (c.in-Err.ensures.frame.number ∙ c.loop-answer.invariant.number);
   resting = c.keep_few.ensures.frame.resting;
 }
 
@@ -167,17 +114,10 @@ returns-then-not-is_without_row-clause-few g c = few_from c.args.pass.now.seat.m
     arith)
     c.keep_few.ensures.few
 
-pub returns-then-not-is_without_row-clause-lags : goal.returns-then-not-is_without_row-clause-lags
-returns-then-not-is_without_row-clause-lags g c = let i = c.loop-answer.invariant in
-    let same = c.tries.ensures.pinned.lags in let once = c.keep_few.ensures.gave.lags in (
-      (let before = i.lags in let one = once.0 in omega arith),
-      ap (λ (x : Met). x.lags) once.1 ∙ (c.tries.ensures.pinned.entered ∙ i.lags),
-    )
-
-pub returns-in-Err-refill-clause-rests : goal.returns-in-Err-refill-clause-rests
-returns-in-Err-refill-clause-rests g c = record {
+pub returns-in-Err-refill-clause-frame : goal.returns-in-Err-refill-clause-frame
+returns-in-Err-refill-clause-frame g c = record {
   number = c.refill.ensures.frame.number
-      ∙ (c.in-Err.ensures.rests.number ∙ c.loop-answer.invariant.number);
+      ∙ (c.in-Err.ensures.frame.number ∙ c.loop-answer.invariant.number);
   resting = c.refill.ensures.frame.resting;
 }
 
@@ -220,7 +160,7 @@ returns-in-Err-refill-clause-caused g c = let i = c.loop-answer.invariant in
     (let more = i.looks in let same = c.tries.ensures.pinned.looks in omega arith)
     (subst (λ (k : ℕ). IsRefill z.passes k c.args.order.now.budget c.kept-kept.result
     c.refill.new.spent c.in-Err-refill.cause
-    behind last c.refill.new.pass.kept.rows) (c.in-Err.ensures.rests.number ∙ i.number)
+    behind last c.refill.new.pass.kept.rows) (c.in-Err.ensures.frame.number ∙ i.number)
     c.in-Err-refill.ensures.refused)
 
 pub returns-in-Err-refill-clause-few : goal.returns-in-Err-refill-clause-few
@@ -230,13 +170,6 @@ returns-in-Err-refill-clause-few g c = few_from c.args.pass.now.seat.me c.tries.
     (let before = c.loop-answer.invariant.looks in let same = c.tries.ensures.pinned.looks in omega
     arith)
     (c.in-Err-refill.ensures.few refl)
-
-pub returns-in-Err-refill-clause-lags : goal.returns-in-Err-refill-clause-lags
-returns-in-Err-refill-clause-lags g c = let i = c.loop-answer.invariant in
-    let same = c.tries.ensures.pinned.lags in let once = c.refill.ensures.gave.lags in (
-      (let before = i.lags in let one = once.0 in omega arith),
-      ap (λ (x : Met). x.lags) once.1 ∙ (c.tries.ensures.pinned.entered ∙ i.lags),
-    )
 
 pub loop-answer-smaller : goal.loop-answer-smaller
 loop-answer-smaller g c = let again = c.in_default.ensures.again refl in let
@@ -272,7 +205,7 @@ loop-answer-preserved g c = let i = c.loop-answer.invariant in let
     (let one = i.counted.more in let two = c.tries.ensures.counted.more in omega arith)
     again.begins i.first met given c.tries.ensures.pinned c.refill.ensures.gave.lags
     c.refill.ensures.looked in record {
-      number = c.refill.ensures.frame.number ∙ (c.in-Err.ensures.rests.number ∙ i.number);
+      number = c.refill.ensures.frame.number ∙ (c.in-Err.ensures.frame.number ∙ i.number);
       resting = c.refill.ensures.frame.resting;
       further = subst (IsFurther start.0.upper) (sym c.refill.ensures.gave.upper)
           (further_on start.0.upper before.0.upper behind.0.upper i.further
@@ -290,7 +223,7 @@ loop-answer-preserved g c = let i = c.loop-answer.invariant in let
           let here = alone_on z start.0.upper before.0.upper i.further.number alone in
           begins_next z (vec_len c.loop-answer.pass.kept.rows) _ start before behind last
           (subst (λ n. 0 < n) c.kept-kept.ensures again.some) again.begins
-          (passes_given behind last (c.in-Err.ensures.rests.resting.unlost alone.0)
+          (passes_given behind last (c.in-Err.ensures.frame.resting.unlost alone.0)
           (c.refill.ensures.frame.resting.unlost alone.0) c.refill.ensures.gave.upper)
           (subst (λ (x : Miss). LooksAlone {T = Unit {0}} z (2 * bases_at before)
           (vec_len c.loop-answer.pass.kept.rows) (Err x) before behind)
@@ -319,56 +252,6 @@ loop-answer-preserved g c = let i = c.loop-answer.invariant in let
           });
     }
 
-pub returns-in-Ok-clause-unspent : goal.returns-in-Ok-clause-unspent
-returns-in-Ok-clause-unspent g c = let start = c.args.pass.now.seat.me in let
-    behind = c.tries.new.pass.seat.me in
-    unspent c.args.order.now.budget c.tries.new.spent start behind record {
-      spent = c.args.spent.now;
-      none = c.requires.none;
-      counted = paid_both c.args.spent.now c.loop-answer.spent c.tries.new.spent start
-          c.loop-answer.pass.seat.me behind c.loop-answer.invariant.counted
-          c.tries.ensures.counted;
-    } c.in-Ok.ensures.in_budget
-
-pub returns-in-Ok-clause-loads : goal.returns-in-Ok-clause-loads
-returns-in-Ok-clause-loads g c = (
-    read_both c.args.tree.now.space.table.shared.key c.args.pass.now.seat.me
-    c.loop-answer.pass.seat.me c.tries.new.pass.seat.me c.loop-answer.invariant.read record {
-      pins = let more = c.tries.ensures.paced.pins in omega arith;
-      turns = c.tries.ensures.paced.more;
-      few = c.tries.ensures.loads;
-    }).few
-
-pub returns-then-not-is_without_row-clause-loads : goal.returns-then-not-is_without_row-clause-loads
-returns-then-not-is_without_row-clause-loads g
-    c = (read_still c.args.tree.now.space.table.shared.key c.args.pass.now.seat.me
-    c.tries.new.pass.seat.me
-    c.keep_few.new.pass.seat.me (ap (λ (v : TreeView). v.loads) c.keep_few.ensures.gave.upper)
-    c.keep_few.ensures.gave.bounded.0
-    (kept_more c.keep_few.result c.tries.new.pass.seat.me c.keep_few.new.pass.seat.me
-    c.keep_few.ensures.gave c.keep_few.ensures.lost)
-    (read_both c.args.tree.now.space.table.shared.key c.args.pass.now.seat.me
-    c.loop-answer.pass.seat.me c.tries.new.pass.seat.me c.loop-answer.invariant.read record {
-      pins = let more = c.tries.ensures.paced.pins in omega arith;
-      turns = c.tries.ensures.paced.more;
-      few = c.tries.ensures.loads;
-    })).few
-
-pub returns-in-Err-refill-clause-loads : goal.returns-in-Err-refill-clause-loads
-returns-in-Err-refill-clause-loads g
-    c = (read_still c.args.tree.now.space.table.shared.key c.args.pass.now.seat.me
-    c.tries.new.pass.seat.me
-    c.refill.new.pass.seat.me (ap (λ (v : TreeView). v.loads) c.refill.ensures.gave.upper)
-    c.refill.ensures.gave.bounded.0
-    (paid_more c.tries.new.spent c.refill.new.spent c.tries.new.pass.seat.me
-    c.refill.new.pass.seat.me c.refill.ensures.counted)
-    (read_both c.args.tree.now.space.table.shared.key c.args.pass.now.seat.me
-    c.loop-answer.pass.seat.me c.tries.new.pass.seat.me c.loop-answer.invariant.read record {
-      pins = let more = c.tries.ensures.paced.pins in omega arith;
-      turns = c.tries.ensures.paced.more;
-      few = c.tries.ensures.loads;
-    })).few
-
 pub returns-in-Ok-clause-alone : goal.returns-in-Ok-clause-alone
 returns-in-Ok-clause-alone g c alone = let z = c.args.tree.now.space.table.shared.key in
     let i = c.loop-answer.invariant in
@@ -390,7 +273,7 @@ returns-then-not-is_without_row-clause-alone g c alone = let z =
           (begun_passes (vec_len c.loop-answer.pass.kept.rows) start before behind (i.alone alone)
           (c.in-Err.ensures.alone (alone_on z start.0.upper before.0.upper i.further.number
           alone)).0)
-          (passes_given behind last (c.in-Err.ensures.rests.resting.unlost alone.0)
+          (passes_given behind last (c.in-Err.ensures.frame.resting.unlost alone.0)
           (c.keep_few.ensures.frame.resting.unlost alone.0) c.keep_few.ensures.gave.upper),
       refused_other z (bases_at start + 11) start.0.upper c.in-Err.why _ c.refusal.result
           c.refusal.ensures,
@@ -401,7 +284,7 @@ returns-in-Err-refill-clause-alone g c alone = let space = c.args.tree.now.space
     let z = space.key in let i = c.loop-answer.invariant in
     let start = c.args.pass.now.seat.me in let before = c.loop-answer.pass.seat.me in
     let behind = c.tries.new.pass in
-    let last = c.refill.new.pass in let resting = c.in-Err.ensures.rests.resting in
+    let last = c.refill.new.pass in let resting = c.in-Err.ensures.frame.resting in
     let did = subst (λ (x : Miss). LooksAlone {T = Unit {0}} z (2 * bases_at before)
     (vec_len c.loop-answer.pass.kept.rows) (Err x) before behind.seat.me)
     (c.if-not-is_without_row.ensures.0 refl)
@@ -417,3 +300,107 @@ returns-in-Err-refill-clause-alone g c alone = let space = c.args.tree.now.space
           behind.tally behind.kept.rows behind.seat resting alone.0)
           c.kept-kept.ensures c.in-Err-refill.ensures.refused (i.alone alone) did.1,
     )
+
+pub returns-in-Ok-clause-bounds : goal.returns-in-Ok-clause-bounds
+returns-in-Ok-clause-bounds g c = record {
+  lags = (
+    (let before = c.loop-answer.invariant.lags in let same = c.tries.ensures.pinned.lags in omega
+        arith),
+    c.tries.ensures.pinned.entered ∙ c.loop-answer.invariant.lags,
+  );
+  bounded = bounded_by (vec_len c.loop-answer.pass.kept.rows)
+      (vec_len c.args.pass.now.kept.rows) c.args.pass.now.seat.me
+      c.loop-answer.pass.seat.me c.tries.new.pass.seat.me c.tries.new.pass.seat.me
+      c.loop-answer.invariant.yet c.tries.ensures.paced
+      c.tries.ensures.pinned.looks refl (omega arith) refl (omega arith);
+  loads = (
+      read_both c.args.tree.now.space.table.shared.key c.args.pass.now.seat.me
+      c.loop-answer.pass.seat.me c.tries.new.pass.seat.me c.loop-answer.invariant.read record {
+        pins = let more = c.tries.ensures.paced.pins in omega arith;
+        turns = c.tries.ensures.paced.more;
+        few = c.tries.ensures.loads;
+      }).few;
+}
+
+pub returns-then-not-is_without_row-clause-bounds :
+    goal.returns-then-not-is_without_row-clause-bounds
+returns-then-not-is_without_row-clause-bounds g c = record {
+  lags = let i = c.loop-answer.invariant in
+      let same = c.tries.ensures.pinned.lags in let once = c.keep_few.ensures.gave.lags in (
+        (let before = i.lags in let one = once.0 in omega arith),
+        ap (λ (x : Met). x.lags) once.1 ∙ (c.tries.ensures.pinned.entered ∙ i.lags),
+      );
+  bounded = bounded_by
+      (vec_len c.loop-answer.pass.kept.rows) (vec_len c.args.pass.now.kept.rows)
+      c.args.pass.now.seat.me c.loop-answer.pass.seat.me c.tries.new.pass.seat.me
+      c.keep_few.new.pass.seat.me c.loop-answer.invariant.yet
+      c.tries.ensures.paced c.tries.ensures.pinned.looks c.keep_few.ensures.gave.bounded.0
+      c.keep_few.ensures.gave.bounded.1
+      c.keep_few.ensures.gave.lags.1
+      (kept_more c.keep_few.result c.tries.new.pass.seat.me c.keep_few.new.pass.seat.me
+      c.keep_few.ensures.gave c.keep_few.ensures.lost);
+  loads = (read_still c.args.tree.now.space.table.shared.key c.args.pass.now.seat.me
+      c.tries.new.pass.seat.me
+      c.keep_few.new.pass.seat.me (ap (λ (v : TreeView). v.loads) c.keep_few.ensures.gave.upper)
+      c.keep_few.ensures.gave.bounded.0
+      (kept_more c.keep_few.result c.tries.new.pass.seat.me c.keep_few.new.pass.seat.me
+      c.keep_few.ensures.gave c.keep_few.ensures.lost)
+      (read_both c.args.tree.now.space.table.shared.key c.args.pass.now.seat.me
+      c.loop-answer.pass.seat.me c.tries.new.pass.seat.me c.loop-answer.invariant.read record {
+        pins = let more = c.tries.ensures.paced.pins in omega arith;
+        turns = c.tries.ensures.paced.more;
+        few = c.tries.ensures.loads;
+      })).few;
+}
+
+pub returns-in-Err-refill-clause-bounds : goal.returns-in-Err-refill-clause-bounds
+returns-in-Err-refill-clause-bounds g c = record {
+  lags = let i = c.loop-answer.invariant in
+      let same = c.tries.ensures.pinned.lags in let once = c.refill.ensures.gave.lags in (
+        (let before = i.lags in let one = once.0 in omega arith),
+        ap (λ (x : Met). x.lags) once.1 ∙ (c.tries.ensures.pinned.entered ∙ i.lags),
+      );
+  bounded = bounded_by (vec_len c.loop-answer.pass.kept.rows)
+      (vec_len c.args.pass.now.kept.rows)
+      c.args.pass.now.seat.me c.loop-answer.pass.seat.me c.tries.new.pass.seat.me
+      c.refill.new.pass.seat.me c.loop-answer.invariant.yet
+      c.tries.ensures.paced c.tries.ensures.pinned.looks c.refill.ensures.gave.bounded.0
+      c.refill.ensures.gave.bounded.1
+      c.refill.ensures.gave.lags.1
+      (paid_more c.tries.new.spent c.refill.new.spent c.tries.new.pass.seat.me
+      c.refill.new.pass.seat.me c.refill.ensures.counted);
+  loads = (read_still c.args.tree.now.space.table.shared.key c.args.pass.now.seat.me
+      c.tries.new.pass.seat.me
+      c.refill.new.pass.seat.me (ap (λ (v : TreeView). v.loads) c.refill.ensures.gave.upper)
+      c.refill.ensures.gave.bounded.0
+      (paid_more c.tries.new.spent c.refill.new.spent c.tries.new.pass.seat.me
+      c.refill.new.pass.seat.me c.refill.ensures.counted)
+      (read_both c.args.tree.now.space.table.shared.key c.args.pass.now.seat.me
+      c.loop-answer.pass.seat.me c.tries.new.pass.seat.me c.loop-answer.invariant.read record {
+        pins = let more = c.tries.ensures.paced.pins in omega arith;
+        turns = c.tries.ensures.paced.more;
+        few = c.tries.ensures.loads;
+      })).few;
+}
+
+pub returns-in-Ok-clause-answered : goal.returns-in-Ok-clause-answered
+returns-in-Ok-clause-answered g c = record {
+  looks = let before = c.loop-answer.invariant.looks in let
+      same = c.tries.ensures.pinned.looks in
+      omega arith;
+  looked = looked_by (vec_len c.loop-answer.pass.kept.rows)
+      (vec_len c.args.pass.now.kept.rows) c.args.pass.now.seat.me
+      c.loop-answer.pass.seat.me c.tries.new.pass.seat.me c.tries.new.pass.seat.me
+      c.loop-answer.invariant.yet c.tries.ensures.paced
+      c.tries.ensures.pinned.looks refl (omega arith) refl (omega arith) refl;
+  all_seen = c.tries.ensures.pinned.lags ∙ c.loop-answer.invariant.lags;
+  unspent = let start = c.args.pass.now.seat.me in let
+      behind = c.tries.new.pass.seat.me in
+      unspent c.args.order.now.budget c.tries.new.spent start behind record {
+        spent = c.args.spent.now;
+        none = c.requires.none;
+        counted = paid_both c.args.spent.now c.loop-answer.spent c.tries.new.spent start
+            c.loop-answer.pass.seat.me behind c.loop-answer.invariant.counted
+            c.tries.ensures.counted;
+      } c.in-Ok.ensures.in_budget;
+}

@@ -1,17 +1,17 @@
-use Rattle.std.proofs.Common.{ℕ, ◌*◌, ◌∙◌, IfErr, Result, arith, inr, refl, subst, sym, vec_len}
+use Rattle.std.proofs.Common.{ℕ, ◌*◌, ◌∙◌, Result, arith, inr, refl, subst, sym, vec_len}
 use Rattle.ca_base.proofs.Counts.{met_both}
 use Rattle.ca_node.specs.States.{IsAlone}
 use Rattle.ca_node.specs.Told.{MyTree}
 use Rattle.ca_replace.specs.LoneReads.{LooksAlone, bases_at}
-use Rattle.ca_replace.specs.Ranging.{GetsToWork, HasMissedBy, HasRangedTo}
-use Rattle.ca_replace.specs.Resting.{StaysAtRest}
+use Rattle.ca_replace.specs.Ranging.{HasMissedBy, HasRangedTo, WorksOrRests}
 use Rattle.ca_replace.specs.declared.missing.Miss.{Miss}
 use Rattle.ca_replace.proofs.Counted.{none_met, none_paid, one_turn_less, paid_both}
 use Rattle.ca_replace.proofs.Meeting.{further_on}
-use Rattle.ca_replace.proofs.Misses.{err_then, missed_behind, ok_then, ranged_on}
+use Rattle.ca_replace.proofs.Misses.{missed_behind, ranged_on}
 use Rattle.ca_replace.proofs.Pacing.{paced_by, paced_then, paid_more}
 use Rattle.ca_replace.proofs.Pinning.{pinned_both}
 use Rattle.ca_replace.proofs.Turns.{no_further}
+use Rattle.ca_replace.proofs.Working.{works_on}
 use Rattle.ca_replace.proofs.ReadLoads.{none_read, read_both}
 use Rattle.ca_replace.proofs.ranging.tries.Goals as goal
 
@@ -35,20 +35,6 @@ try_once-tried-requires-clause-resting g c = c.loop-spent.invariant.resting
 
 pub try_once-tried-requires-clause-unspent : goal.try_once-tried-requires-clause-unspent
 try_once-tried-requires-clause-unspent g c = c.loop-spent.invariant.unspent
-
-pub returns-then-not-is_again-clause-works : goal.returns-then-not-is_again-clause-works
-returns-then-not-is_again-clause-works g c = ok_then c.try_once-tried.result
-    (λ (w : GetsToWork c.args.tree.now.space c.loop-spent.pass c.try_once-tried.new.pass). record {
-      number = w.number ∙ c.loop-spent.invariant.number;
-      at_work = w.at_work;
-    }) c.try_once-tried.ensures.works
-
-pub returns-then-not-is_again-clause-rests : goal.returns-then-not-is_again-clause-rests
-returns-then-not-is_again-clause-rests g c = err_then c.try_once-tried.result
-    (λ (w : StaysAtRest c.args.tree.now.space c.loop-spent.pass c.try_once-tried.new.pass). record {
-      number = w.number ∙ c.loop-spent.invariant.number;
-      resting = w.resting;
-    }) c.try_once-tried.ensures.rests
 
 pub returns-then-not-is_again-clause-tried : goal.returns-then-not-is_again-clause-tried
 returns-then-not-is_again-clause-tried g c = let z = c.args.tree.now.space.table.shared.key in
@@ -104,8 +90,8 @@ loop-spent-preserved g c = let again = c.if-not-is_again.ensures.0 refl in
     let n = c.try_once-tried.new.pass.seat.me in
     let tells = λ (x : _). g.L.Look.tells c.args.order.now.what.now z x c.try_once-tried.new.left in
     let rests = subst (λ (x : Result _ Miss).
-    IfErr x (λ _. StaysAtRest c.args.tree.now.space c.loop-spent.pass c.try_once-tried.new.pass))
-    again did.rests in
+    WorksOrRests c.args.tree.now.space x c.loop-spent.pass c.try_once-tried.new.pass)
+    again did.frame in
     let further = subst (λ (x : Result _ Miss). HasRangedTo tells z x m.0.upper n.0.upper) again
     did.tried in
     let missed = subst (λ (x : Result _ Miss). HasMissedBy
@@ -152,3 +138,8 @@ returns-then-not-is_again-clause-alone g c alone = let z = c.args.tree.now.space
     subst (λ (x : MyTree × ℕ). IsAlone z x.0.0.upper → LooksAlone z (2 * bases_at x.0) x.1
     c.try_once-tried.result x.0 n) (λ i. (at.0 i, at.1 i))
     c.try_once-tried.ensures.alone alone
+
+pub returns-then-not-is_again-clause-frame : goal.returns-then-not-is_again-clause-frame
+returns-then-not-is_again-clause-frame g c = works_on c.args.tree.now.space c.try_once-tried.result
+    c.args.pass.now c.loop-spent.pass c.try_once-tried.new.pass c.loop-spent.invariant.number
+    c.try_once-tried.ensures.frame

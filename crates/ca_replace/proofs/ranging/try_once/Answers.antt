@@ -15,19 +15,8 @@ look-requires-clause-work g c = work_first c.pin.ensures.pinned.0 c.pin.ensures.
     c.requires.resting c.pin.ensures.frame
     c.pin.ensures.pinned.3
 
-pub look-requires-clause-at_pin : goal.look-requires-clause-at_pin
-look-requires-clause-at_pin g c = let is = c.pin.ensures.pinned.3 in
-    ap (λ (m : MyTree). m.0.upper.since) is ∙ sym (ap (λ (m : MyTree). m.0.upper.seen) is)
-
-pub look-requires-clause-none_met : goal.look-requires-clause-none_met
-look-requires-clause-none_met g c = ap (λ (m : MyTree). m.0.upper.ranges.unfinished)
-    c.pin.ensures.pinned.3
-
-pub look-requires-clause-none_shown : goal.look-requires-clause-none_shown
-look-requires-clause-none_shown g c = ap (λ (m : MyTree). m.0.upper.notes) c.pin.ensures.pinned.3
-
-pub returns-in-Ok-clause-works : goal.returns-in-Ok-clause-works
-returns-in-Ok-clause-works g c = let told = c.in-Ok.ensures.tried in record {
+pub returns-in-Ok-clause-frame : goal.returns-in-Ok-clause-frame
+returns-in-Ok-clause-frame g c = let told = c.in-Ok.ensures.tried in record {
   number = c.look.ensures.frame.number ∙ c.pin.ensures.frame.number;
   at_work = work_after (work_first c.pin.ensures.pinned.0 c.pin.ensures.pinned.1 c.requires.resting
       c.pin.ensures.frame
@@ -68,8 +57,8 @@ returns-in-Err-clause-once g c = now_left c.args.pass.now.seat.me c.look.new.pas
     c.pin.new.pass.seat.me c.look.new.pass.seat.me c.pin.ensures.pinned.3
     c.look.ensures.frame.pin.1)
 
-pub returns-in-Err-clause-rests : goal.returns-in-Err-clause-rests
-returns-in-Err-clause-rests g c = let told = c.in-Err.ensures.tried in record {
+pub returns-in-Err-clause-frame : goal.returns-in-Err-clause-frame
+returns-in-Err-clause-frame g c = let told = c.in-Err.ensures.tried in record {
   number = c.unpin.ensures.frame.number
       ∙ (c.look.ensures.frame.number ∙ c.pin.ensures.frame.number);
   resting = work_left (work_after (work_first c.pin.ensures.pinned.0 c.pin.ensures.pinned.1
@@ -152,3 +141,12 @@ returns-in-Err-clause-alone g c alone = let k = c.args.pass.now.seat.me in
     (looks_pinned {T = Unit {0}} (Err c.in-Err.why) c.args.tree.now.space.table.shared.key
     c.pin.ensures.pinned.0 c.pin.ensures.pinned.1 _ _ k m n c.pin.ensures.pinned.3
     (ap (λ (x : KeptRows). vec_len x.rows) c.pin.ensures.frame.kept) c.in-Err.ensures.alone alone)
+
+pub look-requires-clause-fresh : goal.look-requires-clause-fresh
+look-requires-clause-fresh g c = record {
+  at_pin = let is = c.pin.ensures.pinned.3 in
+      ap (λ (m : MyTree). m.0.upper.since) is ∙ sym (ap (λ (m : MyTree). m.0.upper.seen) is);
+  none_met = ap (λ (m : MyTree). m.0.upper.ranges.unfinished)
+      c.pin.ensures.pinned.3;
+  none_shown = ap (λ (m : MyTree). m.0.upper.notes) c.pin.ensures.pinned.3;
+}

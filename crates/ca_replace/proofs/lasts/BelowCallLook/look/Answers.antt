@@ -41,7 +41,7 @@ enter_last-requires-clause-answer c = let z = c.args.tree.now.space.table.shared
     object = c.look_near-near.new.into.items in
     let walk = c.look_near-near.ensures.walked in let cursor = c.look_near-near.result.0 in
     walked_last z hi m n cursor true object walk
-    (learnt_unanswered z m.0.upper n.0.upper c.requires.at_pin c.requires.work.known
+    (learnt_unanswered z m.0.upper n.0.upper c.requires.fresh.at_pin c.requires.work.known
     (walked_learnt z (spot_at hi) m n cursor walk))
     (subst (λ (b : Bool). last_object
     (up_to (bound_of hi) (map pair (first_note n.0.upper.notes).objects)) ≡ cond b (Some object)
@@ -54,7 +54,7 @@ returns-then-near-clause-tried c = let z = c.args.tree.now.space.table.shared.ke
     let n = c.look_near-near.new.pass.seat.me in let hi = c.args.self.now.hi in let
     object = c.look_near-near.new.into.items in
     let event = below_event (bound_of hi) true object in
-    let done = learnt_done z m.0.upper n c.enter_last.new.pass.seat.me event c.requires.at_pin
+    let done = learnt_done z m.0.upper n c.enter_last.new.pass.seat.me event c.requires.fresh.at_pin
     (walked_learnt z (spot_at hi) m n c.look_near-near.result.0 c.look_near-near.ensures.walked)
     c.enter_last.ensures.entered in
     ((event, refl, done.0), done.1, done.2)
@@ -66,7 +66,7 @@ enter_last-requires-in_default-clause-answer c = let z = c.args.tree.now.space.t
     object = c.look_near-near.new.into.items in
     let walk = c.look_near-near.ensures.walked in let cursor = c.look_near-near.result.0 in
     walked_last z hi m n cursor false object walk
-    (learnt_unanswered z m.0.upper n.0.upper c.requires.at_pin c.requires.work.known
+    (learnt_unanswered z m.0.upper n.0.upper c.requires.fresh.at_pin c.requires.work.known
     (walked_learnt z (spot_at hi) m n cursor walk))
     (subst (λ (b : Bool). last_object
     (up_to (bound_of hi) (map pair (first_note n.0.upper.notes).objects)) ≡ cond b (Some object)
@@ -80,7 +80,7 @@ returns-in_default-clause-tried c = let z = c.args.tree.now.space.table.shared.k
     object = c.look_near-near.new.into.items in
     let event = below_event (bound_of hi) false object in
     let done = learnt_done z m.0.upper n c.enter_last-in_default.new.pass.seat.me event
-    c.requires.at_pin
+    c.requires.fresh.at_pin
     (walked_learnt z (spot_at hi) m n c.look_near-near.result.0 c.look_near-near.ensures.walked)
     c.enter_last-in_default.ensures.entered in
     ((event, (refl, c.look_near-near.ensures.emptied c.if-near.false), done.0), done.1, done.2)
@@ -91,7 +91,7 @@ look_left-requires-clause-from c = let z = c.args.tree.now.space.table.shared.ke
     let walk = c.look_near-near.ensures.walked in
     left_end z u c.in-Some.route walk.note
     (ap (λ (x : MyTree). x.0.upper.notes) walk.now ∙ ap (λ (ns : List Note). walk.note ∷ ns)
-    c.requires.none_shown)
+    c.requires.fresh.none_shown)
     (subst (λ (r : Option ℕ). IsLowRoute z u.ways r walk.note.place.span.low) c.in-Some.is
     walk.cursor_is.low)
 
@@ -176,7 +176,7 @@ enter_last-requires-in-Ok-clause-answer c = let z = c.args.tree.now.space.table.
     subst (λ (x : MyTree). IsReadSince (below_event (bound_of hi) found object) x.0.upper)
     (sym c.last_within-found.ensures.frame.still)
     (last_read _ _ c.in-Ok.ensures.run found object first
-    (learnt_unanswered z m.0.upper v.0.upper c.requires.at_pin c.requires.work.known learnt)
+    (learnt_unanswered z m.0.upper v.0.upper c.requires.fresh.at_pin c.requires.work.known learnt)
     c.last_within-found.ensures.last)
 
 left_else : (c : goal.After-enter_last-in-Ok) → HasLookedLeft
@@ -209,7 +209,7 @@ returns-else-bounded-clause-tried c = let z = c.args.tree.now.space.table.shared
     let behind = subst (λ (x : MyTree). HasLearnt z u x.0.upper)
     (sym c.last_within-found.ensures.frame.still) learnt in
     let done = learnt_done z u c.last_within-found.new.pass.seat.me
-    c.enter_last-in-Ok.new.pass.seat.me event c.requires.at_pin behind
+    c.enter_last-in-Ok.new.pass.seat.me event c.requires.fresh.at_pin behind
     c.enter_last-in-Ok.ensures.entered in (
       (event, finds_below (bound_of hi) found object c.last_within-found.ensures.emptied, done.0),
       done.1,
@@ -449,7 +449,8 @@ returns-then-not-found-clause-alone c alone = let z = c.args.tree.now.space.tabl
     (left_learnt z a b m k looked c.requires.work.known) c.take_run.ensures.learnt in
     absurd (never_vanishes z hi m n k cursor walk c.in-Some.route c.in-Some.is alone left.0 low
     v.0.upper c.in-Ok.run'
-    (left_alone z m k a b looked alone) c.requires.at_pin c.requires.work.known learnt ends.0 ends.1
+    (left_alone z m k a b looked alone) c.requires.fresh.at_pin c.requires.work.known learnt ends.0
+    ends.1
     (subst (λ (x : Bound). HasAllUpTo x (bound_of hi) z v.0.upper c.in-Ok.run') begins
     c.in-Ok.ensures.run)
     (c.last_within-found.ensures.last

@@ -23,15 +23,24 @@ use Rattle.ca_replace.proofs.StoreCalls.{has_read, knows_first, rests_first, sto
 use Rattle.ca_replace.proofs.Opening.{at_run, opens}
 use Rattle.ca_replace.proofs.store.TreeStoreOrderedStore.range.Goals as goal
 
-pub range-requires-clause-function : goal.range-requires-clause-function
-range-requires-clause-function g c = subst (λ (s : StoreAndRun). MayBeAskedForAll g.F.Fn c.args.counts.now (knows s).keypos)
-    (sym c.self.view_is) c.requires.function
+pub read_or_refuse-requires-clause-may : goal.read_or_refuse-requires-clause-may
+read_or_refuse-requires-clause-may g c = (
+  c.requires.lower_edge,
+  c.requires.upper_edge,
+  subst (λ (s : StoreAndRun). MayBeAskedForAll g.F.Fn c.args.counts.now (knows s).keypos)
+      (sym c.self.view_is) c.requires.function,
+)
+
+pub read_or_refuse-requires-clause-resting : goal.read_or_refuse-requires-clause-resting
+read_or_refuse-requires-clause-resting g c = rests_first c.self.inside c.self.view_is
+    c.requires.closed c.self.invariant
 
 pub returns-in-Ok-clause-opens : goal.returns-in-Ok-clause-opens
 returns-in-Ok-clause-opens g c = let table = c.self.inside.tree.now.space.table.shared.table_id in
     let z = c.self.inside.tree.now.space.table.shared.key in
-    let u = c.self.inside.pass.seat.me.0.upper in let v = c.range.new.pass.seat.me.0.upper in
-    let run = c.range.new.run in
+    let u = c.self.inside.pass.seat.me.0.upper in let v = c.read_or_refuse.new.pass.seat.me.0.upper
+    in
+    let run = c.read_or_refuse.new.left in
     let rests = rests_first c.self.inside c.self.view_is c.requires.closed c.self.invariant in
     let sought : Sought g.row.F.Denot =
     record { lo = c.args.lo; hi = c.args.hi; want = c.args.want; counts = c.args.counts } in
@@ -40,21 +49,22 @@ returns-in-Ok-clause-opens g c = let table = c.self.inside.tree.now.space.table.
     (known_of table z u) (record (known_of table z v) { run = Some (left_of v run) })
     (knows_first c.self.inside c.self.view_is c.requires.closed) refl
     (opens g.F.Fn sought table z u v c.in-Ok.whole run rests.known
-    c.in-Ok.ensures.works.at_work.known c.in-Ok.ensures.done)
+    c.in-Ok.ensures.frame.at_work.known c.in-Ok.ensures.come.0)
 
 pub returns-in-Err-clause-refused : goal.returns-in-Err-clause-refused
 returns-in-Err-clause-refused g c = let u = c.self.inside.pass.seat.me.0.upper in
-    let v = c.range.new.pass.seat.me.0.upper in
-    store_declined c.self.inside c.self.view_is c.requires.closed c.range.new.pass
+    let v = c.read_or_refuse.new.pass.seat.me.0.upper in
+    store_declined c.self.inside c.self.view_is c.requires.closed c.read_or_refuse.new.pass
     c.self.inside.last c.outcome_by.result c.self.invariant
-    c.in-Err.ensures.rests.resting.known
+    c.in-Err.ensures.frame.resting.known
     (if_refused_by (λ rise. IsRefused rise u v) c.in-Err.why c.outcome_by.result
-    c.outcome_by.ensures c.in-Err.ensures.refused)
+    c.outcome_by.ensures c.in-Err.ensures.come.0)
 
 pub returns-in-Err-clause-promised : goal.returns-in-Err-clause-promised
 returns-in-Err-clause-promised g c = let tree = c.self.inside.tree.now in
     let last = c.self.inside.last in let pass = c.self.inside.pass in
-    let new = c.range.new.pass in let done = c.in-Err.ensures in let e = c.range.ensures in
+    let new = c.read_or_refuse.new.pass in let done = c.in-Err.ensures in let e =
+    c.read_or_refuse.ensures in
     let before = store_of tree pass last in let behind = store_of tree new last in
     let z = tree.space.table.shared.key in let why = c.in-Err.why in let o = c.outcome_by.result in
     let is = c.outcome_by.ensures in let budget = c.args.budget in
@@ -67,34 +77,36 @@ returns-in-Err-clause-promised g c = let tree = c.self.inside.tree.now in
     subst (λ (s : StoreAndRun). HasRead Needs budget s.store behind o
     × IfRefused o (λ _. IsSparing s.store behind) × OpensInBudget budget s.store behind o)
     c.self.view_is (
-      has_read c.self.inside new Needs budget o
+      has_read c.self.inside.tree.now c.self.inside.pass new c.self.inside.last Needs budget o
           (rests_first c.self.inside c.self.view_is c.requires.closed c.self.invariant)
-          done.rests.number e.acts
+          done.frame.number done.come.1
           (if_caused_by (λ w. IsRangeCaused Needs z pass.number budget w pass.seat.me
           pass.kept.rows new.seat.me new.kept.rows) why o is caused)
           (λ alone. reads_refused z why o pass.seat.me new.seat.me is (done.alone alone))
-          e.bounded e.loads,
+          e.bounds.bounded e.bounds.loads,
       if_refused_by (λ _. IsSparing before behind) why o is
-          (done.few, done.rests.resting.few.ever, e.lags),
+          (done.few, done.frame.resting.few.ever, e.bounds.lags),
       if_not_done (λ _. IsUnspent budget pass.seat.me new.seat.me) why o is,
     )
 
 pub returns-in-Ok-clause-promised : goal.returns-in-Ok-clause-promised
 returns-in-Ok-clause-promised g c = let tree = c.self.inside.tree.now in
-    let new = c.range.new.pass in let done = c.in-Ok.ensures in
+    let new = c.read_or_refuse.new.pass in let done = c.in-Ok.ensures in
     let behind = store_of tree new c.self.inside.last in let o = outcome.Done c.in-Ok.whole in
-    let budget = c.args.budget in let e = c.range.ensures in
+    let budget = c.args.budget in let e = c.read_or_refuse.ensures in
     let Needs = EndsTooSoon (bound_of c.args.lo) (bound_of c.args.hi) in
     subst (λ (s : StoreAndRun). HasRead Needs budget s.store behind o
     × IfRefused o (λ _. IsSparing s.store behind) × OpensInBudget budget s.store behind o)
     c.self.view_is (
-      has_read c.self.inside new Needs budget o
+      has_read c.self.inside.tree.now c.self.inside.pass new c.self.inside.last Needs budget o
           (rests_first c.self.inside c.self.view_is c.requires.closed c.self.invariant)
-          done.works.number e.acts tt (λ alone. ((done.alone alone).0, tt)) e.bounded e.loads,
+          done.frame.number done.come.1 tt (λ alone. ((done.alone alone).0, tt)) e.bounds.bounded
+          e.bounds.loads,
       tt,
-      done.unspent,
+      done.answered.unspent,
     )
 
 pub invariant_of-self : goal.invariant_of-self
 invariant_of-self g c = let done = c.in-Ok.ensures in
-    at_run c.self.inside.pass.seat.me c.range.new.run done.works.at_work c.range.ensures.lags done.all_seen done.done.1.opened
+    at_run c.self.inside.pass.seat.me c.read_or_refuse.new.left done.frame.at_work
+    c.read_or_refuse.ensures.bounds.lags done.answered.all_seen done.come.0.1.opened

@@ -16,14 +16,14 @@ pub read_first-requires-clause-answers : goal.read_first-requires-clause-answers
 read_first-requires-clause-answers c = first_read _ _ c.in-Ok.ensures.run refl refl
     (learnt_unanswered c.args.tree.now.space.table.shared.key c.args.pass.now.seat.me.0.upper
     c.snap.new.pass.seat.me.0.upper
-    c.requires.at_pin c.requires.work.known c.in-Ok.ensures.learnt)
+    c.requires.fresh.at_pin c.requires.work.known c.in-Ok.ensures.learnt)
 
 pub returns-in-Ok-clause-tried : goal.returns-in-Ok-clause-tried
 returns-in-Ok-clause-tried c = let lo = bound_of c.args.self.now.lo in
     let event = above_event lo c.read_first.result c.read_first.new.into.items in
     let done = learnt_done c.args.tree.now.space.table.shared.key c.args.pass.now.seat.me.0.upper
     c.snap.new.pass.seat.me
-    c.read_first.new.pass.seat.me event c.requires.at_pin c.in-Ok.ensures.learnt
+    c.read_first.new.pass.seat.me event c.requires.fresh.at_pin c.in-Ok.ensures.learnt
     c.read_first.ensures.entered in (
       (
         event,
@@ -63,3 +63,6 @@ returns-in-Err-clause-alone c alone = let m = c.args.pass.now.seat.me in
       passes_within (bases_at m) (2 * bases_at m) m c.snap.new.pass.seat.me (omega arith) did.0,
       did.1,
     )
+
+pub snap-requires-clause-none_met : goal.snap-requires-clause-none_met
+snap-requires-clause-none_met c = c.requires.fresh.none_met

@@ -22,7 +22,7 @@ pub enter_run-requires-clause-answer : goal.enter_run-requires-clause-answer
 enter_run-requires-clause-answer g c = run_read _ _ c.in-Ok.ensures.run
     (learnt_unanswered c.args.tree.now.space.table.shared.key c.args.pass.now.seat.me.0.upper
     c.snap.new.pass.seat.me.0.upper
-    c.requires.at_pin c.requires.work.known c.in-Ok.ensures.learnt)
+    c.requires.fresh.at_pin c.requires.work.known c.in-Ok.ensures.learnt)
 
 pub open_run-requires-clause-remembered : goal.open_run-requires-clause-remembered
 open_run-requires-clause-remembered g c = let z = c.args.tree.now.space.table.shared.key in
@@ -55,7 +55,7 @@ returns-in-Ok-clause-tried g c = let z = c.args.tree.now.space.table.shared.key 
     let opened = c.open_run.new.run in let h = c.in-Ok.ensures.run in
     let e = c.enter_run.ensures.entered in
     let event = range_event run u lo hi in
-    let done = learnt_done z before m n event c.requires.at_pin c.in-Ok.ensures.learnt e in
+    let done = learnt_done z before m n event c.requires.fresh.at_pin c.in-Ok.ensures.learnt e in
     let are : left_of v opened ≡ objects_of (within lo (cut_of run u hi) (all_of run u)) = subst
     (λ (x : MyTree). left_of v opened ≡ objects_of (within lo (bound_of c.end_of-end.result)
     (all_of run x.0.upper))) e.now
@@ -106,3 +106,6 @@ returns-in-Err-clause-alone g c alone = let m = c.args.pass.now.seat.me in
       passes_within (bases_at m) (2 * bases_at m) m c.snap.new.pass.seat.me (omega arith) did.0,
       did.1,
     )
+
+pub snap-requires-clause-none_met : goal.snap-requires-clause-none_met
+snap-requires-clause-none_met g c = c.requires.fresh.none_met
