@@ -13,6 +13,7 @@ pub mod Integers
 pub mod Items
 pub mod KeyPlaces
 pub mod Lasts
+pub mod InFront
 pub mod Lists
 pub mod Opened
 pub mod NewNumbers

@@ -5,6 +5,7 @@ pub mod Escapes
 pub mod IntTag
 pub mod KeyParts
 pub mod Languages
+pub mod Leaves
 pub mod Patches
 pub mod Puts
 pub mod Reads

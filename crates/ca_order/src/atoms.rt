@@ -24,7 +24,7 @@ pub(crate) fn read_atom(alloc: Global, bytes: &[u8]) -> Result<(Term, &[u8]), Re
 
 // The text that these bytes begin with, where it has no zero byte and so few bytes that it can't have too many characters.
 #[inline(always)]
-fn short_text(bytes: &[u8]) -> Option<(&str, &[u8])>
+pub(crate) fn short_text(bytes: &[u8]) -> Option<(&str, &[u8])>
     ensures { IfSome result (λ p. HasNoZero p.0.now × BeginsWithText bytes.now p.0.now p.1.now) }
 {
     let (run, rest) = run_to_end(bytes)?;

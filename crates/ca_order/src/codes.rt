@@ -6,6 +6,7 @@ ghost use Rattle.ca_order.specs.Languages.{IsTermCode};
 ghost use Rattle.ca_order.specs.Codes.{AreCodes, AreCodes-prop, IsTermCode-prop};
 
 use crate::fault::DecodeFault;
+use crate::leaves::{Leaf, read_leaf};
 use crate::object::{skip_one, split_size};
 use crate::reading::decode;
 use crate::tags::{ATOM, CONS, NIL, TUPLE};
@@ -245,11 +246,12 @@ impl<'a> Part<'a> {
 }
 
 impl<'a> Codes<'a> {
-    ghost use Rattle.std.specs.Prelude.{◌≡◌, ◌≤◌, [], ◌∷◌, List, length, MatchOption};
-    ghost use Rattle.ca_term.specs.Tree.{Tree};
+    ghost use Rattle.std.specs.Prelude.{◌≡◌, ◌==◌, ◌≤◌, [], ◌∷◌, List, length, IfSome, MatchOption};
+    ghost use Rattle.ca_term.specs.Tree.{Tree, Nil};
     ghost use Rattle.ca_term.specs.Order.{term_cmp};
     ghost use Rattle.ca_order.specs.Codes.{BeginsOtherwise, HasNoCell, HasNoTuple, IsOpened, IsOpenedCell};
     ghost use Rattle.ca_order.specs.CodesView.{terms_of, tree_of};
+    ghost use Rattle.ca_order.specs.Leaves.{tree_of_leaf};
 
     /// The one code.
     #[inline(always)]
@@ -257,6 +259,14 @@ impl<'a> Codes<'a> {
         ensures { terms_of result ≡ tree_of part.entry ∷ [] }
     {
         Codes { bytes: part.bytes }
+    }
+
+    /// Whether there are none.
+    #[inline(always)]
+    pub fn is_empty(self) -> bool
+        ensures { result ≡ (length (terms_of self.entry) == 0) }
+    {
+        self.bytes.is_empty()
     }
 
     /// The first code, and the ones behind it. There has to be one.
@@ -279,6 +289,28 @@ impl<'a> Codes<'a> {
             return None;
         }
         Some(self.split())
+    }
+
+    /// The first term, where it has no terms inside and its code holds it as it is, and the codes behind it. The code is read once and takes no
+    /// memory. `None` tells nothing.
+    #[inline(always)]
+    pub fn leaf(self) -> Option<(Leaf<'a>, Codes<'a>)>
+        ensures { IfSome result (λ p. terms_of self.entry ≡ tree_of_leaf p.0 ∷ terms_of p.1) }
+    {
+        let (leaf, rest) = read_leaf(self.bytes)?;
+        Some((leaf, Codes { bytes: rest }))
+    }
+
+    /// Where the first term is the empty list, the codes behind it.
+    #[inline(always)]
+    pub fn behind_nil(self) -> Option<Codes<'a>>
+        ensures { MatchOption result (BeginsOtherwise Nil (terms_of self.entry)) (λ rest. terms_of self.entry ≡ Nil ∷ terms_of rest) }
+    {
+        let (tag, rest) = self.bytes.split_first()?;
+        if *tag != NIL {
+            return None;
+        }
+        Some(Codes { bytes: rest })
     }
 
     /// How the first term stands to this one. Its code's end isn't looked for: no code begins with another one.

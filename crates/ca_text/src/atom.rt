@@ -100,9 +100,9 @@ fn put_characters(text: &str, into: &mut Vec<u8>) -> Result<(), AllocError>
     Ok(())
 }
 
-// Appends the text of an atom: as it is where it has the plain form and is no reserved word, else in quotes.
+/// Appends the text of an atom: as it is where it has the plain form and is no reserved word, else in quotes.
 #[tactic(auto, unfolding(crate::specs::Text::atom_text, crate::specs::Text::quoted))]
-pub(crate) fn put_atom(text: &str, into: &mut Vec<u8>) -> Result<(), AllocError>
+pub fn put_atom(text: &str, into: &mut Vec<u8>) -> Result<(), AllocError>
     ensures ok { OnOk result (into.new.items ≡ into.old.items ++ atom_text text.now) }
     ensures front { BeginsWith into.new.items into.old.items }
 {

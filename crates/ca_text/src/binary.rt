@@ -47,8 +47,9 @@ fn put_numbers(bytes: &[u8], into: &mut Vec<u8>) -> Result<(), AllocError>
     Ok(())
 }
 
+/// Appends the text of a binary.
 #[tactic(auto, unfolding(crate::specs::Text::binary_text))]
-pub(crate) fn put_binary(bytes: &[u8], into: &mut Vec<u8>) -> Result<(), AllocError>
+pub fn put_binary(bytes: &[u8], into: &mut Vec<u8>) -> Result<(), AllocError>
     ensures ok { OnOk result (into.new.items ≡ into.old.items ++ binary_text bytes.now) }
     ensures front { BeginsWith into.new.items into.old.items }
 {

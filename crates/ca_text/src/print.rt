@@ -49,7 +49,8 @@ fn put_term(term: &Term, into: &mut Vec<u8>) -> Result<(), AllocError>
     }
 }
 
-fn put_integer(value: i64, into: &mut Vec<u8>) -> Result<(), AllocError>
+/// Appends the text of an integer.
+pub fn put_integer(value: i64, into: &mut Vec<u8>) -> Result<(), AllocError>
     ensures ok { OnOk result (into.new.items ≡ into.old.items ++ signed_decimal value) }
     ensures front { BeginsWith into.new.items into.old.items }
 {
