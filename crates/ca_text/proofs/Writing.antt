@@ -1,10 +1,13 @@
 -- What stands in a list of bytes while a term is written, part by part.
-use Rattle.std.proofs.Common.{◌≡◌, ℕ, suc, ◌+◌, ◌<◌, ◌≤◌, true, List, [], ◌∷◌, ◌++◌, length, drop, get_or, codes, flat_map, append_assoc, append-nil, add-one, drop-cons, refl, sym, ap, ◌∙◌}
+use Rattle.std.proofs.Common.{◌≡◌, ℕ, suc, ◌+◌, ◌<◌, ◌≤◌, ◌==◌, Bool, true, false, not, List, [], ◌∷◌, ◌++◌, length, drop, get_or, codes, flat_map, append_assoc, append-nil, add-one, drop-cons, refl, sym, ap, ◌∙◌}
 use Rattle.std.specs.List.{list_all}
 use Rattle.std.proofs.lemmas.List.{drop_all}
+use Rattle.std.proofs.lemmas.List.Concat.{flat_map-cons}
 use Rattle.ca_term.specs.Tree.{Tree, Cons, row_of}
-use Rattle.ca_text.specs.Text.{text_of, tail_text, row_text, more_text, binary_text, escaped_byte, is_printable}
+use Rattle.ca_text.specs.Text.{text_of, tail_text, row_text, more_text, binary_text, escaped_byte, is_bare, is_printable}
+use Rattle.ca_text.specs.Bytes.{backslash, double_quote}
 use Rattle.ca_text.proofs.Fronts.{written_two}
+use Rattle.ca_text.proofs.Tools.{both}
 
 -- The terms from a place on are the one there and those behind it.
 pub drop_at : (ts : List Tree) (i : ℕ) (t : Tree) → i < length ts → t ≡ get_or ts i t → drop i ts ≡ t ∷ drop (i + 1) ts
@@ -35,3 +38,22 @@ pub shown_text : (bytes others : List ℕ) (first : ℕ) → bytes ≡ first ∷
     → codes "<<\"" ++ (flat_map escaped_byte bytes ++ codes "\">>") ≡ binary_text bytes
 unfolding binary_text
 shown_text bytes others first e h = let g : list_all is_printable (first ∷ others) ≡ true = rw e at h in rw (e, g) refl
+
+not_true : (x : Bool) → not x ≡ true → x ≡ false
+not_true true h = cc
+not_true false h = refl
+
+bare_byte : (b : ℕ) → is_bare b ≡ true → escaped_byte b ≡ b ∷ []
+unfolding escaped_byte
+bare_byte b h =
+    let apart = both (not (b == double_quote)) (not (b == backslash)) h in
+    let quote : (b == double_quote) ≡ false = not_true (b == double_quote) apart.0 in
+    let slash : (b == backslash) ≡ false = not_true (b == backslash) apart.1 in
+    rw (quote, slash) refl
+
+-- Bytes that want no backslash are shown as they are.
+pub bare_text : (bytes : List ℕ) → list_all is_bare bytes ≡ true → flat_map escaped_byte bytes ≡ bytes
+bare_text [] h = refl
+bare_text (b ∷ bs) h =
+    let t = both (is_bare b) (list_all is_bare bs) h in
+    flat_map-cons escaped_byte b bs ∙ (λ i. bare_byte b t.0 i ++ bare_text bs t.1 i)

@@ -56,6 +56,10 @@ atom_text text = if is_plain_atom text then text else quoted text
 abbrev pub is_printable : ℕ → Bool
 is_printable b = nat_le (byte " ") b && nat_le b (byte "~")
 
+-- a byte that stands between double quotes as it is
+abbrev pub is_bare : ℕ → Bool
+is_bare b = not (b == double_quote) && not (b == backslash)
+
 -- `"` and `\` after a backslash, any other printable byte as it is
 unfoldable pub escaped_byte : ℕ → List ℕ
 escaped_byte b = if b == double_quote || b == backslash then backslash ∷ b ∷ [] else b ∷ []

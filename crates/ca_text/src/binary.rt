@@ -1,7 +1,7 @@
 //! The text of binaries.
 ghost use Rattle.std.specs.Prelude.{◌≡◌, ◌++◌, ◌<◌, decimal, codes, flat_map, OnOk};
 ghost use Rattle.std.specs.List.{list_all};
-ghost use Rattle.ca_text.specs.Text.{binary_text, escaped_byte, is_printable};
+ghost use Rattle.ca_text.specs.Text.{binary_text, escaped_byte, is_bare, is_printable};
 ghost use Rattle.ca_text.specs.Written.{BeginsWith};
 
 use crate::writer::{put, put_number};
@@ -24,8 +24,26 @@ fn put_shown_byte(b: u8, into: &mut Vec<u8>) -> Result<(), AllocError>
     put(&[b], into)
 }
 
+fn is_bare(bytes: &[u8]) -> bool
+    ensures { result ≡ list_all is_bare bytes.now }
+{
+    bytes.iter().all(|b| *b != b'"' && *b != b'\\')
+}
+
+// The bytes between double quotes: as they are where none of them wants a backslash.
 #[tactic(auto, using(crate::proofs::Fronts::begins_more))]
 fn put_shown(bytes: &[u8], into: &mut Vec<u8>) -> Result<(), AllocError>
+    ensures ok { OnOk result (into.new.items ≡ into.old.items ++ flat_map escaped_byte bytes.now) }
+    ensures front { BeginsWith into.new.items into.old.items }
+{
+    if is_bare(bytes) {
+        return put(bytes, into);
+    }
+    put_escaped(bytes, into)
+}
+
+#[tactic(auto, using(crate::proofs::Fronts::begins_more))]
+fn put_escaped(bytes: &[u8], into: &mut Vec<u8>) -> Result<(), AllocError>
     ensures ok { OnOk result (into.new.items ≡ into.old.items ++ flat_map escaped_byte bytes.now) }
     ensures front { BeginsWith into.new.items into.old.items }
 {
