@@ -85,6 +85,16 @@ pub(crate) fn remove_all(store: &mut TreeStore<'_>, keys: &[u32]) -> bool
     true
 }
 
+/// Whether a new tree's store now has the keys from 1 to 7 without 3, in the bases of 1, of 2, of 4 and 5, and of 6 and 7 where each has two objects at most.
+pub(crate) fn parts_bases(store: &mut TreeStore<'_>) -> bool
+    requires sizes { store.old.store.z.keypos ≡ 1 }
+    requires closed { (knows store.old).run ≡ None }
+    ensures sizes { store.new.store.z ≡ store.old.store.z }
+    ensures closed { (knows store.new).run ≡ None }
+{
+    put_all(store, &[2, 4, 6, 1, 3, 5, 7], 9) && remove_all(store, &[3])
+}
+
 /// Which keys below 8 have an object with the value 0, as a set of bits.
 pub(crate) fn keys_in(store: &mut TreeStore<'_>) -> u8
     requires closed { (knows store.old).run ≡ None }

@@ -6,7 +6,7 @@ ghost use Rattle.ca_model.specs.Edges.{IsProperBound, bound_of};
 ghost use Rattle.ca_model.specs.Function.{MayBeAskedForAll};
 ghost use Rattle.ca_replace.specs.Resting.{IsAtRest, knows};
 
-use crate::calls::{put_all, remove_all};
+use crate::calls::parts_bases;
 use crate::halts::{Progress, begin, find, go_on, help, load_progress, stop};
 use crate::objects::key_code;
 use crate::stopped::{Call, come_to, outcome_of};
@@ -16,6 +16,7 @@ use ca_model::{Edge, Spent};
 use ca_node::TreePass;
 use ca_range::{Search, Sought};
 use ca_replace::{Tree, TreeStore};
+use std::alloc::Global;
 
 // A store's call with its budget, and what it comes to: its answer, or so many turns of help and other turns where it is busy.
 type Order = (Call, u32, Result<bool, (u32, u32)>);
@@ -25,7 +26,7 @@ type Order = (Call, u32, Result<bool, (u32, u32)>);
 type Beside = (u32, Order, u8, u32);
 
 // The bases are those of 1, of 2, of 4 and 5, and of 6 and 7.
-const BESIDE: [Beside; 27] = [
+const BESIDE: &[Beside] = &[
     (1, (Call::Put(1), 1, Err((0, 1))), 0b0011_0110, 2),
     (1, (Call::Put(1), 2, Err((0, 2))), 0b0011_0110, 1),
     (1, (Call::Put(1), 3, Err((1, 2))), 0b0011_0110, 3),
@@ -94,29 +95,46 @@ fn beside(
     Some((told, run.keys, spent))
 }
 
+// The same of a new tree.
+fn beside_of(alloc: Global, from: u32, order: Order) -> Option<(bool, u8, Spent)>
+    requires { 1 ≤ order.1 }
+{
+    let tuning = tuning_of((2, 8, 1_000, -1));
+    let Ok(mut tree) = tree_of(alloc, 384, 2, tuning, ZERO) else {
+        return None;
+    };
+    let Ok(one) = tree.enroll(alloc) else {
+        return None;
+    };
+    let Ok(mut first) = tree.enroll(alloc) else {
+        return None;
+    };
+    let mut store = TreeStore::new(&tree, one);
+    if !parts_bases(&mut store) {
+        return None;
+    }
+    beside(&tree, &mut store, &mut first, from, order, &tuning)
+}
+
 #[test]
 fn a_store_beside_a_stopped_range(rt: HostRuntime) {
-    for (from, order, keys, passed) in BESIDE {
+    for row in BESIDE {
+        let (from, order, keys, passed) = *row;
         let (_, budget, _) = order;
         if budget == 0 {
             break;
         }
-        let tuning = tuning_of((2, 8, 1_000, -1));
-        let Ok(mut tree) = tree_of(rt.alloc(), 384, 2, tuning, ZERO) else {
-            panic!(rt; "no memory")
-        };
-        let (Ok(one), Ok(mut first)) = (tree.enroll(rt.alloc()), tree.enroll(rt.alloc())) else {
-            panic!(rt; "no pass")
-        };
-        let mut store = TreeStore::new(&tree, one);
-        assert!(rt; put_all(&mut store, &[2, 4, 6, 1, 3, 5, 7], 9) && remove_all(&mut store, &[3]));
-        let ends = beside(&tree, &mut store, &mut first, from, order, &tuning);
         let spent = Spent {
             lost: 0,
             helped: 0,
             passed,
         };
-        assert_eq!(rt; ends, Some((true, keys, spent)), "{from}, {budget}");
+        let ends = Some((true, keys, spent));
+        assert_eq!(rt;
+            beside_of(rt.alloc(), from, order),
+            ends,
+            "{from}, {budget}"
+        );
     }
 }
 
@@ -155,7 +173,7 @@ const KEYS: Option<u8> = Some(0b0011_0110);
 
 const FOUR: Order = (Call::Get(4), 1, Ok(true));
 
-const MET: [Met; 18] = [
+const MET: &[Met] = &[
     (
         First::GoesOn,
         0,
@@ -419,27 +437,42 @@ fn meet(
     }
 }
 
+// What comes of a case on a new tree.
+fn met_of(alloc: Global, case: (First, u32, Order)) -> Option<Ends>
+    requires { 1 ≤ case.2.1 }
+{
+    let tuning = tuning_of((2, 8, 1_000, -1));
+    let Ok(mut tree) = tree_of(alloc, 384, 3, tuning, ZERO) else {
+        return None;
+    };
+    let Ok(one) = tree.enroll(alloc) else {
+        return None;
+    };
+    let Ok(mut first) = tree.enroll(alloc) else {
+        return None;
+    };
+    let Ok(mut second) = tree.enroll(alloc) else {
+        return None;
+    };
+    let mut store = TreeStore::new(&tree, one);
+    if !parts_bases(&mut store) {
+        return None;
+    }
+    meet(&tree, &mut store, &mut first, &mut second, case, &tuning)
+}
+
 #[test]
 fn a_pass_that_helps_a_stopped_range(rt: HostRuntime) {
-    for (does, by, order, ends) in MET {
+    for row in MET {
+        let (does, by, order, ends) = *row;
         let (_, budget, _) = order;
         if budget == 0 {
             break;
         }
-        let tuning = tuning_of((2, 8, 1_000, -1));
-        let Ok(mut tree) = tree_of(rt.alloc(), 384, 3, tuning, ZERO) else {
-            panic!(rt; "no memory")
-        };
-        let (Ok(one), Ok(mut first)) = (tree.enroll(rt.alloc()), tree.enroll(rt.alloc())) else {
-            panic!(rt; "no pass")
-        };
-        let Ok(mut second) = tree.enroll(rt.alloc()) else {
-            panic!(rt; "no pass")
-        };
-        let mut store = TreeStore::new(&tree, one);
-        assert!(rt; put_all(&mut store, &[2, 4, 6, 1, 3, 5, 7], 9) && remove_all(&mut store, &[3]));
-        let case = (does, by, order);
-        let came = meet(&tree, &mut store, &mut first, &mut second, case, &tuning);
-        assert_eq!(rt; came, Some(ends), "{by}, {budget}");
+        assert_eq!(rt;
+            met_of(rt.alloc(), (does, by, order)),
+            Some(ends),
+            "{by}, {budget}"
+        );
     }
 }
