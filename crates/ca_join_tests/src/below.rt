@@ -10,7 +10,7 @@ ghost use Rattle.ca_node.specs.TreeView.{Quiet};
 ghost use Rattle.ca_replace.specs.Resting.{IsAtRest, knows};
 ghost use Rattle.ca_rows.specs.Passes.{OnlyReads, sizes};
 
-use crate::calls::{has, put, put_all, remove_all};
+use crate::calls::{has, parts_bases, put};
 use crate::halts::has_in;
 use crate::objects::{key_code, object};
 use crate::steps::{NOTHING, join, look};
@@ -20,6 +20,7 @@ use ca_base::{Insertion, Keyed, Putting, Target, count, put_at, search};
 use ca_model::Outcome;
 use ca_node::{Cursor, Spot, TreePass, TreeSpace, load_word, walk};
 use ca_replace::{Tree, TreeStore};
+use std::alloc::Global;
 
 // Walks to the base to which a key is led, if nothing marked it.
 fn go(space: &TreeSpace, pass: &mut TreePass, key: u32) -> Option<Cursor>
@@ -153,38 +154,45 @@ fn below(
 // of 6 and 7.
 const CASES: [(u32, u8); 4] = [(1, 1), (1, 2), (2, 1), (2, 2)];
 
+// What comes of a case on a new tree.
+fn ends_of(alloc: Global, case: (u32, u8)) -> Option<Ends> {
+    let tuning = tuning_of((2, 8, 1_000, -1));
+    let Ok(mut tree) = tree_of(alloc, 384, 3, tuning, ZERO) else {
+        return None;
+    };
+    let Ok(one) = tree.enroll(alloc) else {
+        return None;
+    };
+    let Ok(mut first) = tree.enroll(alloc) else {
+        return None;
+    };
+    let Ok(mut second) = tree.enroll(alloc) else {
+        return None;
+    };
+    let mut store = TreeStore::new(&tree, one);
+    if !parts_bases(&mut store) {
+        return None;
+    }
+    below(&tree, &mut first, &mut second, &mut store, case, &tuning)
+}
+
+const READS_OLD: Ends = Ends {
+    old: true,
+    new: false,
+    put: (false, 1),
+    kept: true,
+    now: true,
+    put_now: (true, 0),
+    done: true,
+};
+
 #[test]
 fn a_reader_below_a_route_that_is_unlinked(rt: HostRuntime) {
     for (key, by) in CASES {
-        let tuning = tuning_of((2, 8, 1_000, -1));
-        let Ok(mut tree) = tree_of(rt.alloc(), 384, 3, tuning, ZERO) else {
-            panic!(rt; "no memory")
-        };
-        let (Ok(one), Ok(mut first)) = (tree.enroll(rt.alloc()), tree.enroll(rt.alloc())) else {
-            panic!(rt; "no pass")
-        };
-        let Ok(mut second) = tree.enroll(rt.alloc()) else {
-            panic!(rt; "no pass")
-        };
-        let mut store = TreeStore::new(&tree, one);
-        assert!(rt; put_all(&mut store, &[2, 4, 6, 1, 3, 5, 7], 9) && remove_all(&mut store, &[3]));
-        let ends = below(
-            &tree,
-            &mut first,
-            &mut second,
-            &mut store,
-            (key, by),
-            &tuning,
+        assert_eq!(rt;
+            ends_of(rt.alloc(), (key, by)),
+            Some(READS_OLD),
+            "{key}, {by}"
         );
-        let expected = Ends {
-            old: true,
-            new: false,
-            put: (false, 1),
-            kept: true,
-            now: true,
-            put_now: (true, 0),
-            done: true,
-        };
-        assert_eq!(rt; ends, Some(expected), "{key}, {by}");
     }
 }

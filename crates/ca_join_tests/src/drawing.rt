@@ -95,33 +95,43 @@ fn beside(alloc: Global, left: &str, right: &str) -> Option<String> {
     Some(into)
 }
 
-#[test]
-fn a_tree_is_drawn_before_and_behind_joins(rt: HostRuntime) {
-    let Ok(mut tree) = tree_of(rt.alloc(), 384, 2, tuning_of((2, 8, 250, -600)), ZERO) else {
-        panic!(rt; "no memory")
+// A new tree before and behind joins, and how many bases were split and joined.
+fn drawn(alloc: Global) -> Option<(String, (u64, u64))> {
+    let Ok(mut tree) = tree_of(alloc, 384, 2, tuning_of((2, 8, 250, -600)), ZERO) else {
+        return None;
     };
-    let (Ok(one), Ok(mut other)) = (tree.enroll(rt.alloc()), tree.enroll(rt.alloc())) else {
-        panic!(rt; "no pass")
+    let Ok(one) = tree.enroll(alloc) else {
+        return None;
+    };
+    let Ok(mut other) = tree.enroll(alloc) else {
+        return None;
     };
     let mut store = TreeStore::new(&tree, one);
-    assert!(rt; put_all(&mut store, &[2, 4, 6, 1, 3, 5, 7], 9));
+    if !put_all(&mut store, &[2, 4, 6, 1, 3, 5, 7], 9) {
+        return None;
+    }
     let before = draw(
-        rt.alloc(),
+        alloc,
         &places(tree.space(), &mut other),
         keys_in(&mut store),
-    );
-    assert!(rt; remove_all(&mut store, &[5, 7, 3]));
+    )?;
+    if !remove_all(&mut store, &[5, 7, 3]) {
+        return None;
+    }
     let behind = draw(
-        rt.alloc(),
+        alloc,
         &places(tree.space(), &mut other),
         keys_in(&mut store),
-    );
-    let (Some(left), Some(right)) = (before, behind) else {
-        panic!(rt; "no memory")
-    };
-    let Some(drawing) = beside(rt.alloc(), left.as_str(), right.as_str()) else {
-        panic!(rt; "no memory")
+    )?;
+    let drawing = beside(alloc, before.as_str(), behind.as_str())?;
+    Some((drawing, store.adapted()))
+}
+
+#[test]
+fn a_tree_is_drawn_before_and_behind_joins(rt: HostRuntime) {
+    let Some((drawing, adapted)) = drawn(rt.alloc()) else {
+        panic!(rt; "no drawing")
     };
     assert_eq!(rt; drawing.as_str(), DRAWING);
-    assert_eq!(rt; store.adapted(), (3, 2));
+    assert_eq!(rt; adapted, (3, 2));
 }

@@ -16,6 +16,7 @@ use ca_adapt::{Attempt, begin_attempt, mark_for};
 use ca_model::{Edge, OrderedStore, Outcome, Spent};
 use ca_node::{JoinState, Link, Spot, TreePass, TreeSpace, load_join, load_word, walk};
 use ca_replace::{Tree, TreeStore};
+use std::alloc::Global;
 
 // The route on whose link a base hangs, if it hangs on one.
 fn route_of(link: Link) -> Option<u32>
@@ -95,7 +96,7 @@ struct Case {
     turns: Option<(u32, u32)>,
 }
 
-const CASES: [(u8, Meets, u32, Option<(u32, u32)>); 9] = [
+const CASES: &[(u8, Meets, u32, Option<(u32, u32)>)] = &[
     (1, Meets::Put(1), 1, Some((1, 0))),
     (1, Meets::Put(1), 2, None),
     (1, Meets::Put(2), 1, None),
@@ -150,9 +151,30 @@ fn is_given_up(
     is_over(state, attempt.number)
 }
 
+// The same of a new tree.
+fn ends_of(alloc: Global, case: Case) -> Option<bool>
+    requires { 1 ≤ case.budget }
+{
+    let Ok(mut tree) = tree_of(alloc, 384, 2, tuning_of((2, 8, 1_000, -1)), ZERO) else {
+        return None;
+    };
+    let Ok(one) = tree.enroll(alloc) else {
+        return None;
+    };
+    let Ok(mut other) = tree.enroll(alloc) else {
+        return None;
+    };
+    let mut store = TreeStore::new(&tree, one);
+    if !put_all(&mut store, &[2, 4, 6, 1, 3, 5, 7], 9) {
+        return None;
+    }
+    is_given_up(&tree, &mut store, &mut other, case)
+}
+
 #[test]
 fn a_prepared_join_that_is_in_the_way_is_given_up(rt: HostRuntime) {
-    for (key, meets, budget, turns) in CASES {
+    for row in CASES {
+        let (key, meets, budget, turns) = *row;
         let case = Case {
             key,
             meets,
@@ -162,16 +184,7 @@ fn a_prepared_join_that_is_in_the_way_is_given_up(rt: HostRuntime) {
         if budget == 0 {
             break;
         }
-        let Ok(mut tree) = tree_of(rt.alloc(), 384, 2, tuning_of((2, 8, 1_000, -1)), ZERO) else {
-            panic!(rt; "no memory")
-        };
-        let (Ok(one), Ok(mut other)) = (tree.enroll(rt.alloc()), tree.enroll(rt.alloc())) else {
-            panic!(rt; "no pass")
-        };
-        let mut store = TreeStore::new(&tree, one);
-        assert!(rt; put_all(&mut store, &[2, 4, 6, 1, 3, 5, 7], 9));
-        let over = is_given_up(&tree, &mut store, &mut other, case);
         let met = !matches!(meets, Meets::Put(2));
-        assert_eq!(rt; over, Some(met), "{key}, {budget}");
+        assert_eq!(rt; ends_of(rt.alloc(), case), Some(met), "{key}, {budget}");
     }
 }

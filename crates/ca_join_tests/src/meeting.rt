@@ -6,7 +6,7 @@ ghost use Rattle.ca_node.specs.JoinSteps.{join_state};
 ghost use Rattle.ca_replace.specs.Resting.{IsAtRest};
 ghost use Rattle.ca_rows.specs.Passes.{sizes};
 
-use crate::calls::{keys_in, put_all, remove_all};
+use crate::calls::{keys_in, parts_bases};
 use crate::drawing::places;
 use crate::steps::{NOTHING, join, look, secure, stop, unlink};
 use crate::trees::{ZERO, tree_of, tuning_of};
@@ -14,6 +14,7 @@ use ca_adapt::{Adapted, Attempt, Finish, Tuning, Why, finish_join, fork_at};
 use ca_model::Spent;
 use ca_node::{JoinState, Spot, TreePass, TreeSpace, abort_join, adapted, load_join, walk};
 use ca_replace::{Tree, TreeStore};
+use std::alloc::Global;
 
 // The attempt that is secured.
 fn secured_in(state: JoinState) -> Option<u64>
@@ -196,7 +197,7 @@ const TAKEN: Adapted = Adapted::NotJoined(Why::Taken);
 type Case = (u8, Meets, Told, Option<(bool, u32)>, (u64, u64));
 
 // The bases are that of 1, of 2, of 4 and 5, and of 6 and 7.
-const CASES: [Case; 8] = [
+const CASES: &[Case] = &[
     (
         1,
         Meets::CarriesOut,
@@ -231,33 +232,44 @@ const CASES: [Case; 8] = [
     ),
 ];
 
+// What both are told on a new tree, how many joins each carried out, the keys that there are then, and whether the bases of 1 and 2 are one, at the level 1.
+type Came = (Ends, (u64, u64), u8, (bool, bool));
+
+fn came_of(alloc: Global, key: u8, meets: Meets) -> Option<Came> {
+    let tuning = tuning_of((2, 8, 1_000, -1));
+    let Ok(mut tree) = tree_of(alloc, 384, 4, tuning, ZERO) else {
+        return None;
+    };
+    let Ok(one) = tree.enroll(alloc) else {
+        return None;
+    };
+    let Ok(mut first) = tree.enroll(alloc) else {
+        return None;
+    };
+    let Ok(mut second) = tree.enroll(alloc) else {
+        return None;
+    };
+    let Ok(mut other) = tree.enroll(alloc) else {
+        return None;
+    };
+    let mut store = TreeStore::new(&tree, one);
+    if !parts_bases(&mut store) {
+        return None;
+    }
+    let ends = meet(&tree, &mut first, &mut second, key, meets, &tuning)?;
+    let (_, by_first) = adapted(&first);
+    let (_, by_second) = adapted(&second);
+    let [(one, level), (two, _), _, _, _, _, _] = places(tree.space(), &mut other);
+    let place = (one == two, level == 1);
+    Some((ends, (by_first, by_second), keys_in(&mut store), place))
+}
+
 #[test]
 fn two_passes_meet_at_a_join(rt: HostRuntime) {
-    for (key, meets, told, won, joins) in CASES {
-        let tuning = tuning_of((2, 8, 1_000, -1));
-        let Ok(mut tree) = tree_of(rt.alloc(), 384, 4, tuning, ZERO) else {
-            panic!(rt; "no memory")
-        };
-        let (Ok(one), Ok(mut first)) = (tree.enroll(rt.alloc()), tree.enroll(rt.alloc())) else {
-            panic!(rt; "no pass")
-        };
-        let (Ok(mut second), Ok(mut other)) = (tree.enroll(rt.alloc()), tree.enroll(rt.alloc()))
-        else {
-            panic!(rt; "no pass")
-        };
-        let mut store = TreeStore::new(&tree, one);
-        assert!(rt; put_all(&mut store, &[2, 4, 6, 1, 3, 5, 7], 9) && remove_all(&mut store, &[3]));
-        let ends = meet(&tree, &mut first, &mut second, key, meets, &tuning);
-        assert_eq!(rt; ends, Some((told, won)), "{key}");
-        let (_, by_first) = adapted(&first);
-        let (_, by_second) = adapted(&second);
-        assert_eq!(rt; (by_first, by_second), joins, "{key}");
-        assert_eq!(rt; keys_in(&mut store), 0b1111_0110, "{key}");
-        let [(one, level), (two, _), _, _, _, _, _] = places(tree.space(), &mut other);
-        assert_eq!(rt;
-            (one == two, level == 1),
-            (joins != (0, 0), joins != (0, 0)),
-            "{key}"
-        );
+    for row in CASES {
+        let (key, meets, told, won, joins) = *row;
+        let place = (joins != (0, 0), joins != (0, 0));
+        let came = Some(((told, won), joins, 0b1111_0110, place));
+        assert_eq!(rt; came_of(rt.alloc(), key, meets), came, "{key}");
     }
 }

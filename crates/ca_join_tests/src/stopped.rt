@@ -3,13 +3,14 @@
 ghost use Rattle.std.specs.Prelude.{◌≡◌, ◌≤◌, None};
 ghost use Rattle.ca_replace.specs.Resting.{IsAtRest, knows};
 
-use crate::calls::{keys_in, put, put_all, range, remove, remove_all};
+use crate::calls::{keys_in, parts_bases, put, range, remove};
 use crate::objects::key_code;
 use crate::steps::{secure, stop, unlink};
 use crate::trees::{ZERO, tree_of, tuning_of};
 use ca_model::{Code, Edge, OrderedStore, Outcome, Spent};
 use ca_node::{TreePass, adapted};
 use ca_replace::{Tree, TreeStore};
+use std::alloc::Global;
 
 /// A call of a store.
 #[derive(Clone, Copy)]
@@ -58,19 +59,18 @@ pub(crate) fn come_to(store: &mut TreeStore<'_>, call: Call, budget: u32) -> Out
 }
 
 // The key whose base was looked at for the join, the call beside it, its budget, and what it comes to: its answer, or so many turns of help and other turns
-// where it is busy. Whether it carries the join out; and the keys that there are behind it, as a set of bits.
+// where it is busy.
 #[derive(Clone, Copy)]
 struct Case {
     key: u8,
     call: Call,
     budget: u32,
     comes: Result<bool, (u32, u32)>,
-    joins: bool,
-    keys: u8,
 }
 
-// One that begins with the bases of 1, of 2, of 4 and 5, and of 6 and 7. The first two of them are joined.
-const CASES: [(u8, Call, u32, Result<bool, (u32, u32)>, bool, u8); 19] = [
+// Each begins with the bases of 1, of 2, of 4 and 5, and of 6 and 7. The first two of them are joined. Behind the case stands whether the call carries the
+// join out, and the keys that there are behind it, as a set of bits.
+const CASES: &[(u8, Call, u32, Result<bool, (u32, u32)>, bool, u8)] = &[
     (1, Call::Put(1), 1, Err((1, 0)), true, 0b1111_0110),
     (1, Call::Put(1), 2, Ok(true), true, 0b1111_0110),
     (2, Call::Put(1), 2, Ok(true), true, 0b1111_0110),
@@ -127,36 +127,50 @@ fn beside(
     Some(unlink(space, first, uniting))
 }
 
+// What `beside` tells of a new tree; the keys that there are behind it, and how many joins the store and the pass carried out.
+type Ends = ((bool, u32), u8, (u64, u64));
+
+fn ends_of(alloc: Global, case: Case) -> Option<Ends>
+    requires { 1 ≤ case.budget }
+{
+    let Ok(mut tree) = tree_of(alloc, 384, 2, tuning_of((2, 8, 1_000, -1)), ZERO) else {
+        return None;
+    };
+    let Ok(one) = tree.enroll(alloc) else {
+        return None;
+    };
+    let Ok(mut first) = tree.enroll(alloc) else {
+        return None;
+    };
+    let mut store = TreeStore::new(&tree, one);
+    if !parts_bases(&mut store) {
+        return None;
+    }
+    let ends = beside(&tree, &mut store, &mut first, case)?;
+    let keys = keys_in(&mut store);
+    let (_, by_store) = store.adapted();
+    let (splits, by_pass) = adapted(&first);
+    if splits != 0 {
+        return None;
+    }
+    Some((ends, keys, (by_store, by_pass)))
+}
+
 #[test]
 fn a_secured_join_that_is_in_the_way_is_carried_out(rt: HostRuntime) {
-    for (key, call, budget, comes, joins, keys) in CASES {
+    for row in CASES {
+        let (key, call, budget, comes, joins, keys) = *row;
         let case = Case {
             key,
             call,
             budget,
             comes,
-            joins,
-            keys,
         };
         if budget == 0 {
             break;
         }
-        let Ok(mut tree) = tree_of(rt.alloc(), 384, 2, tuning_of((2, 8, 1_000, -1)), ZERO) else {
-            panic!(rt; "no memory")
-        };
-        let (Ok(one), Ok(mut first)) = (tree.enroll(rt.alloc()), tree.enroll(rt.alloc())) else {
-            panic!(rt; "no pass")
-        };
-        let mut store = TreeStore::new(&tree, one);
-        assert!(rt; put_all(&mut store, &[2, 4, 6, 1, 3, 5, 7], 9) && remove_all(&mut store, &[3]));
-        let ends = beside(&tree, &mut store, &mut first, case);
-        assert_eq!(rt; ends, Some((!joins, u32::from(joins))), "{key}, {budget}");
-        assert_eq!(rt; keys_in(&mut store), keys, "{key}, {budget}");
-        let (_, by_store) = store.adapted();
-        assert_eq!(rt;
-            (by_store, adapted(&first)),
-            (u64::from(joins), (0, u64::from(!joins))),
-            "{key}, {budget}"
-        );
+        let each = (u64::from(joins), u64::from(!joins));
+        let ends = ((!joins, u32::from(joins)), keys, each);
+        assert_eq!(rt; ends_of(rt.alloc(), case), Some(ends), "{key}, {budget}");
     }
 }
