@@ -148,21 +148,31 @@ fn draw(alloc: Global, marks: &[Marked; 4], state: RangeState) -> Option<String>
     Some(into)
 }
 
-#[test]
-fn a_marked_run_is_drawn(rt: HostRuntime) {
-    let Ok(mut tree) = tree_of(rt.alloc(), 384, 2, tuning_of((2, 8, 1_000, -1)), ZERO) else {
-        panic!(rt; "no memory")
+// Whether a range of all marked all bases of a new tree with one border, and the drawing of these marks.
+fn drawn(alloc: Global) -> Option<(bool, String)> {
+    let Ok(mut tree) = tree_of(alloc, 384, 2, tuning_of((2, 8, 1_000, -1)), ZERO) else {
+        return None;
     };
-    let (Ok(one), Ok(mut other)) = (tree.enroll(rt.alloc()), tree.enroll(rt.alloc())) else {
-        panic!(rt; "no pass")
+    let Ok(one) = tree.enroll(alloc) else {
+        return None;
+    };
+    let Ok(mut other) = tree.enroll(alloc) else {
+        return None;
     };
     let mut store = TreeStore::new(&tree, one);
-    assert_eq!(rt; wrong_row(&mut store, &PUTS), None);
-    assert!(rt; open_all(&mut store, 5));
+    if wrong_row(&mut store, &PUTS).is_some() || !open_all(&mut store, 5) {
+        return None;
+    }
     let (marks, state) = marks(tree.space(), &mut other);
-    assert!(rt; has_one_border(&marks));
-    let Some(drawing) = draw(rt.alloc(), &marks, state) else {
-        panic!(rt; "no memory")
+    let drawing = draw(alloc, &marks, state)?;
+    Some((has_one_border(&marks), drawing))
+}
+
+#[test]
+fn a_marked_run_is_drawn(rt: HostRuntime) {
+    let Some((one_border, drawing)) = drawn(rt.alloc()) else {
+        panic!(rt; "no drawing")
     };
+    assert!(rt; one_border);
     assert_eq!(rt; drawing.as_str(), DRAWING);
 }

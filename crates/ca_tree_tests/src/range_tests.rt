@@ -10,6 +10,7 @@ use crate::scripts::{Answer, Row, wrong_row};
 use crate::trees::{Few, ZERO, tree_of, tuning_of};
 use ca_model::{Changed, Code, FullCause, OrderedStore, Outcome, Spent};
 use ca_replace::TreeStore;
+use std::alloc::Global;
 
 // A call: a range of all that may be cut behind so many objects, or not if that is 0, or a call that looks for one object.
 #[derive(Clone, Copy)]
@@ -108,17 +109,52 @@ fn wrong_read(
     None
 }
 
-#[test]
-fn a_range_takes_a_turn_for_each_base_that_it_passes(rt: HostRuntime) {
-    let Ok(mut tree) = tree_of(rt.alloc(), 384, 1, tuning_of(STAIRS), ZERO) else {
-        panic!(rt; "no memory")
+// Rows of a script, and turns behind them.
+type Part<'a> = (&'a [Row], &'a [Turn]);
+
+const NO_PART: Part<'static> = (&[], &[]);
+
+// The first row of a part that comes to something else, and the first turn that does, with what it comes to.
+type Wrong = (Option<usize>, Option<(usize, Outcome<bool>, Option<u32>)>);
+
+fn wrong_in(store: &mut TreeStore<'_>, part: Part<'_>) -> Wrong
+    requires sizes { store.old.store.z.keypos ≡ 1 }
+    requires closed { (knows store.old).run ≡ None }
+    ensures sizes { store.new.store.z ≡ store.old.store.z }
+    ensures closed { (knows store.new).run ≡ None }
+{
+    let (script, turns) = part;
+    let row = wrong_row(store, script);
+    (row, wrong_read(store, turns))
+}
+
+// The same of parts that follow each other, on a new tree whose bases have two objects at most.
+fn wrong_on_stairs(alloc: Global, parts: [Part<'_>; 4]) -> Option<[Wrong; 4]> {
+    let Ok(mut tree) = tree_of(alloc, 384, 1, tuning_of(STAIRS), ZERO) else {
+        return None;
     };
-    let Ok(pass) = tree.enroll(rt.alloc()) else {
-        panic!(rt; "no pass")
+    let Ok(pass) = tree.enroll(alloc) else {
+        return None;
     };
     let mut store = TreeStore::new(&tree, pass);
-    assert_eq!(rt; wrong_row(&mut store, &TEN), None);
-    assert_eq!(rt; wrong_read(&mut store, &TURNS), None);
+    let [first, second, third, last] = parts;
+    let before = [wrong_in(&mut store, first), wrong_in(&mut store, second)];
+    let behind = [wrong_in(&mut store, third), wrong_in(&mut store, last)];
+    Some([before[0], before[1], behind[0], behind[1]])
+}
+
+// Nothing is wrong.
+const RIGHT: Option<[Wrong; 4]> = Some([(None, None); 4]);
+
+#[test]
+fn a_range_takes_a_turn_for_each_base_that_it_passes(rt: HostRuntime) {
+    let parts = [
+        (TEN.as_slice(), TURNS.as_slice()),
+        NO_PART,
+        NO_PART,
+        NO_PART,
+    ];
+    assert_eq!(rt; wrong_on_stairs(rt.alloc(), parts), RIGHT);
 }
 
 const REMOVED: Answer = Finds(Outcome::Done(Changed::Put), Some(0));
@@ -190,20 +226,13 @@ const BEHIND_FIRST: [Turn; 4] = [
 
 #[test]
 fn the_last_object_takes_a_turn_for_each_base_on_the_left(rt: HostRuntime) {
-    let Ok(mut tree) = tree_of(rt.alloc(), 384, 1, tuning_of(STAIRS), ZERO) else {
-        panic!(rt; "no memory")
-    };
-    let Ok(pass) = tree.enroll(rt.alloc()) else {
-        panic!(rt; "no pass")
-    };
-    let mut store = TreeStore::new(&tree, pass);
-    assert_eq!(rt; wrong_row(&mut store, &TEN), None);
-    assert_eq!(rt; wrong_row(&mut store, &MIDDLE), None);
-    assert_eq!(rt; wrong_read(&mut store, &BEHIND_THREE), None);
-    assert_eq!(rt; wrong_row(&mut store, &LEFT), None);
-    assert_eq!(rt; wrong_read(&mut store, &BEHIND_ALL), None);
-    assert_eq!(rt; wrong_row(&mut store, &FIRST), None);
-    assert_eq!(rt; wrong_read(&mut store, &BEHIND_FIRST), None);
+    let parts = [
+        (TEN.as_slice(), NO_PART.1),
+        (MIDDLE.as_slice(), BEHIND_THREE.as_slice()),
+        (LEFT.as_slice(), BEHIND_ALL.as_slice()),
+        (FIRST.as_slice(), BEHIND_FIRST.as_slice()),
+    ];
+    assert_eq!(rt; wrong_on_stairs(rt.alloc(), parts), RIGHT);
 }
 
 // Whether a key is from a lower edge on.
@@ -366,6 +395,21 @@ const GAPS: [Row; 11] = [
 
 const NONE: [Row; 0] = [];
 
+// The first row of a script that comes to something else on a new tree, and the first edges that do then, where the keys are these.
+type Within = (Option<usize>, Option<(u32, Option<u32>)>);
+
+fn wrong_within(alloc: Global, script: &[Row], keys: u64) -> Option<Within> {
+    let Ok(mut tree) = tree_of(alloc, 2_000, 1, tuning_of((3, 64, 1_000, -1)), ZERO) else {
+        return None;
+    };
+    let Ok(pass) = tree.enroll(alloc) else {
+        return None;
+    };
+    let mut store = TreeStore::new(&tree, pass);
+    let row = wrong_row(&mut store, script);
+    Some((row, wrong_edges(&mut store, keys)))
+}
+
 #[test]
 fn ranges_are_what_is_within_their_edges(rt: HostRuntime) {
     for (name, script, keys) in [
@@ -373,15 +417,8 @@ fn ranges_are_what_is_within_their_edges(rt: HostRuntime) {
         ("two gaps", GAPS.as_slice(), 0x000f_c0ff),
         ("an empty tree", NONE.as_slice(), 0),
     ] {
-        let Ok(mut tree) = tree_of(rt.alloc(), 2_000, 1, tuning_of((3, 64, 1_000, -1)), ZERO) else {
-            panic!(rt; "no memory")
-        };
-        let Ok(pass) = tree.enroll(rt.alloc()) else {
-            panic!(rt; "no pass")
-        };
-        let mut store = TreeStore::new(&tree, pass);
-        assert_eq!(rt; wrong_row(&mut store, script), None, "{name}");
-        assert_eq!(rt; wrong_edges(&mut store, keys), None, "{name}");
+        let wrong = wrong_within(rt.alloc(), script, keys);
+        assert_eq!(rt; wrong, Some((None, None)), "{name}");
     }
 }
 
@@ -414,17 +451,22 @@ fn wrong_turn(store: &mut TreeStore<'_>, turns: u32) -> Option<u32>
     None
 }
 
-#[test]
-fn the_rows_of_ranges_come_back(rt: HostRuntime) {
-    let Ok(mut tree) = tree_of(rt.alloc(), 384, 1, tuning_of(STAIRS), ZERO) else {
-        panic!(rt; "no memory")
+// The first row of a script that comes to something else on a new tree, and the first turn of three hundred that does then.
+fn wrong_in_turns(alloc: Global) -> Option<(Option<usize>, Option<u32>)> {
+    let Ok(mut tree) = tree_of(alloc, 384, 1, tuning_of(STAIRS), ZERO) else {
+        return None;
     };
-    let Ok(pass) = tree.enroll(rt.alloc()) else {
-        panic!(rt; "no pass")
+    let Ok(pass) = tree.enroll(alloc) else {
+        return None;
     };
     let mut store = TreeStore::new(&tree, pass);
-    assert_eq!(rt; wrong_row(&mut store, &TEN), None);
-    assert_eq!(rt; wrong_turn(&mut store, 300), None);
+    let row = wrong_row(&mut store, &TEN);
+    Some((row, wrong_turn(&mut store, 300)))
+}
+
+#[test]
+fn the_rows_of_ranges_come_back(rt: HostRuntime) {
+    assert_eq!(rt; wrong_in_turns(rt.alloc()), Some((None, None)));
 }
 
 // While another pass's run is open.
@@ -438,17 +480,26 @@ const KEEPS_381: FullCause = FullCause {
 // Once it is closed.
 const FREED: [Row; 1] = [(PutSparing(1), Answer::Number(1_000))];
 
+// Whether a run was opened, and the first rows of scripts that come to something else beside it and behind it.
+fn beside_a_run(alloc: Global) -> Option<(bool, Option<usize>, Option<usize>)> {
+    let Ok(mut tree) = tree_of(alloc, 384, 2, tuning_of((120, 0, 1_000, -1)), ZERO) else {
+        return None;
+    };
+    let Ok(one) = tree.enroll(alloc) else {
+        return None;
+    };
+    let Ok(two) = tree.enroll(alloc) else {
+        return None;
+    };
+    let mut reader = TreeStore::new(&tree, one);
+    let mut writer = TreeStore::new(&tree, two);
+    let opened = open_all(&mut reader, ENOUGH);
+    let held = wrong_row(&mut writer, &HELD);
+    reader.close_run();
+    Some((opened, held, wrong_row(&mut writer, &FREED)))
+}
+
 #[test]
 fn no_row_is_given_again_while_a_run_is_open(rt: HostRuntime) {
-    let Ok(mut tree) = tree_of(rt.alloc(), 384, 2, tuning_of((120, 0, 1_000, -1)), ZERO) else {
-        panic!(rt; "no memory")
-    };
-    let (Ok(one), Ok(two)) = (tree.enroll(rt.alloc()), tree.enroll(rt.alloc())) else {
-        panic!(rt; "no pass")
-    };
-    let (mut reader, mut writer) = (TreeStore::new(&tree, one), TreeStore::new(&tree, two));
-    assert!(rt; open_all(&mut reader, ENOUGH));
-    assert_eq!(rt; wrong_row(&mut writer, &HELD), None);
-    reader.close_run();
-    assert_eq!(rt; wrong_row(&mut writer, &FREED), None);
+    assert_eq!(rt; beside_a_run(rt.alloc()), Some((true, None, None)));
 }
