@@ -1,5 +1,5 @@
 //! What is told of a store on the tree: of its calls that ask a function, and whether it is held up.
-ghost use Rattle.ca_client.specs.Following.{asked_on_tree};
+ghost use Rattle.ca_client.specs.Following.{asked_on_tree, keeps_many};
 
 use ca_model::{Changed, Code, OrderedStore, Outcome};
 use ca_replace::TreeStore;
@@ -13,6 +13,8 @@ pub(crate) struct OnTree;
 
 impl<'t> Follower<TreeStore<'t>> for OnTree {
     ghost asked = { asked_on_tree };
+
+    ghost held_up = { keeps_many };
 
     fn is_held_up(store: &TreeStore<'t>) -> bool {
         store.kept() > MANY_ROWS

@@ -1,5 +1,5 @@
 //! What whoever owns a table wants to be told of its store: of the calls that ask a function, and whether it is held up.
-ghost use Rattle.std.specs.Prelude.{◌≡◌, ℕ, ◌≤◌, [], None, length};
+ghost use Rattle.std.specs.Prelude.{◌≡◌, ◌↔◌, ℕ, ◌≤◌, [], None, IsTrue, length};
 ghost use Rattle.ca_term.specs.declared.bounds.TheConstants.{MOST_CODE_BYTES};
 ghost use Rattle.ca_model.specs.declared.outcome.Changed.{Changed};
 ghost use Rattle.ca_model.specs.declared.outcome.Outcome.{Outcome};
@@ -16,8 +16,12 @@ pub trait Follower<S: OrderedStore> {
     /// Of a call with this budget: the store before it and behind it, and what it came to.
     ghost asked: { ℕ → S → S → Outcome Changed → Type 0 };
 
-    /// Whether the store keeps much that it can give back only behind others, so that they should go on before its next call.
-    fn is_held_up(store: &S) -> bool;
+    /// Where the store keeps much that it can give back only behind others.
+    ghost held_up: { S → Type 0 };
+
+    /// Whether that is so: then the others should go on before its next call.
+    fn is_held_up(store: &S) -> bool
+        ensures held_up { IsTrue result ↔ held_up store.now };
 
     /// The store's `remove_if`.
     fn remove_if<F: Fn(&[u8]) -> bool>(
@@ -64,6 +68,8 @@ pub struct Unfollowed;
 
 impl<S: OrderedStore> Follower<S> for Unfollowed {
     ghost asked = { λ budget s t outcome. Unit {0} };
+
+    ghost held_up = { λ s. ⊥ };
 
     fn is_held_up(_store: &S) -> bool {
         false

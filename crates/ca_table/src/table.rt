@@ -1,5 +1,5 @@
 //! A table over a store.
-ghost use Rattle.std.specs.Prelude.{◌≡◌, ◌≤◌, None, Some, false, length, map, slice_range, IfOk, IfErr, IsOk, IsTrue, OnOk, OnErr};
+ghost use Rattle.std.specs.Prelude.{◌≡◌, ◌↔◌, ◌≤◌, None, Some, false, length, map, slice_range, IfOk, IfErr, IsOk, IsTrue, OnOk, OnErr};
 ghost use Rattle.ca_term.specs.Add.{addition_of};
 ghost use Rattle.ca_term.specs.Object.{fits};
 ghost use Rattle.ca_term.specs.Tree.{Tree};
@@ -98,7 +98,9 @@ impl<S: OrderedStore + Drop, W: Follower<S>> Table<S, W> {
     }
 
     /// Whether the store is held up by others, as its follower tells.
-    pub fn is_held_up(&self) -> bool {
+    pub fn is_held_up(&self) -> bool
+        ensures { IsTrue result ↔ W.held_up self.now }
+    {
         W::is_held_up(&self.store)
     }
 
