@@ -1,5 +1,5 @@
 -- Lines that are kept are determined by where they are kept.
-use Rattle.std.proofs.Common.{◌≡◌, ℕ, zero, suc, ◌+◌, ◌-◌, ◌<◌, List, [], ◌∷◌, ◌++◌, length, take, drop, Option, None, Some, Ok, Err, refl, sym, ◌∙◌, ap, subst, arith}
+use Rattle.std.proofs.Common.{◌≡◌, ℕ, zero, suc, ◌+◌, ◌-◌, ◌<◌, List, [], ◌∷◌, ◌++◌, length, take, drop, Option, Some, Ok, refl, sym, ◌∙◌, ap, subst, arith}
 use Rattle.std.specs.Prelude.{slice_get, option_map}
 use Rattle.std.specs.Coded.{Coded, Coded-set, coded_ℕ, coded_option, codes}
 use Rattle.std.proofs.lemmas.List.{drop_more, take_more, take_rest}
@@ -10,7 +10,7 @@ use Rattle.ca_ets.specs.Command.{Command}
 use Rattle.ca_cmd.specs.Content.{IsLine}
 use Rattle.ca_cmd.specs.Adding.{adding_in}
 use Rattle.ca_cmd.specs.File.{lines_of, commands_in}
-use Rattle.ca_cmd.specs.Kept.{HoldsAt, IsInText, IsDrawn, IsFrom, AreAt, Keeps}
+use Rattle.ca_cmd.specs.Kept.{HoldsAt, IsFrom, AreAt, Keeps}
 use Rattle.ca_cmd.specs.Lines.{numbered}
 use Rattle.ca_cmd.specs.Sole.{Sole}
 use Rattle.ca_cmd.specs.declared.kept.Held.{Held}

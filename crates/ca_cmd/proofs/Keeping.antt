@@ -1,12 +1,12 @@
 -- One line after the other is kept.
-use Rattle.std.proofs.Common.{◌≡◌, ℕ, suc, ◌+◌, ◌-◌, ◌<◌, ◌≤◌, Bool, true, false, List, [], ◌∷◌, ◌++◌, length, drop, take, map, Option, None, Some, Ok, refl, sym, ◌∙◌, ap, subst, arith}
+use Rattle.std.proofs.Common.{◌≡◌, ℕ, ◌+◌, ◌-◌, ◌<◌, ◌≤◌, Bool, true, false, List, [], ◌∷◌, ◌++◌, length, drop, take, Option, None, Some, Ok, refl, sym, ◌∙◌, ap, subst, arith}
 use Rattle.std.specs.Prelude.{if◌then◌else◌, cond}
 use Rattle.std.proofs.lemmas.List.{append-nil, map-append, take_rest}
 use Rattle.std.proofs.lemmas.List.Sums.{sum_by-append, sum_by-cons}
 use Rattle.ca_ets.specs.Command.{Command}
 use Rattle.ca_cmd.specs.Adding.{may_add, adding_in}
 use Rattle.ca_cmd.specs.Content.{IsLine}
-use Rattle.ca_cmd.specs.File.{Numbered, lines_of, commands_in}
+use Rattle.ca_cmd.specs.File.{lines_of, commands_in}
 use Rattle.ca_cmd.specs.Kept.{IsInText, AreAt, Keeps, IsAdded, IsNoted, IsTaken, IsEndOf}
 use Rattle.ca_cmd.specs.Lines.{numbered, numbered_line}
 use Rattle.ca_cmd.specs.declared.kept.Held.{Held}

@@ -1,4 +1,5 @@
 mod Arguments
+pub mod Coding
 pub mod Commands
 mod CutLines
 pub mod Determined

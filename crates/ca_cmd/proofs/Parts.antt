@@ -1,15 +1,13 @@
 -- Parts of a file, one behind the other, are the file.
-use Rattle.std.proofs.Common.{◌≡◌, ℕ, zero, suc, ◌+◌, ◌-◌, ◌≤◌, List, [], ◌∷◌, ◌++◌, length, drop, Option, None, Some, refl, sym, ◌∙◌, ap, subst, arith, append_assoc, length-append}
+use Rattle.std.proofs.Common.{◌≡◌, ℕ, suc, ◌+◌, ◌-◌, ◌≤◌, List, [], ◌∷◌, ◌++◌, length, drop, refl, sym, ◌∙◌, ap, subst, arith, append_assoc, length-append}
 use Rattle.std.proofs.lemmas.List.{append-nil, map-append}
 use Rattle.ca_cmd.specs.File.{Numbered, cut_lines, lines_of, held_at, AreLines, IsFileOf, IsRefusedAt}
-use Rattle.ca_cmd.specs.Kept.{IsInText, Keeps, IsEndOf}
+use Rattle.ca_cmd.specs.Kept.{IsInText}
 use Rattle.ca_cmd.specs.Lines.{numbered, numbered_line}
 use Rattle.ca_cmd.specs.Parts.{IsPart, IsRefusedFrom, IsFaultFrom, IsJoined}
 use Rattle.ca_cmd.specs.Refusal.{IsCauseIn}
 use Rattle.ca_cmd.specs.declared.fault.FileFault.{FileFault}
 use Rattle.ca_cmd.specs.declared.fault.FileFault.TheVariants.{BadLine, NoMemory}
-use Rattle.ca_cmd.specs.declared.kept.Held.{Held}
-use Rattle.ca_cmd.specs.declared.line.Line.{Line}
 use Rattle.ca_cmd.specs.declared.part.Part.{Part}
 use Rattle.ca_cmd.proofs.CutLines.{no_longer}
 use Rattle.ca_cmd.proofs.Keeping.{IsReadTo, keeps_join, keeps_none}

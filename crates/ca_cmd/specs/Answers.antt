@@ -1,5 +1,5 @@
 -- Answers as plain data.
-use Rattle.std.specs.Prelude.{ℕ, suc, List, [], ◌∷◌, map, Ok, Err}
+use Rattle.std.specs.Prelude.{ℕ, suc, List, [], ◌∷◌, Ok, Err}
 use Rattle.ca_ets.specs.Command.{Answer as PlainAnswer, Full, Deep, Worn, response_of}
 use Rattle.ca_cmd.specs.declared.answer.Answer.{Answer}
 use Rattle.ca_cmd.specs.declared.answer.Answer.TheVariants as answer

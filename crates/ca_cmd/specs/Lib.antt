@@ -1,6 +1,7 @@
 pub mod Adding
 pub mod Answers
 pub mod Argument
+pub mod Coded
 pub mod Content
 pub mod File
 pub mod Finds

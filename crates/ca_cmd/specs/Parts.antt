@@ -1,5 +1,5 @@
 -- Parts of a command file: what is read from a byte on where a line begins, before which so many lines stand.
-use Rattle.std.specs.Prelude.{◌≡◌, ℕ, ◌+◌, ◌≤◌, ◌<◌, List, [], ◌∷◌, ◌++◌, length, drop, slice_index_or, Err, MatchResult}
+use Rattle.std.specs.Prelude.{◌≡◌, ℕ, ◌+◌, ◌≤◌, ◌<◌, List, ◌∷◌, ◌++◌, length, drop, slice_index_or, Err, MatchResult}
 use Rattle.ca_cmd.specs.Content.{IsLine}
 use Rattle.ca_cmd.specs.File.{Numbered, lines_of, AreLines}
 use Rattle.ca_cmd.specs.Kept.{IsInText, Keeps}

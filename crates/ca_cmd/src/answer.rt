@@ -1,15 +1,16 @@
 //! Answers as text.
 ghost use Rattle.std.specs.Prelude.{◌≡◌, ◌++◌, OnOk, OnErr};
 ghost use Rattle.ca_ets.specs.Command.{Results, response_of};
-ghost use Rattle.ca_order.specs.CodesView.{terms_of, tree_of};
+ghost use Rattle.ca_order.specs.CodesView.{terms_of};
 ghost use Rattle.ca_term.specs.Tree.{Nil, list_of};
 ghost use Rattle.ca_text.specs.Text.{text_of};
 ghost use Rattle.ca_text.specs.Written.{BeginsWith};
 ghost use Rattle.ca_cmd.specs.Answers.{answer_of};
 ghost use Rattle.ca_cmd.specs.Output.{batch_end, text_of_answer, text_of_fault, text_of_response};
 
+use crate::coded::put_first;
 use ca_ets::{Fault, Reply};
-use ca_order::{Codes, Part};
+use ca_order::Codes;
 use ca_term::Term;
 use ca_text::{print_term, put};
 use std::alloc::AllocError;
@@ -111,33 +112,22 @@ fn put_list(terms: &[Term], into: &mut Vec<u8>) -> Result<(), AllocError>
     put(b"]", into)
 }
 
-// The list of the terms of these codes.
+// The list of the terms of these codes, without a term of each.
 #[tactic(auto, using(ca_text::proofs::Fronts::begins_more))]
 fn put_codes(codes: Codes<'_>, into: &mut Vec<u8>) -> Result<(), AllocError>
     ensures ok { OnOk result (into.new.items ≡ into.old.items ++ text_of (list_of (terms_of codes.entry) Nil)) }
     ensures front { BeginsWith into.new.items into.old.items }
 {
-    let Some((first, others)) = codes.first() else {
+    if codes.is_empty() {
         return put(b"[]", into);
-    };
+    }
     put(b"[", into)?;
-    put_part(first, into)?;
-    let mut left = others;
-    while let Some((part, behind)) = left.first() {
+    let mut left = put_first(codes, into)?;
+    while !left.is_empty() {
         put(b",", into)?;
-        put_part(part, into)?;
-        left = behind;
+        left = put_first(left, into)?;
     }
     put(b"]", into)
-}
-
-// The term of a code, which is a term only for that.
-fn put_part(part: Part<'_>, into: &mut Vec<u8>) -> Result<(), AllocError>
-    ensures ok { OnOk result (into.new.items ≡ into.old.items ++ text_of (tree_of part.entry)) }
-    ensures front { BeginsWith into.new.items into.old.items }
-{
-    let term = part.term(*into.allocator())?;
-    put_term(&term, into)
 }
 
 fn put_fault(fault: Fault, into: &mut Vec<u8>) -> Result<(), AllocError>

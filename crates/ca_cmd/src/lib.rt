@@ -5,6 +5,7 @@ mod answer;
 mod answers;
 mod argument;
 mod at_once;
+mod coded;
 mod command;
 mod cut;
 mod fault;

@@ -1,6 +1,5 @@
-use Rattle.std.proofs.Common.{rules, ◌<◌, ◌+◌, ◌∙◌, Bool, refl, ap, subst, arith}
+use Rattle.std.proofs.Common.{rules, ◌+◌, ◌∙◌, Bool, refl, ap, subst, arith}
 use Rattle.ca_cmd.specs.Adding.{may_add}
-use Rattle.ca_cmd.specs.Generator.{drawn_command}
 use Rattle.ca_cmd.specs.Kept.{IsAdded}
 use Rattle.ca_cmd.specs.Lines.{numbered}
 use Rattle.ca_cmd.specs.declared.kept.Place.{Place}

@@ -1,4 +1,4 @@
-use Rattle.std.proofs.Common.{rules, ◌≡◌, ◌+◌, ◌-◌, ◌≤◌, ℕ, length, drop, take, refl, arith}
+use Rattle.std.proofs.Common.{rules, ◌+◌, ◌-◌, ◌≤◌, length, drop, refl, arith}
 use Rattle.std.proofs.lemmas.List.{length-drop, take_rest}
 use Rattle.ca_cmd.specs.Parts.{IsFaultFrom}
 use Rattle.ca_cmd.specs.declared.kept.Place.{Place}

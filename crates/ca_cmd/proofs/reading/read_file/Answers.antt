@@ -1,4 +1,4 @@
-use Rattle.std.proofs.Common.{rules, ◌≡◌, ℕ, List, length, sym, subst, arith}
+use Rattle.std.proofs.Common.{rules, ◌≡◌, ℕ, List, sym, subst}
 use Rattle.ca_cmd.specs.File.{lines_of, IsFileOf}
 use Rattle.ca_cmd.specs.Kept.{IsInText, Keeps}
 use Rattle.ca_cmd.specs.Lines.{numbered}

@@ -1,5 +1,5 @@
 use Rattle.std.proofs.Common.{◌≡◌, ◌∙◌, List, Some, length, refl, ap, subst, arith}
-use Rattle.std.specs.Prelude.{slice_get, option_map}
+use Rattle.std.specs.Prelude.{slice_get}
 use Rattle.std.proofs.lemmas.Option.{slice_get_read}
 use Rattle.ca_cmd.specs.declared.line.Line.{Line}
 use Rattle.ca_cmd.proofs.Determined.{many, is_kept, line_made}
