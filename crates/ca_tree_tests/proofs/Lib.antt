@@ -1,5 +1,4 @@
 mod Alike
-mod Numbers
 mod Opened
 mod SampleObjects
 mod Taking

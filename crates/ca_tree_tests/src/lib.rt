@@ -1,4 +1,4 @@
-//! Tests of the tree. The tests are all that this crate has. By one client: rows, nodes, leaves, tunings, and calls on a store, as rows of data that
+//! Tests of the tree. The tests are all that this crate has. By one client: rows, nodes, tunings, and calls on a store, as rows of data that
 //! small functions go over, and ranges beside a plain definition of what is within two edges. Under contention, while bases are split and joined: clients
 //! read ranges while another one removes and puts, and each must be a state between two of its calls; and clients on threads put, remove and read the
 //! same keys; each client notes what its calls were answered, and behind the last call each key's replies are checked: whether some merge of the clients'
@@ -13,8 +13,6 @@ mod clients;
 mod closings;
 #[cfg(test)]
 mod events;
-#[cfg(test)]
-mod leaves;
 #[cfg(test)]
 mod marked;
 #[cfg(test)]

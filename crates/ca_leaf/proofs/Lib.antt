@@ -1,2 +1,0 @@
-pub mod Orders
-mod Places
