@@ -19,7 +19,7 @@ use Rattle.ca_base.specs.Progress.{HasDone}
 use Rattle.ca_rows.specs.declared.sizes.Sizes.{Sizes}
 use Rattle.ca_rows.specs.declared.view.Met.{Met}
 use Rattle.ca_rows.specs.declared.view.Claim.{Claim}
-use Rattle.ca_rows.specs.declared.view.Claim.TheVariants.{Holds, Lends, Unlinked, Keeps, Returns}
+use Rattle.ca_rows.specs.declared.view.Claim.TheVariants.{Holds, Lends, Unlinked, Keeps}
 use Rattle.ca_rows.specs.Claims.{claim_of}
 
 -- the elements with this one at the place: in that of another one, or between two
@@ -97,7 +97,6 @@ words_of (some (Holds its)) = its
 words_of (some Lends) = []
 words_of (some Unlinked) = []
 words_of (some (Keeps t)) = []
-words_of (some (Returns t its)) = []
 
 -- the update by rows that the seat holds, of the base that it was shown last
 abbrev pub put_update_of : MyTree → ℕ → ℕ → Result ℕ ℕ → Putting → Update

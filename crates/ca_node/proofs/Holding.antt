@@ -6,7 +6,7 @@ use lib.ListN.{get_elem?}
 use Rattle.atomic_table.specs.Table.{State}
 use Rattle.ca_rows.specs.declared.sizes.Sizes.{Sizes}
 use Rattle.ca_rows.specs.declared.view.Claim.{Claim}
-use Rattle.ca_rows.specs.declared.view.Claim.TheVariants.{Holds, Lends, Unlinked, Keeps, Returns}
+use Rattle.ca_rows.specs.declared.view.Claim.TheVariants.{Holds, Lends, Unlinked, Keeps}
 use Rattle.ca_rows.specs.declared.view.View.{View}
 use Rattle.ca_rows.specs.Account.{IsOut, IsClaim, IsRow}
 use Rattle.ca_rows.specs.Chain.{Owner, Free, Linked, Of}
@@ -69,7 +69,6 @@ module _ (z : Sizes) (s : State (Unit {0}) (View TreeView)) (r : R z s) (id : �
           k
       by Unlinked k = k.1.0 l
       by (Keeps t) k = k.3.0 l
-      by (Returns t its) k = k.3.0 l
 
   -- So the seat doesn't claim it.
   pub unclaimed_row : (row : ℕ) → IsLinked s.words row → ¬ IsLent s.words row

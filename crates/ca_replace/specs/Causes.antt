@@ -29,6 +29,7 @@ use Rattle.ca_rows.specs.Kept.{AreKept}
 use Rattle.ca_rows.specs.declared.reclaimed.Reclaimed.{Reclaimed}
 use Rattle.ca_rows.specs.Reclaiming.{IsLag, lag_count, Reclaims}
 use Rattle.ca_rows.specs.Told.{IsOnly}
+use Rattle.ca_rows.specs.Layout.{last_epoch}
 
 -- From one of these moments to the other the pass began a look at the others. What it knows then of a pass that lags, and of the epoch, is of its last look.
 abbrev pub HasLooked : MyTree → MyTree → Type 0
@@ -43,7 +44,7 @@ IsRefill passes number budget begun spent (cause.Full full) m m' kept' = (full.k
     × HasLooked m m' × IsLag passes number full.lag m'.0.pin × (total spent < budget)
 IsRefill passes number budget begun spent (cause.Deep level) m m' kept' = ⊥
 -- Neither is the budget spent, nor did the attempt begin with no row kept, nor does a pass lag. The epoch was at its last value, and rows are kept.
-IsRefill passes number budget begun spent (cause.Worn counter.Epoch) m m' kept' = HasLooked m m' × (4611686018427387904 ≤ m'.0.pin.scan)
+IsRefill passes number budget begun spent (cause.Worn counter.Epoch) m m' kept' = HasLooked m m' × (last_epoch ≤ m'.0.pin.scan)
     × (0 < vec_len kept') × (total spent < budget) × (0 < begun) × (m'.0.pin.lag ≡ 0)
 IsRefill passes number budget begun spent (cause.Worn counter.PoolTag) m m' kept' = ⊥
 IsRefill passes number budget begun spent (cause.Worn counter.Sequence) m m' kept' = ⊥
@@ -101,7 +102,7 @@ IsCaused z number budget adds (cause.Worn counter.PoolTag) m kept m' kept' = m'.
 -- The last attempt found the head empty, and neither is the budget spent, nor did it begin with no row kept, nor does a pass lag. The epoch was at its
 -- last value as rows were given back in this call, and rows are kept.
 IsCaused z number budget adds (cause.Worn counter.Epoch) m kept m' kept' = ((begun : ℕ) × (0 < begun) × HasBegun z.rows begun (vec_len kept) m m')
-    × HasLooked m m' × (4611686018427387904 ≤ m'.0.pin.scan) × (0 < vec_len kept') × (m'.0.pin.lag ≡ 0) × IsUnspent budget m m'
+    × HasLooked m m' × (last_epoch ≤ m'.0.pin.scan) × (0 < vec_len kept') × (m'.0.pin.lag ≡ 0) × IsUnspent budget m m'
 IsCaused z number budget adds (cause.Worn counter.Sequence) m kept m' kept' = ⊥
 
 -- So it is of a call of this pass, by what it was before the call and what it is behind it.
@@ -119,7 +120,7 @@ IfCaused (outcome.Worn counter) P = P (cause.Worn counter)
 -- The pass keeps at most 64 rows; or else, as it last gave rows back in this call, which it did once it had unpinned, another pass lagged, or an
 -- exchange was lost, or the epoch was at its last value.
 abbrev pub KeepsFew : MyTree → MyTree → Vec Kept Global → Type 0
-KeepsFew m m' kept = (vec_len kept ≤ 64) ⊎ (HasLooked m m' × ((0 < m'.0.pin.lag) ⊎ (m'.0.pin.left.lost < m'.0.lost) ⊎ (4611686018427387904 ≤ m'.0.pin.scan)))
+KeepsFew m m' kept = (vec_len kept ≤ 64) ⊎ (HasLooked m m' × ((0 < m'.0.pin.lag) ⊎ (m'.0.pin.left.lost < m'.0.lost) ⊎ (last_epoch ≤ m'.0.pin.scan)))
 
 -- As rows were given back a pass was found to lag once at most; the pass didn't pin.
 abbrev pub LagsOnce : MyTree → MyTree → Type 0
@@ -138,7 +139,7 @@ pub record HasGiven (passes number : ℕ) (answer : Reclaimed) (m m' : MyTree) (
   pub epoch : answer.epoch ≡ m'.0.pin.scan
   pub lost : IsTrue answer.lost ↔ (0 < answer.losses)
   -- Where no pass lags, no exchange was lost, and the epoch may still move, all rows were given back.
-  pub all : answer.lag ≡ None → answer.lost ≡ false → m'.0.pin.scan < 4611686018427387904 → answer.kept ≡ 0
+  pub all : answer.lag ≡ None → answer.lost ≡ false → m'.0.pin.scan < last_epoch → answer.kept ≡ 0
   -- The only pass of a space found none that lags, and lost no exchange.
   pub only : IsOnly m → (answer.lag ≡ None) × (answer.losses ≡ 0)
 

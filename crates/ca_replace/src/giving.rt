@@ -9,16 +9,13 @@ ghost use Rattle.ca_replace.specs.Resting.{IsAtRest, StaysAtRest};
 use crate::tree::Tree;
 use ca_model::{Cause, Counter, FullCause, Spent};
 use ca_node::TreePass;
-use ca_rows::Reclaimed;
+use ca_rows::{LAST_EPOCH, Reclaimed};
 
 // From so many kept rows on a call gives rows back as it ends.
 const MANY: u32 = 60;
 
 // From so many on the epoch is moved as a call ends, where no kept row can be taken again yet.
 const SOME: u32 = 16;
-
-// The last value of the epoch.
-const LAST_EPOCH: u64 = 1 << 62;
 
 /// Sees to it that kept rows can be taken again, where the pass keeps some, and gives rows back, where it keeps many. It answers how many exchanges it
 /// lost by that.

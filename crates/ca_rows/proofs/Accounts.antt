@@ -2,7 +2,7 @@
 use Rattle.std.proofs.Common.{◌≡◌, ℕ, ◌+◌, ◌*◌, ◌<◌, ◌≤◌, List, get_or, ◌∙◌, inl, inr, ⊎_elim, arith}
 use mathlib.Core.Option.{Option}
 use Rattle.ca_rows.specs.declared.view.Claim.{Claim}
-use Rattle.ca_rows.specs.declared.view.Claim.TheVariants.{Holds, Lends, Unlinked, Keeps, Returns}
+use Rattle.ca_rows.specs.declared.view.Claim.TheVariants.{Holds, Lends, Unlinked, Keeps}
 use Rattle.ca_rows.specs.Chain.{Owner, Free, Linked, Of}
 use Rattle.ca_rows.specs.Words.{epoch}
 use Rattle.ca_rows.specs.Account.{IsAlone, IsOut, IsClaim, IsRow}
@@ -36,12 +36,6 @@ module _ (words words' : List ℕ) (L L' B B' : ℕ → Type 0) (N N' : ℕ → 
         (λ (o : (age : ℕ) × IsOut words L B N r age). inr (o.0, out_stays o.0 o.1)) c
     claim_stays Unlinked c = (c.0, out_stays c.0 c.1)
     claim_stays (Keeps t) c = (c.0, c.1, (let z = c.2 in omega arith), out_stays c.0 c.3)
-    claim_stays (Returns t its) c = (
-      (let z = c.0 in omega arith),
-      c.1,
-      (λ k l. same.words_are c.3.0 k l ∙ c.2 k l),
-      alone_stays c.3,
-    )
 
     -- So its account is as it was.
     pub row_stays : (o : Owner) → IsRow words L B N claim r o → IsRow words' L' B' N' claim' r o
@@ -63,5 +57,3 @@ claim_fewer words L B N N' r fewer Lends c = ⊎_elim (λ b. inl b)
 claim_fewer words L B N N' r fewer Unlinked c = (c.0, (c.1.0, c.1.1, λ m n. c.1.2 m (fewer m n)))
 claim_fewer words L B N N' r fewer (Keeps t) c =
     (c.0, c.1, c.2, (c.3.0, c.3.1, λ m n. c.3.2 m (fewer m n)))
-claim_fewer words L B N N' r fewer (Returns t its) c =
-    (c.0, c.1, c.2, (c.3.0, λ m n. c.3.1 m (fewer m n)))

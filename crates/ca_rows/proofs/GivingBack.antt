@@ -5,7 +5,7 @@ use mathlib.Core.Option.{Option, some, none, some-injective, some-ne-none}
 use native.Mathlib.Decide.{ℕ_discrete}
 use Rattle.ca_rows.specs.declared.kept.Kept.{Kept}
 use Rattle.ca_rows.specs.declared.view.Claim.{Claim}
-use Rattle.ca_rows.specs.declared.view.Claim.TheVariants.{Holds, Lends, Unlinked, Keeps, Returns}
+use Rattle.ca_rows.specs.declared.view.Claim.TheVariants.{Holds, Lends, Unlinked, Keeps}
 use Rattle.ca_rows.specs.declared.view.Claimed.{Claimed}
 use Rattle.ca_rows.specs.declared.view.Stage.TheVariants.{Idle}
 use Rattle.ca_rows.specs.Claims.{claim_of, claimed, dropped, held_count}
@@ -25,8 +25,6 @@ kept_or_not (some (Holds its)) = inr
 kept_or_not (some Lends) = inr (λ t e. let same = some-injective Lends (Keeps t) e in cc)
 kept_or_not (some Unlinked) = inr (λ t e. let same = some-injective Unlinked (Keeps t) e in cc)
 kept_or_not (some (Keeps t)) = inl (t, refl)
-kept_or_not (some (Returns t its)) = inr
-    (λ u e. let same = some-injective (Returns t its) (Keeps u) e in cc)
 
 kept_same : (t u : ℕ) → some (Keeps t) ≡ some (Keeps u) → t ≡ u
 kept_same t u e = let same = some-injective (Keeps t) (Keeps u) e in cc

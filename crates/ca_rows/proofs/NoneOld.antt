@@ -3,7 +3,7 @@ use Rattle.std.proofs.Common.{◌≡◌, ℕ, ◌+◌, ◌<◌, cond, false, Lis
 use borrow.Author.Tests.{lt-leb}
 use mathlib.Core.Option.{Option, some, none}
 use Rattle.ca_rows.specs.declared.view.Claim.{Claim}
-use Rattle.ca_rows.specs.declared.view.Claim.TheVariants.{Holds, Lends, Unlinked, Keeps, Returns}
+use Rattle.ca_rows.specs.declared.view.Claim.TheVariants.{Holds, Lends, Unlinked, Keeps}
 use Rattle.ca_rows.specs.declared.view.Claimed.{Claimed}
 use Rattle.ca_rows.specs.Claims.{claim_of, may_reuse, none_old}
 
@@ -14,7 +14,6 @@ is_young (some (Holds its)) told young = refl
 is_young (some Lends) told young = refl
 is_young (some Unlinked) told young = refl
 is_young (some (Keeps t)) told young = lt-leb (t + 2) told (young t refl)
-is_young (some (Returns t its)) told young = refl
 
 -- All rows that are kept are too young.
 none_among : (all xs : List Claimed) (told : ℕ)

@@ -23,7 +23,7 @@ use Rattle.ca_rows.proofs.Heads.{head_stays}
 use Rattle.ca_rows.proofs.Claiming.{claim_mine, claim_others, claim_there}
 use Rattle.ca_rows.proofs.Rules.{all_seats}
 use Rattle.ca_rows.proofs.Takers.{claims_step}
-use Rattle.ca_rows.specs.Layout.{row_words, row_limit}
+use Rattle.ca_rows.specs.Layout.{row_words, row_limit, last_epoch}
 
 module _ (made : ℕ) (words words' : List ℕ) (pins : List Pin) (p : ArePins made words pins) (id : ℕ)
     (e e' : Pin) (at : get_elem? pins id ≡ some e) where
@@ -49,7 +49,7 @@ module _ (made : ℕ) (words words' : List ℕ) (pins : List Pin) (p : ArePins m
   pub pins_step : NewPin → ArePins made words' (set pins id e')
   pins_step n = record {
     few = p.few;
-    small = subst (λ x. x ≤ 4611686018427387904) (sym n.same_epoch) p.small;
+    small = subst (λ x. x ≤ last_epoch) (sym n.same_epoch) p.small;
     each = all_seats (IsPin made words' (set pins id e')) pins id e' mine other;
     unused = λ i lo hi. n.others i (omega arith) hi
         (λ f. let low = (p.each id e at).in_range in absurd (omega arith)) ∙ p.unused i lo hi;

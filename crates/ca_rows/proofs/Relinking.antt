@@ -11,7 +11,7 @@ use Rattle.atomic_table.specs.Table.{State}
 use Rattle.atomic_table.proofs.Lists.{at_set, at_map, set_again}
 use Rattle.ca_rows.specs.declared.sizes.Sizes.{Sizes}
 use Rattle.ca_rows.specs.declared.view.Claim.{Claim}
-use Rattle.ca_rows.specs.declared.view.Claim.TheVariants.{Holds, Lends, Unlinked, Keeps, Returns}
+use Rattle.ca_rows.specs.declared.view.Claim.TheVariants.{Holds, Lends, Unlinked, Keeps}
 use Rattle.ca_rows.specs.declared.view.Pin.{Pin}
 use Rattle.ca_rows.specs.declared.view.Stage.{Stage}
 use Rattle.ca_rows.specs.declared.view.View.{View}
@@ -185,7 +185,6 @@ module _ {U : Type 0} (linked lent : List ℕ → ℕ → Type 0) (noted : List 
             (λ (o : (age : ℕ) × IsOut s.words L (lent s.words) N c age). o.1.0 l) k
         by Unlinked k = k.1.0 l
         by (Keeps t) k = k.3.0 l
-        by (Returns t its) k = k.3.0 l
 
     claims_are : (c j : ℕ) → claim_of d'.claims c ≡ claim_of d.claims c
         → claim_at (set s.views id d') j c ≡ claim_at s.views j c
@@ -229,7 +228,6 @@ module _ {U : Type 0} (linked lent : List ℕ → ℕ → Type 0) (noted : List 
         by Lends k = inr (epoch s.words, out_now c out)
         by Unlinked k = absurd (k.1.0 (lent_linked c b))
         by (Keeps t) k = absurd (k.3.0 (lent_linked c b))
-        by (Returns t its) k = absurd (k.3.0 (lent_linked c b))
 
     row_now : (c : ℕ) → 0 < c → c ≤ z.rows → (x : Change) → IsChange c x → Is c (owner_by c x)
     row_now c lo hi Stays k =

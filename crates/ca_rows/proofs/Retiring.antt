@@ -7,7 +7,7 @@ use Rattle.atomic_table.specs.Table.{step, keeps, Allows}
 use Rattle.atomic_table.proofs.Lists.{at_map}
 use Rattle.ca_rows.specs.declared.sizes.Sizes.{Sizes}
 use Rattle.ca_rows.specs.declared.view.Claim.{Claim}
-use Rattle.ca_rows.specs.declared.view.Claim.TheVariants.{Holds, Lends, Unlinked, Keeps, Returns}
+use Rattle.ca_rows.specs.declared.view.Claim.TheVariants.{Holds, Lends, Unlinked, Keeps}
 use Rattle.ca_rows.specs.declared.view.View.{View}
 use Rattle.ca_rows.specs.Account.{IsOut, IsClaim}
 use Rattle.ca_rows.specs.Claims.{claim_of, claimed}
@@ -49,7 +49,6 @@ module _ {U : Type 0} (linked lent : List ℕ → ℕ → Type 0) (noted : List 
         (λ (o : (age : ℕ) × Out age). o) k
     is_out Unlinked k free = k
     is_out (Keeps t) k free = absurd free
-    is_out (Returns t its) k free = absurd free
 
     module _ (c : Claim) (mine : claim_of d.claims q ≡ some c)
         (free : IsReleased lent fact z id d q c) where

@@ -13,6 +13,7 @@ use Rattle.ca_rows.specs.Told.{Mine, lost_epoch, with_pin}
 use Rattle.ca_rows.proofs.GivingBack.{reclaims_trans, was_kept}
 use Rattle.ca_rows.proofs.Keeping.{no_rows}
 use Rattle.ca_rows.proofs.Scanning.{less_or_not}
+use Rattle.ca_rows.specs.Layout.{last_epoch}
 
 pub nothing_in : (xs : List Kept) → length xs ≡ 0 → xs ≡ []
 nothing_in [] e = refl
@@ -106,7 +107,7 @@ module _ {U : Type 0} where
     lost_so_far = let before = ap (λ (x : Mine U). x.0.lost) began in omega arith
 
     -- It left nothing, or found the epoch at its last value.
-    pub round_ends : (length ks' ≡ 0) ⊎ (e ≡ 4611686018427387904)
+    pub round_ends : (length ks' ≡ 0) ⊎ (e ≡ last_epoch)
         → Rounds passes number (record {
           freed =
               freed;
@@ -133,7 +134,7 @@ module _ {U : Type 0} where
       near = let scan = ap (λ (p : Pin). p.scan) pin_is in omega arith;
       stops = λ _. ap (λ (p : Pin). p.scan) pin_is;
       ends = λ _ _ room. ⊎_elim (λ n. nothing_in ks' n)
-          (λ (last : e ≡ 4611686018427387904). let scan = ap (λ (p : Pin). p.scan) pin_is in
+          (λ (last : e ≡ last_epoch). let scan = ap (λ (p : Pin). p.scan) pin_is in
           absurd (omega arith)) why;
       rests = λ _. (refl, refl, omega arith);
     }
@@ -309,7 +310,7 @@ module _ {U : Type 0} (rows passes number : ℕ) (m m' : Mine U) (kept kept' : V
       (λ more. let scan = x.goes_on more none_lost in let less = go_on more in omega arith)
       (λ more. let zero_is = stop more in absurd (omega arith)) (true_or_false answer.more)
 
-  pub none_left : left' ≡ 0 → answer.lag ≡ None → m'.0.pin.scan < 4611686018427387904
+  pub none_left : left' ≡ 0 → answer.lag ≡ None → m'.0.pin.scan < last_epoch
       → kept'.items ≡ []
   none_left zero_is lag room = ⊎_elim
       (λ more. let less = go_on more in nothing_in kept'.items

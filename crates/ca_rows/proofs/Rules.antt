@@ -22,7 +22,7 @@ use Rattle.ca_rows.specs.Words.{epoch, announced}
 use Rattle.ca_rows.proofs.Accounts.{row_stays}
 use Rattle.ca_rows.proofs.Claiming.{claim_mine, claim_others, claim_there}
 use Rattle.ca_rows.proofs.Takers.{claims_step}
-use Rattle.ca_rows.specs.Layout.{row_words}
+use Rattle.ca_rows.specs.Layout.{row_words, last_epoch}
 
 -- What holds of each seat holds after a step of one.
 pub all_seats : {A : Type 0} (K : ℕ → A → Type 0) (l : List A) (me : ℕ) (w : A) → K me w
@@ -39,7 +39,7 @@ pub pins_stay : (made : ℕ) (words words' : List ℕ) (pins : List Pin)
     → ArePins made words pins → ArePins made words' pins
 pins_stay made words words' pins now same p = record {
   few = p.few;
-  small = subst (λ x. x ≤ 4611686018427387904) (sym now) p.small;
+  small = subst (λ x. x ≤ last_epoch) (sym now) p.small;
   each = λ j e here. let k = p.each j e here in let in_range = k.in_range in let few = p.few in
       record {
         in_range = k.in_range;

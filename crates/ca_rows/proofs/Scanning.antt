@@ -17,7 +17,7 @@ use Rattle.ca_rows.specs.Laws.{Frames}
 use Rattle.ca_rows.specs.Pins.{IsPin, ArePins}
 use Rattle.ca_rows.specs.Rule.{upper_of, pin_of, Ruled}
 use Rattle.ca_rows.specs.Told.{IsOnly, Mine, Began, Scanned, Moved, Reread}
-use Rattle.ca_rows.specs.Layout.{row_words, pass_words}
+use Rattle.ca_rows.specs.Layout.{row_words, pass_words, last_epoch}
 use Rattle.ca_rows.specs.Words.{epoch, announced}
 use Rattle.ca_rows.proofs.OwnWords.{own_is, announced_else}
 use Rattle.ca_rows.proofs.Pinned.{NewPin, pins_step, framed, repinned}
@@ -32,7 +32,7 @@ less_or_not a b = ⊎_elim (λ (e : a ≡ b). inr (omega arith))
 
 -- The epoch moves by one, past no pass that is pinned.
 pins_moved : (made : ℕ) (words words' : List ℕ) (pins : List Pin) → ArePins made words pins
-    → epoch words' ≡ epoch words + 1 → epoch words < 4611686018427387904
+    → epoch words' ≡ epoch words + 1 → epoch words < last_epoch
     → ((i : ℕ) → 0 < i → i ≤ 64 → announced words' i ≡ announced words i)
     → ((j : ℕ) (e : Pin) → get_elem? pins j ≡ some e → e.pinned ≡ true → epoch words ≤ e.moment)
     → (made ≤ 1 → (j : ℕ) (e : Pin) → get_elem? pins j ≡ some e → 0 < e.number → e.looks ≡ 0)
@@ -161,7 +161,7 @@ module _ {U : Type 0} (linked lent : List ℕ → ℕ → Type 0) (noted : List 
 
     -- The exchange of an epoch that all passes were found at, by one of them.
     module _ (found : d.pin.scan ≡ epoch s.words) (all : r.made ≤ d.pin.upto)
-        (room : epoch s.words < 4611686018427387904) (is_pass : 0 < d.pin.number) where
+        (room : epoch s.words < last_epoch) (is_pass : 0 < d.pin.number) where
       abbrev moved_words : List ℕ
       moved_words = set s.words 1 (epoch s.words + 1)
 
@@ -336,7 +336,7 @@ module _ {U : Type 0} (linked lent : List ℕ → ℕ → Type 0) (noted : List 
       (less_or_not d.pin.scan n))
 
   pub moves : (slots id : ℕ) (me : Mine U) (e : ℕ) → me.0.pin.scan ≡ e → z.passes ≤ me.0.pin.upto
-      → e < 4611686018427387904 → 0 < me.0.pin.number → 0 < me.0.pin.looks
+      → e < last_epoch → 0 < me.0.pin.number → 0 < me.0.pin.looks
       → Allows R slots id me 1
       (λ n. either (eqb n e) (e + 1) n) (Moved (step slots 1 e (e + 1) none) me)
   moves slots id me e is all room is_pass begun s r _ at _ = let d = me.0 in let within = r.within in

@@ -16,7 +16,7 @@ use Rattle.ca_rows.specs.Pins.{ArePins, IsPin, unpinned}
 use Rattle.ca_rows.specs.Rule.{fresh, NotedAt, Knows, Ruled}
 use Rattle.ca_rows.specs.Words.{announced, head_row, first_of, next_below}
 use Rattle.ca_rows.proofs.Chains.{in_head, same_height}
-use Rattle.ca_rows.specs.Layout.{row_limit}
+use Rattle.ca_rows.specs.Layout.{row_limit, last_epoch}
 
 -- Row 1 is linked, and the others are free.
 abbrev first_owner : ℕ → ℕ → Owner
@@ -66,7 +66,7 @@ module _ (rows : ℕ) where
           (λ i. (z i, x i)) (omega arith, omega arith, is_free (r + 1) (λ f. omega arith)))
 
 -- Nobody is pinned, and no pass was made.
-first_pins : (words : List ℕ) → get_or words 1 0 ≤ 4611686018427387904
+first_pins : (words : List ℕ) → get_or words 1 0 ≤ last_epoch
     → ((pass : ℕ) → 0 < pass → pass ≤ 64 → announced words pass ≡ 0) → ArePins 0 words (unpinned 0 ∷ [])
 first_pins words small absent = record {
   few = omega arith;
@@ -148,6 +148,6 @@ module _ {U : Type 0} (linked lent : List ℕ → ℕ → Type 0) (noted : List 
         };
     claims = λ _ j r c e. absurd (some-ne-none c (sym e ∙ nobodys j r));
     pins = first_pins words (subst
-        (λ x. x ≤ 4611686018427387904) (sym is.epoch_is) bounds.epoch_start) is.absent;
+        (λ x. x ≤ last_epoch) (sym is.epoch_is) bounds.epoch_start) is.absent;
     above = opened.stands;
   }

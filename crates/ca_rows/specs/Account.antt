@@ -2,7 +2,7 @@
 use Rattle.std.specs.Prelude.{◌≡◌, ◌≢◌, ◌⊎◌, ℕ, ◌≤◌, List, length}
 use mathlib.Core.Option.{Option, some, none}
 use Rattle.ca_rows.specs.declared.view.Claim.{Claim}
-use Rattle.ca_rows.specs.declared.view.Claim.TheVariants.{Holds, Lends, Unlinked, Keeps, Returns}
+use Rattle.ca_rows.specs.declared.view.Claim.TheVariants.{Holds, Lends, Unlinked, Keeps}
 use Rattle.ca_rows.specs.Chain.{Owner, Free, Linked, Of}
 use Rattle.ca_rows.specs.Words.{epoch, Spells}
 use Rattle.ca_rows.specs.Layout.{row_words}
@@ -22,7 +22,6 @@ module _ (words : List ℕ) (IsLinked IsLent : ℕ → Type 0) (Noted : ℕ → 
   IsClaim r Lends = IsLent r ⊎ ((age : ℕ) × IsOut r age)
   IsClaim r Unlinked = (age : ℕ) × IsOut r age
   IsClaim r (Keeps t) = (age : ℕ) × (age ≤ t) × (t ≤ epoch words) × IsOut r age
-  IsClaim r (Returns t its) = (t ≤ epoch words) × (length its ≡ row_words) × Spells words r its × IsAlone r
 
   -- A row is free, linked, or one seat's and no other's.
   abbrev pub IsRow : (ℕ → ℕ → Option Claim) → ℕ → Owner → Type 0

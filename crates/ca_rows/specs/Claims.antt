@@ -3,7 +3,7 @@ use Rattle.std.specs.Prelude.{◌==◌, ℕ, ◌+◌, cond, Bool, false, leb, Li
 use mathlib.Core.Option.{Option, some, none}
 use lib.ListN.{get_elem?}
 use Rattle.ca_rows.specs.declared.view.Claim.{Claim}
-use Rattle.ca_rows.specs.declared.view.Claim.TheVariants.{Holds, Lends, Unlinked, Keeps, Returns}
+use Rattle.ca_rows.specs.declared.view.Claim.TheVariants.{Holds, Lends, Unlinked, Keeps}
 use Rattle.ca_rows.specs.declared.view.Claimed.{Claimed}
 use Rattle.ca_rows.specs.declared.view.View.{View}
 
@@ -27,7 +27,6 @@ is_held (Holds its) = 1
 is_held Lends = 0
 is_held Unlinked = 1
 is_held (Keeps t) = 0
-is_held (Returns t its) = 0
 
 -- how many rows are held, or were unlinked and aren't kept yet
 abbrev pub held_count : List Claimed → ℕ
@@ -41,7 +40,6 @@ may_reuse (some (Holds its)) told = false
 may_reuse (some Lends) told = false
 may_reuse (some Unlinked) told = false
 may_reuse (some (Keeps t)) told = leb (t + 2) told
-may_reuse (some (Returns t its)) told = false
 
 -- 0 where it may hold one of these rows again, else 1
 abbrev pub none_old : List Claimed → List Claimed → ℕ → ℕ

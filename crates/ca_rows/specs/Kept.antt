@@ -8,7 +8,7 @@ use lib.ListN.{get_elem?}
 use Rattle.ca_rows.specs.declared.kept.Kept.{Kept}
 use Rattle.ca_rows.specs.declared.sizes.Sizes.{Sizes}
 use Rattle.ca_rows.specs.declared.view.Claim.{Claim}
-use Rattle.ca_rows.specs.declared.view.Claim.TheVariants.{Holds, Lends, Unlinked, Keeps, Returns}
+use Rattle.ca_rows.specs.declared.view.Claim.TheVariants.{Holds, Lends, Unlinked, Keeps}
 use Rattle.ca_rows.specs.declared.view.Claimed.{Claimed}
 use Rattle.ca_rows.specs.declared.view.View.{View}
 use Rattle.ca_rows.specs.Claims.{claim_of}
@@ -86,7 +86,6 @@ module _ {U : Type 0} (lent : List ℕ → ℕ → Type 0) (fact : Sizes → ℕ
   IsReleased Lends = IsOver
   IsReleased Unlinked = Unit {0}
   IsReleased (Keeps t) = ⊥
-  IsReleased (Returns t its) = ⊥
 
   -- The seat may retire the row: it holds it, unlinked it, or lent it to an operation that is finished, and doesn't keep it yet.
   abbrev pub MayRetire : Type 0

@@ -16,6 +16,10 @@ passes_words = 512
 abbrev pub row_limit : ℕ
 row_limit = 16777216
 
+-- the last value of the epoch
+abbrev pub last_epoch : ℕ
+last_epoch = 4611686018427387904
+
 -- the last value of the tag in the pool's head
 abbrev pub last_tag : ℕ
 last_tag = 1099511627775

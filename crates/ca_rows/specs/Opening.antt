@@ -3,7 +3,7 @@ use Rattle.std.specs.Prelude.{◌≡◌, ℕ, ◌+◌, ◌*◌, ◌<◌, ◌≤�
 use Rattle.ca_rows.specs.declared.sizes.Sizes.{Sizes}
 use Rattle.ca_rows.specs.declared.sizes.Starts.{Starts}
 use Rattle.ca_rows.specs.Words.{IsWide, epoch, announced, result_of, first_of}
-use Rattle.ca_rows.specs.Layout.{row_limit, last_tag, last_sequence}
+use Rattle.ca_rows.specs.Layout.{row_limit, last_tag, last_sequence, last_epoch}
 
 -- what a space is made with, by these numbers
 abbrev pub sizes_by : ℕ → ℕ → ℕ → ℕ → ℕ → Starts → Sizes
@@ -17,7 +17,7 @@ pub record AreInBounds (z : Sizes) : Type 0 where
   pub least_passes : 1 ≤ z.passes
   pub most_passes : z.passes ≤ 64
   pub tag : z.starts.tag ≤ last_tag
-  pub epoch_start : z.starts.epoch ≤ 4611686018427387904
+  pub epoch_start : z.starts.epoch ≤ last_epoch
   pub sequence : z.starts.sequence ≤ last_sequence
   pub attempt : z.starts.attempt ≤ 4611686018427387903
 

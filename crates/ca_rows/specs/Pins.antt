@@ -5,6 +5,7 @@ use lib.ListN.{get_elem?}
 use Rattle.ca_rows.specs.declared.view.Met.{Met}
 use Rattle.ca_rows.specs.declared.view.Pin.{Pin}
 use Rattle.ca_rows.specs.Words.{epoch, announced}
+use Rattle.ca_rows.specs.Layout.{last_epoch}
 
 -- what a seat met of the pool that took no step
 abbrev pub nothing_met : Met
@@ -49,7 +50,7 @@ pub record IsPin (made : ℕ) (words : List ℕ) (pins : List Pin) (j : ℕ) (e 
 
 pub record ArePins (made : ℕ) (words : List ℕ) (pins : List Pin) : Type 0 where
   pub few : made ≤ 64
-  pub small : epoch words ≤ 4611686018427387904
+  pub small : epoch words ≤ last_epoch
   pub each : (j : ℕ) (e : Pin) → get_elem? pins j ≡ some e → IsPin made words pins j e
   -- Nobody announces anything for a pass that wasn't made.
   pub unused : (i : ℕ) → made < i → i ≤ 64 → announced words i ≡ 0

@@ -13,6 +13,7 @@ use Rattle.ca_rows.specs.declared.view.Pin.{Pin}
 use Rattle.ca_rows.specs.Claims.{claim_of, claimed, held_count}
 use Rattle.ca_rows.specs.Kept.{AreYoung, IsTakenOut, kept_of, nobody}
 use Rattle.ca_rows.specs.Told.{Mine, HoldsAgain, lost_epoch, with_pin}
+use Rattle.ca_rows.specs.Layout.{last_epoch}
 
 module _ {U : Type 0} where
   -- Kept rows were given back. Nothing else of the pass changed but what it saw of the pool and of the epoch.
@@ -100,11 +101,11 @@ Moves false e m m' = m' ≡ lost_epoch m
 
 -- The epoch isn't the last one, and the row that was kept first is less than two epochs older.
 abbrev pub MayMove : ℕ → List Kept → Type 0
-MayMove epoch ks = (epoch < 4611686018427387904) × (epoch < (slice_index_or ks 0 nobody).at + 2)
+MayMove epoch ks = (epoch < last_epoch) × (epoch < (slice_index_or ks 0 nobody).at + 2)
 
 -- So it was of the epoch before this one.
 abbrev pub HasMoved : ℕ → List Kept → Type 0
-HasMoved epoch ks = (epoch ≤ 4611686018427387904) × (epoch ≤ (slice_index_or ks 0 nobody).at + 2)
+HasMoved epoch ks = (epoch ≤ last_epoch) × (epoch ≤ (slice_index_or ks 0 nobody).at + 2)
 
 -- A look at the others began, and so many exchanges were lost: the row that was kept first is two epochs older than the epoch; or that is at its last value; or
 -- a pass lags; or the pass moved the epoch by one, having looked at all others; or the exchange that was to move it lost. Each of the
@@ -112,7 +113,7 @@ HasMoved epoch ks = (epoch ≤ 4611686018427387904) × (epoch ≤ (slice_index_o
 module _ {U : Type 0} where
   pub record EndsLook (losses : ℕ) (m m' : Mine U) (ks : List Kept) : Type 0 where
     pub looked : m'.0.pin.looks ≡ m.0.pin.looks + 1
-    pub ends : ((slice_index_or ks 0 nobody).at + 2 ≤ m'.0.pin.scan) ⊎ (m'.0.pin.scan ≡ 4611686018427387904)
+    pub ends : ((slice_index_or ks 0 nobody).at + 2 ≤ m'.0.pin.scan) ⊎ (m'.0.pin.scan ≡ last_epoch)
         ⊎ (m'.0.pin.lags ≡ m.0.pin.lags + 1) ⊎ (m'.0.pin.moved ≡ m.0.pin.moved + 1) ⊎ (losses ≡ 1)
     pub at_most_one : losses ≤ 1
     pub lagged : m'.0.pin.lags ≡ m.0.pin.lags ⊎ MayMove m'.0.pin.scan ks × (m'.0.pin.moved ≡ m.0.pin.moved) × (losses ≡ 0)
@@ -145,7 +146,7 @@ pub record Rounds {U : Type 0} (passes number : ℕ) (answer : Round) (m m' : Mi
   pub stops : answer.more ≡ false → m'.0.pin.scan ≡ e
   -- Whatever was lost, another round follows but where nothing is kept, a pass lags, or the epoch is
   -- at its last value.
-  pub ends : answer.more ≡ false → answer.lag ≡ None → m'.0.pin.scan < 4611686018427387904 → ks' ≡ []
+  pub ends : answer.more ≡ false → answer.lag ≡ None → m'.0.pin.scan < last_epoch → ks' ≡ []
   -- Where nothing is kept nobody is looked at, and the epoch isn't moved.
   pub rests : ks' ≡ [] → (answer.more ≡ false) × (answer.lag ≡ None) × (answer.losses ≤ length ks)
 
@@ -157,7 +158,7 @@ pub record MakesRounds {U : Type 0} (answer : Reclaimed) (m m' : Mine U)
   pub tries : answer.losses ≤ 3 * length ks + 3
   -- Whatever was lost, there are three but where nothing is kept any more, a pass lags, or the epoch
   -- is at its last value.
-  pub three : answer.lag ≡ None → m'.0.pin.scan < 4611686018427387904
+  pub three : answer.lag ≡ None → m'.0.pin.scan < last_epoch
       → (ks' ≡ []) ⊎ (m'.0.pin.looks ≡ m.0.pin.looks + 3)
   -- Whatever was lost, no row is kept still that was kept for more than two epochs.
   pub recent : (r t : ℕ) → kept_of ks' r ≡ some t → m'.0.pin.scan ≤ t + 2

@@ -11,7 +11,7 @@ use Rattle.ca_rows.specs.declared.view.Stage.TheVariants.{Idle, Saw, Knew}
 use Rattle.ca_rows.specs.declared.view.Claimed.{Claimed}
 use Rattle.ca_rows.specs.declared.view.View.{View}
 use Rattle.ca_rows.specs.Claims.{claim_of, claimed, dropped, held_count, none_old}
-use Rattle.ca_rows.specs.Layout.{row_words, row_limit, last_tag}
+use Rattle.ca_rows.specs.Layout.{row_words, row_limit, last_tag, last_epoch}
 
 abbrev pub Mine : Type 0 → Type 0
 Mine U = Me (Unit {0}) (View U)
@@ -114,7 +114,7 @@ module _ {U : Type 0} where
 
   -- The epoch was loaded, to announce it.
   abbrev pub Asked : Step (Unit {0}) → Mine U → ℕ → Mine U → Type 0
-  Asked st m n m' = (n ≤ 4611686018427387904) × (m' ≡ with_pin m (record m.0.pin { told = n }))
+  Asked st m n m' = (n ≤ last_epoch) × (m' ≡ with_pin m (record m.0.pin { told = n }))
 
   -- It was announced, at an epoch that isn't lower, and that is counted. What the seat has met of the pool until then is noted, and which rows are its.
   abbrev pub Announced : (U → U) → Step (Unit {0}) → Mine U → ℕ → Mine U → Type 0
@@ -143,7 +143,7 @@ module _ {U : Type 0} where
   -- kept since a later one.
   abbrev pub KeepsSince : ℕ → ℕ → Mine U → Mine U → Type 0
   KeepsSince q n m m' = (0 < q) × (0 < m.0.sizes.rows → q ≤ m.0.sizes.rows)
-      × (n ≤ 4611686018427387904) × (m.0.pin.scan ≤ n)
+      × (n ≤ last_epoch) × (m.0.pin.scan ≤ n)
       × ((r t : ℕ) → claim_of m.0.claims r ≡ some (Keeps t) → t ≤ n)
       × (m' ≡ (record m.0 { claims = claimed q (Keeps n) m.0.claims }, m.1))
 
@@ -153,7 +153,7 @@ module _ {U : Type 0} where
 
   -- A look at the others began, and is counted: the epoch was loaded. It isn't below that of the look before, and no row is kept since a later one.
   abbrev pub Began : Step (Unit {0}) → Mine U → ℕ → Mine U → Type 0
-  Began st m n m' = (n ≤ 4611686018427387904) × (m.0.pin.scan ≤ n) × ((r t : ℕ) → claim_of m.0.claims r ≡ some (Keeps t) → t ≤ n)
+  Began st m n m' = (n ≤ last_epoch) × (m.0.pin.scan ≤ n) × ((r t : ℕ) → claim_of m.0.claims r ≡ some (Keeps t) → t ≤ n)
       × (m' ≡ with_pin m (record m.0.pin { scan = n; upto = 0; lag = 0; looks = m.0.pin.looks + 1 }))
 
   -- The next pass's announcement was loaded: it is absent or not older than the look, or the pass lags, which is counted. A pass that isn't pinned

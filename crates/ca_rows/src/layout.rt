@@ -13,6 +13,9 @@ pub const PASSES_WORDS: usize = 64 * PASS_WORDS;
 /// The number of each row is below this: it has 24 bits.
 pub const ROW_LIMIT: u64 = 1 << 24;
 
+/// The last value of the epoch. What a pass announces is one more.
+pub const LAST_EPOCH: u64 = 1 << 62;
+
 /// The last value of the tag in the pool's head, which stands above a row's number.
 pub const LAST_TAG: u64 = (1 << 40) - 1;
 

@@ -8,7 +8,7 @@ ghost use Rattle.ca_rows.specs.Rule.{fresh};
 
 use crate::fault::RowsFault;
 use crate::kept::KeptRows;
-use crate::layout::{LAST_SEQUENCE, LAST_TAG, ROW_LIMIT};
+use crate::layout::{LAST_EPOCH, LAST_SEQUENCE, LAST_TAG, ROW_LIMIT};
 use crate::opening::opening;
 use crate::plays::Make;
 use crate::rest::Rest;
@@ -30,7 +30,7 @@ impl Sizes {
             && 1 <= self.passes
             && self.passes <= 64
             && self.starts.tag <= LAST_TAG
-            && self.starts.epoch <= 1 << 62
+            && self.starts.epoch <= LAST_EPOCH
             && self.starts.sequence <= LAST_SEQUENCE
             && self.starts.attempt <= (1 << 62) - 1
     }

@@ -1,5 +1,5 @@
 //! Passes give back the rows that they keep, once nobody can have a note on them.
-ghost use Rattle.ca_rows.specs.Layout.{row_words, row_limit};
+ghost use Rattle.ca_rows.specs.Layout.{row_words, row_limit, last_epoch};
 ghost use Rattle.std.specs.Prelude.{◌≡◌, ◌↔◌, IsTrue, ℕ, ◌+◌, ◌*◌, ◌-◌, ◌<◌, ◌≤◌, ◌++◌, cond, true, false, List, length, take, drop, slice_index_or, vec_len, vec_capacity};
 ghost use Rattle.std.specs.declared.option.Option.TheVariants.{None, Some};
 ghost use mathlib.Core.Option.{some};
@@ -10,6 +10,7 @@ ghost use Rattle.ca_rows.specs.Reclaiming.{EndsLook, Reclaims, GivesBack, GivesO
 ghost use Rattle.ca_rows.specs.Told.{HoldsAgain, IsOnly};
 ghost use Rattle.ca_rows.specs.Passes.{IsOn, IsSamePass, KeepsList, MayReclaim, sizes, known, view};
 
+use crate::layout::LAST_EPOCH;
 use crate::plays::{Begin, Move, Named, Regain, Scan};
 use crate::reclaimed::{Reclaimed, Round};
 use crate::rule::RowRule;
@@ -105,7 +106,7 @@ impl<R: RowRule> Space<R> {
         requires own { IsOn self.now pass.old }
         requires seen { ((view pass.old).pin.scan ≡ epoch) × ((view pass.old).pin.upto ≡ (sizes self.now).passes) }
         requires begun { 0 < (view pass.old).pin.looks }
-        requires room { epoch < 4611686018427387904 }
+        requires room { epoch < last_epoch }
         ensures frame { KeepsList pass.old pass.new }
         ensures moves { Moves result epoch (known pass.old) (known pass.new) }
         ensures only { IsOnly (known pass.old) → result ≡ true }
@@ -134,7 +135,7 @@ impl<R: RowRule> Space<R> {
             epoch,
             more: false,
         };
-        if pass.kept.len() == 0 || epoch == 1 << 62 {
+        if pass.kept.len() == 0 || epoch == LAST_EPOCH {
             return round;
         }
         if let Some(number) = self.lagging(pass, epoch) {
@@ -180,7 +181,7 @@ impl<R: RowRule> Space<R> {
         ensures young { result.lost ≡ false → (r t : ℕ) → kept_of pass.new.kept.rows.items r ≡ some t → (view pass.new).pin.scan < t + 2 }
         ensures rounds { MakesRounds result (known pass.old) (known pass.new) pass.old.kept.rows.items pass.new.kept.rows.items }
         ensures only { IsOnly (known pass.old) → (result.lag ≡ None) × (result.losses ≡ 0) }
-        ensures all { result.lag ≡ None → result.lost ≡ false → (view pass.new).pin.scan < 4611686018427387904 → result.kept ≡ 0 }
+        ensures all { result.lag ≡ None → result.lost ≡ false → (view pass.new).pin.scan < last_epoch → result.kept ≡ 0 }
     {
         let mut freed = 0;
         let mut lag = None;
@@ -226,7 +227,7 @@ impl<R: RowRule> Space<R> {
             return 0;
         }
         let epoch = self.table.shared.load::<Begin>(&mut pass.seat, 1);
-        if pass.kept.is_old(0, epoch) || epoch == 1 << 62 {
+        if pass.kept.is_old(0, epoch) || epoch == LAST_EPOCH {
             return 0;
         }
         if self.lagging(pass, epoch).is_some() || self.move_epoch(pass, epoch) {

@@ -21,8 +21,6 @@ pub enum Claim {
     Unlinked,
     /// Kept since this epoch, until nobody can have a note on it.
     Keeps(u64),
-    /// Kept since this epoch, and on the way back to the pool. It has these words.
-    Returns(u64, LinkedList<u64>),
 }
 
 pub struct Claimed {

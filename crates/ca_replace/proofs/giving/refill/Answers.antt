@@ -4,6 +4,7 @@ use Rattle.std.specs.declared.option.Option.TheVariants.{None, Some}
 use Rattle.std.specs.Option.{is_some}
 use Rattle.ca_replace.proofs.Causing.{none_or_lost, none_or_more}
 use Rattle.ca_rows.specs.Reclaiming.{lag_count}
+use Rattle.ca_rows.specs.Layout.{last_epoch}
 use Rattle.ca_replace.proofs.giving.refill.Goals as goal
 
 no_lag : (lag : Option ℕ) → false ≡ is_some lag → lag ≡ None
@@ -15,10 +16,10 @@ returns-clause-again c = λ _. let given = c.give_back_kept-given in
     let most = c.ranges.budget.fits in
     let lag = no_lag given.result.lag c.if-is_some.ensures in
     let all = λ (calm : given.result.lost ≡ false). ⊎_elim
-    (λ (few : (4611686018427387904 ≤ given.result.epoch) × (given.result.kept ≤ 0)).
+    (λ (few : (last_epoch ≤ given.result.epoch) × (given.result.kept ≤ 0)).
     let n = few.1 in let none : given.result.kept ≡ 0 = omega arith in none)
-    (λ (room : given.result.epoch < 4611686018427387904). given.ensures.given.all lag calm
-    (subst (λ n. n < 4611686018427387904) given.ensures.given.epoch room))
+    (λ (room : given.result.epoch < last_epoch). given.ensures.given.all lag calm
+    (subst (λ n. n < last_epoch) given.ensures.given.epoch room))
     c.else-given-ge-LAST_EPOCH.either in record {
       some = let positive : c.args.kept ≡ 0 → ⊥ = c.if-kept-eq0.false in grind (arith, positive);
       unspent = let room = subst

@@ -4,7 +4,7 @@ use mathlib.Core.Option.{some}
 use Rattle.ca_rows.specs.Kept.{AreKept, kept_of}
 use Rattle.ca_rows.specs.Reclaiming.{Reclaims, IsLag, lag_count}
 use Rattle.ca_rows.proofs.space.Space.reclaim.Given as goal
-use Rattle.ca_rows.specs.Layout.{row_limit}
+use Rattle.ca_rows.specs.Layout.{row_limit, last_epoch}
 use Rattle.ca_rows.specs.Told.{IsOnly}
 
 abbrev pub invariant-loop-left : goal.invariant-loop-left
@@ -17,7 +17,7 @@ invariant-loop-left g l = record {
   reclaims : Reclaims l.fn.pass.seat.me l.pass.seat.me;
   most : l.pass.seat.me.0.pin.looks + l.left ≤ l.fn.pass.seat.me.0.pin.looks + 3;
   each : 0 < l.left → l.pass.seat.me.0.pin.looks + l.left ≡ l.fn.pass.seat.me.0.pin.looks + 3;
-  three : l.left ≡ 0 → l.lag ≡ None → l.pass.seat.me.0.pin.scan < 4611686018427387904
+  three : l.left ≡ 0 → l.lag ≡ None → l.pass.seat.me.0.pin.scan < last_epoch
       → (l.pass.kept.rows.items ≡ [])
       ⊎ (l.pass.seat.me.0.pin.looks ≡ l.fn.pass.seat.me.0.pin.looks + 3);
   recent : l.left < 3 → (r t : ℕ) → kept_of l.pass.kept.rows.items r ≡ some t
@@ -47,7 +47,7 @@ invariant-loop-left g l = record {
       → kept_of l.pass.kept.rows.items r ≡ some t → t + 3 ≤ l.pass.seat.me.0.pin.scan + l.left;
   young : l.left ≡ 0 → l.losses ≡ 0 → (r t : ℕ) → kept_of l.pass.kept.rows.items r ≡ some t
       → l.pass.seat.me.0.pin.scan < t + 2;
-  ended : l.left ≡ 0 → l.lag ≡ None → l.losses ≡ 0 → l.pass.seat.me.0.pin.scan < 4611686018427387904
+  ended : l.left ≡ 0 → l.lag ≡ None → l.losses ≡ 0 → l.pass.seat.me.0.pin.scan < last_epoch
       → l.pass.kept.rows.items ≡ [];
 }
 

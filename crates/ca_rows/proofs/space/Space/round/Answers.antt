@@ -7,7 +7,8 @@ use Rattle.ca_rows.specs.Told.{Mine}
 use Rattle.ca_rows.proofs.Rounding.{round_ends, round_lags, round_moves, round_misses}
 use Rattle.ca_rows.proofs.Scanning.{begins}
 use Rattle.ca_rows.proofs.space.Space.round.Goals as goal
-use Rattle.ca_rows.proofs.space.Space.round.Goals.{then-len-eq0-via-then-len-eq0, then-len-eq0-via-else-len-eq0+then-epoch}
+use Rattle.ca_rows.proofs.space.Space.round.Goals.{then-len-eq0-via-then-len-eq0, then-len-eq0-via-else-len-eq0+then-epoch-eq-LAST_EPOCH}
+use Rattle.ca_rows.specs.Layout.{last_epoch}
 
 pub load-epoch-requires : goal.load-epoch-requires
 load-epoch-requires g c = let sized = c.args.self.now.sized in (
@@ -25,9 +26,9 @@ returns-then-len-eq0-clause-rounds g c = let began = c.load-epoch.ensures.2 in
     let long = ks.ok.0 in let long' = ks'.ok.0 in
     let count = gave.freed_are in let few = gave.few in let n = c.len.ensures in
     let why : (length ks'.items ≡ 0)
-    ⊎ (c.load-epoch.result ≡ 4611686018427387904) = elim c.then-len-eq0.branch [
+    ⊎ (c.load-epoch.result ≡ last_epoch) = elim c.then-len-eq0.branch [
       | then-len-eq0-via-then-len-eq0 w ↦ (let none_left = w.if-len-eq0.true in inl (omega arith))
-      | then-len-eq0-via-else-len-eq0+then-epoch w ↦ inr w.if-epoch.true
+      | then-len-eq0-via-else-len-eq0+then-epoch-eq-LAST_EPOCH w ↦ inr w.if-epoch-eq-LAST_EPOCH.true
     ] in
     round_ends c.args.self.now.table.shared.key.passes c.args.pass.now.number
     c.args.pass.now.seat.me c.load-epoch.new.seat.me c.give_old-freed.new.pass.seat.me
