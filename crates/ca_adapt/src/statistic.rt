@@ -13,14 +13,14 @@ const LEAST: u64 = STATISTIC - (1 << 31);
 
 const END: u64 = STATISTIC + (1 << 31);
 
-/// The word for a statistic in a base's row.
+/// The word for a statistic in a base's row: 2^32 more than the statistic.
 pub fn word_of(statistic: i32) -> u64
     ensures { IsWordOf statistic result }
 {
     (ZERO + i64::from(statistic)) as u64
 }
 
-/// The statistic that a word of a base's row is for, or 0 where it is none's.
+/// The statistic that a word of a base's row is for; 0 where the word isn't from 2^32 - 2^31 to 2^32 + 2^31 - 1, as those of all statistics are.
 pub fn statistic_of(word: u64) -> i32
     ensures { IsStatisticOf word result }
 {
@@ -34,6 +34,7 @@ pub fn statistic_of(word: u64) -> i32
 /// What is due to a base by its statistic.
 #[derive(Clone, Copy, Debug, PartialEq, Eq)]
 pub enum Due {
+    /// It is within its bounds.
     Nothing,
     /// It is above its upper bound.
     Split,

@@ -54,9 +54,9 @@ impl Line<TreePass> for Objects<'_> {
     ghost knows_on = { λ line a b on place known. comparable_on line.space.now line.base line.key.now line.head line.front a b on place known };
 }
 
-// The place of the object with this key among those of a base that the pass was shown, or else where it would stand. A key that doesn't begin with the
-// base's prefix stands before all objects or behind them. Else only the items that are compared are loaded, at most seven, and an object where its
-// key's head is the wanted one's.
+/// The place of the object with this key among those of a base that the pass was shown, counted from 0 (`Ok`), or else where it would stand (`Err`). A key
+/// that doesn't begin with the base's prefix stands before all objects or behind them. Else only the items that are compared are loaded, at most seven, and
+/// an object where its key's head is the wanted one's.
 pub fn search(space: &TreeSpace, pass: &mut TreePass, base: u32, key: &[u8]) -> Result<u32, u32>
     requires reading { IsReading space.now pass.old }
     requires readable { (note : Note) × IsReadable (sizes space.now) (tree_of pass.old) base note }

@@ -47,8 +47,8 @@ pub fn begin_join(space: &TreeSpace, pass: &mut TreePass, route: u32, attempt: u
     space.swap::<BeginJoin>(pass, word, last, 4 * attempt + 1)
 }
 
-/// One exchange by which an attempt of another pass to join the bases under a route is given up that was found prepared. True exactly where this exchange gave it up; else it
-/// was prepared no more. Either way it counts as one that the pass helped.
+/// One exchange by which an attempt of another pass to join the bases under a route is given up that was found prepared. True exactly where this exchange gave
+/// it up; else it was prepared no more. Either way it counts as one that the pass helped.
 pub fn abort_join(space: &TreeSpace, pass: &mut TreePass, route: u32, attempt: u64) -> bool
     requires own { IsOn space.now pass.old }
     requires inside { route ≤ (sizes space.now).rows }

@@ -16,8 +16,10 @@ use ca_rows::{Pass, RowRule, Sizes, Space};
 /// The rule of the tree over the rows: one base under the root link.
 pub struct TreeRule;
 
+/// The words of a tree, which passes share.
 pub type TreeSpace = Space<TreeRule>;
 
+/// The right to take steps on a tree, by a number from 1 to 64, with what is known of it.
 pub type TreePass = Pass<TreeRule>;
 
 impl RowRule for TreeRule {

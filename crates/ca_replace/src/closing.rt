@@ -17,6 +17,7 @@ use std::alloc::Global;
 pub enum CloseFault {
     /// Fewer passes came than were enrolled.
     Missing,
+    /// Memory for the list of the objects lacked: four bytes a row.
     NoMemory,
 }
 

@@ -1,5 +1,6 @@
 //! Why a tree or a pass wasn't made.
 
+/// Why a tree or a pass wasn't made.
 #[derive(Clone, Copy, Debug, PartialEq, Eq)]
 pub enum TreeFault {
     /// The rows, the passes or a start are out of their bounds.
@@ -8,5 +9,6 @@ pub enum TreeFault {
     BadTuning,
     /// As many passes were made as the tree is for.
     NoPass,
+    /// Memory for the words of the tree, or for the list of the rows that a pass keeps, lacked.
     NoMemory,
 }

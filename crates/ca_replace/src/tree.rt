@@ -34,7 +34,9 @@ impl Drop for Tree {
 }
 
 impl Tree {
-    /// An empty map, on so many rows, for so many passes. The element `keypos` of an object is its key, counted from 1.
+    /// An empty map, on so many rows, for so many passes. The element `keypos` of an object is its key, counted from 1. It is refused with `BadSize` where
+    /// rows (384 to 2^24 - 1), passes (1 to 64) or a start are out of their bounds, else with `BadTuning` where the tuning isn't allowed, and else with
+    /// `NoMemory` where memory for its words lacks: 1,088 bytes a row and 5,184 more.
     pub fn new(
         alloc: Global,
         rows: u32,
@@ -96,7 +98,8 @@ impl Tree {
     }
 
     /// Makes a pass: the right to read and edit the map. Its number is that of the passes made until then, and it, together. A store can be
-    /// made of it.
+    /// made of it. It is refused with `NoPass` where as many were made as the tree is for, and with `NoMemory` where memory for the list of the rows that
+    /// it keeps lacks; then no pass more was made.
     #[tactic(auto, using(crate::proofs::Fresh::rests))]
     pub fn enroll(&mut self, alloc: Global) -> Result<TreePass, TreeFault>
         ensures full { (result ≡ Err IsNoPass) ↔ (self.old.space.made ≡ self.old.space.sizes.passes) }

@@ -26,7 +26,9 @@ mod words;
 
 pub use fault::RowsFault;
 pub use kept::{Kept, KeptRows};
-pub use layout::{LAST_EPOCH, LAST_SEQUENCE, LAST_TAG, PASS_WORDS, PASSES_WORDS, ROW_LIMIT, ROW_WORDS};
+pub use layout::{
+    LAST_EPOCH, LAST_SEQUENCE, LAST_TAG, PASS_WORDS, PASSES_WORDS, ROW_LIMIT, ROW_WORDS,
+};
 pub use reclaimed::Reclaimed;
 pub use rule::{RowRule, Rows};
 pub use sizes::{Sizes, Starts};

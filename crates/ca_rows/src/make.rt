@@ -21,7 +21,7 @@ use std::alloc::Global;
 use std::marker::PhantomData;
 
 impl Sizes {
-    /// Whether rows, passes and starts are within their bounds.
+    /// Whether rows (384 to 2^24 - 1), passes (1 to 64) and starts (each up to its counter's last value) are within their bounds.
     pub fn are_in_bounds(&self) -> bool
         ensures { IsTrue result ↔ AreInBounds self.now }
     {
@@ -37,7 +37,8 @@ impl Sizes {
 }
 
 impl<R: RowRule> Space<R> {
-    /// A space whose rows but row 1 are free, and which no pass was made for.
+    /// A space whose rows but row 1 are free, and which no pass was made for. It is refused with `BadSize` where its sizes aren't within their bounds, and else
+    /// with `NoMemory` where memory for its words lacks: eight bytes each, 136 a row and 648 more.
     pub fn new(
         alloc: Global,
         rows: u32,
@@ -92,14 +93,15 @@ impl<R: RowRule> Space<R> {
         self.sizes.starts
     }
 
-    /// How many rows there are.
+    /// How many rows there are: they have the numbers from 1 to this.
     pub fn rows(&self) -> u32
         ensures { result ≡ self.now.sizes.rows }
     {
         self.sizes.rows
     }
 
-    /// Makes a pass, with a list that has room for all rows. Its number is that of the passes made until then, and it, together.
+    /// Makes a pass, with a list that has room for all rows. Its number is that of the passes made until then, and it, together. It is refused with `NoPass`
+    /// where as many were made as the space is for, and with `NoMemory` where memory for the list lacks; then no pass more was made.
     pub fn enroll(&mut self, alloc: Global) -> Result<Pass<R>, RowsFault>
         ensures full { (result ≡ Err IsNoPass) ↔ (self.old.made ≡ self.old.sizes.passes) }
         ensures never { result ≢ Err IsBadSize }

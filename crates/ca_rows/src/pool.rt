@@ -17,8 +17,9 @@ use crate::space::{Pass, Space};
 use crate::taken::Taken;
 
 impl<R: RowRule> Space<R> {
-    /// Takes a free row. The exchange of a pass that is the only one which the space is for is never lost. Where that finds none, it knows of each row that it is
-    /// linked, or its own.
+    /// Takes a free row by one exchange of the pool's head: none where no row is free (`Empty`), where the head's tag has its last value (`Worn`), or where
+    /// that exchange was lost (`Lost`). The exchange of a pass that is the only one which the space is for is never lost. Where that finds none, it knows of
+    /// each row that it is linked, or its own.
     pub fn take_row(&self, pass: &mut Pass<R>) -> Taken
         requires own { IsOn self.now pass.old }
         ensures frame { StillKeepsList pass.old pass.new }
@@ -53,7 +54,7 @@ impl<R: RowRule> Space<R> {
         }
     }
 
-    /// Reads a word of a row that the pass holds.
+    /// Reads the word at this index, from 0 to 135, of a row that the pass holds.
     pub fn read_word(&self, pass: &mut Pass<R>, row: u32, index: u32) -> u64
         requires own { IsOn self.now pass.old }
         requires held { (its : List ℕ) × (claim_of (view pass.old).claims row ≡ some (IsHeld its)) }
@@ -66,7 +67,7 @@ impl<R: RowRule> Space<R> {
             .load::<Recall>(&mut pass.seat, ROW_WORDS * row as usize + index as usize)
     }
 
-    /// Writes a word of a row that the pass holds.
+    /// Writes the word at this index, from 0 to 135, of a row that the pass holds.
     pub fn write_word(&self, pass: &mut Pass<R>, row: u32, index: u32, value: u64)
         requires own { IsOn self.now pass.old }
         requires held { (its : List ℕ) × (claim_of (view pass.old).claims row ≡ some (IsHeld its)) }

@@ -1,12 +1,13 @@
 //! What came of giving kept rows back.
 
+/// What came of giving kept rows back.
 #[derive(Clone, Copy, Debug, PartialEq, Eq)]
 pub struct Reclaimed {
     /// How many rows the call gave back.
     pub freed: u32,
     /// How many rows the pass keeps still.
     pub kept: u32,
-    /// A pass whose announcement was older than the epoch that the call had loaded.
+    /// The number of a pass whose announcement was older than the epoch that the call had loaded.
     pub lag: Option<u32>,
     /// Whether one of the call's exchanges lost.
     pub lost: bool,

@@ -35,8 +35,8 @@ impl<R: RowRule> Space<R> {
     }
 
     /// The oldest row of this form, of those that the pass keeps and retired two epochs before the one that it announced, or earlier; the oldest of them
-    /// all, where none has the form. The pass holds it then, and keeps it no more. It loads the pass's own announcement, and takes no step that others
-    /// may wait for.
+    /// all, where none has the form; and none where none was retired so early. The pass holds it then, and keeps it no more. It loads the pass's own
+    /// announcement, and takes no step that others may wait for.
     pub fn reuse_row(&self, pass: &mut Pass<R>, like: u32) -> Option<u32>
         requires reading { IsReading self.now pass.old }
         requires list { AreKept (sizes self.now).rows (view pass.old).claims pass.old.kept.rows }

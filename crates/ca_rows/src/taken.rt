@@ -1,7 +1,9 @@
 //! What came of taking a row.
 
+/// What came of taking a row.
 #[derive(Clone, Copy, Debug, PartialEq, Eq)]
 pub enum Taken {
+    /// The pass holds this row, by its number from 1 on.
     Row(u32),
     /// No row was free.
     Empty,

@@ -23,6 +23,7 @@ pub enum Claim {
     Keeps(u64),
 }
 
+/// A row that is a seat's, and why.
 pub struct Claimed {
     pub row: u64,
     pub claim: Claim,
@@ -67,6 +68,7 @@ pub struct Pin {
     pub moved: u64,
 }
 
+/// What a seat knows of the space, of the rows that are its, and of the structure above.
 pub struct View<U> {
     /// What the space was made with; no rows, where the seat doesn't know.
     pub sizes: Sizes,

@@ -7,6 +7,7 @@ ghost use lib.ListN.{get_elem?};
 use atomic_table::Closed;
 use std::alloc::Global;
 
+/// The words of a space that nobody shares any more, from word 0 on: those before the rows, row 1 and the other rows, and those of the passes.
 pub struct Words {
     pub(crate) closed: Closed<(), Global>,
     pub ghost full: { IsFull closed.words },
@@ -21,7 +22,7 @@ impl Words {
         Words { closed }
     }
 
-    /// A word.
+    /// The word at this place, counted from 0.
     pub fn at(&self, word: u32) -> u64
         requires { word < slots_len self.now.closed.words }
         ensures { get_elem? (slots_items self.now.closed.words) word ≡ some result }
