@@ -7,7 +7,7 @@ use Rattle.ca_base.specs.Spending.{RisesBy}
 use Rattle.ca_node.specs.declared.link.Link.{Link}
 use Rattle.ca_node.specs.declared.link.Link.TheVariants as on
 use Rattle.ca_node.specs.JoinSteps.{attempt_of}
-use Rattle.ca_node.specs.Layout.{sequence_unit}
+use Rattle.ca_node.specs.Layout.{sequence_unit, marked_by_range}
 use Rattle.ca_node.specs.Row.{count, mark, mark_owner, IsMarkedBy}
 use Rattle.ca_node.specs.Notes.{IsBaseNote}
 use Rattle.ca_node.specs.Told.{MyTree, HasWatched, IsKnown, IsLedToBase, IsLedToRoute, IsUnranged, link_word, with_upper}
@@ -94,7 +94,8 @@ IsFoundRanged note m m' = (word : ℕ) × HasWatched (mark_owner note.its) m wor
 
 -- None marked it, or the one that did was found over.
 abbrev pub IsFoundUnranged : Note → MyTree → MyTree → Type 0
-IsFoundUnranged note m m' = ((mark note.its ≢ 1) × (m' ≡ m)) ⊎ ((mark note.its ≡ 1) × ((word : ℕ) × HasWatched (mark_owner note.its) m word m'
+IsFoundUnranged note m m' = ((mark note.its ≢ marked_by_range) × (m' ≡ m))
+    ⊎ ((mark note.its ≡ marked_by_range) × ((word : ℕ) × HasWatched (mark_owner note.its) m word m'
     × ¬ ((word % sequence_unit ≡ row_limit) × IsMarkedBy note.its (mark_owner note.its) (word / sequence_unit))))
 
 -- By a look at the base's mark a range has it, or none has.

@@ -21,7 +21,7 @@ ghost use Rattle.ca_rows.specs.Passes.{IsOn, IsReading, OnlyReads, sizes, known,
 use crate::joining::Attempt;
 use ca_base::{Stop, give_back, lose, retire_unlinked, take, write_joined};
 use ca_model::Spent;
-use ca_node::{BASE_FORM, Link, TreePass, TreeSpace, Unlinks, load_link, load_word, unlink_route};
+use ca_node::{BASE_FORM, COUNT_LIMIT, Link, TreePass, TreeSpace, Unlinks, load_link, load_word, unlink_route};
 use std::marker::Brand;
 
 // The form of a route, as a number: so it is noted of a row that is kept what it was.
@@ -100,7 +100,7 @@ pub(crate) fn route_level(space: &TreeSpace, pass: &mut TreePass, route: u32) ->
     ensures frame { OnlyReads pass.old pass.new }
     ensures level { (way : Way) → IsIn way (tree_of pass.old).ways → way.row ≡ route → result ≡ level way.its }
 {
-    (load_word(space, pass, route, 0) / 65_536 % 65_536) as u16
+    (load_word(space, pass, route, 0) / COUNT_LIMIT % COUNT_LIMIT) as u16
 }
 
 // Why an attempt wasn't finished, by why there was no row.

@@ -28,13 +28,10 @@ use crate::splitting::LAST_ATTEMPT;
 use ca_base::{Exchange, Stop, give_back, lose, retire_unlinked, take, write_copy};
 use ca_model::Spent;
 use ca_node::{
-    BASE_FORM, Cursor, JoinState, Marking, TreePass, TreeSpace, begin_join, load_join, load_word,
+    BASE_FORM, Cursor, JoinState, MARKED_BY_JOIN, Marking, TreePass, TreeSpace, begin_join, load_join, load_word,
     mark_for_join,
 };
 use std::marker::Brand;
-
-// What kind of operation marked a base, by its mark: a join.
-const JOIN: u64 = 2;
 
 /// An attempt to join the two bases under a route, by its number.
 #[derive(Clone, Copy)]
@@ -137,7 +134,7 @@ fn write_marked(space: &TreeSpace, pass: &mut TreePass, row: u32, base: u32, att
 {
     let statistic = load_word(space, pass, base, 1);
     let route = u64::from(attempt.route);
-    let words = [statistic, JOIN, route, attempt.number, 0, 0];
+    let words = [statistic, MARKED_BY_JOIN, route, attempt.number, 0, 0];
     write_copy(space, pass, row, base, words);
 }
 

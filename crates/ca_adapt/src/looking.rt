@@ -15,7 +15,7 @@ ghost use Rattle.ca_rows.specs.Passes.{OnlyReads, IsReading, KeepsList, sizes, k
 use crate::adapted::Why;
 use ca_base::items_of;
 use ca_node::{
-    Cursor, FORM, Link, ROUTE, RangeState, TreePass, TreeSpace, load_link, load_status, load_word,
+    COUNT_LIMIT, Cursor, FORM, Link, MARKED_BY_RANGE, ROUTE, TreePass, TreeSpace, is_active, load_link, load_status, load_word,
 };
 
 /// A route on whose link a base hangs: its row, the link on which it hangs itself, and its other link.
@@ -26,7 +26,7 @@ pub struct Fork {
     pub other: Link,
 }
 
-/// The route on whose link the base under the cursor hangs, if it hangs on one.
+/// The route on whose link the base under the cursor hangs, or none where that is the root link.
 pub fn fork_at(cursor: Cursor) -> Option<Fork>
     ensures { (z : Sizes) (u : TreeView) → IsHungUnder z u cursor.link cursor.above → IsForkAt z u cursor.link result }
 {
@@ -103,7 +103,7 @@ pub fn base_level(space: &TreeSpace, pass: &mut TreePass, base: u32) -> u16
     ensures frame { OnlyReads pass.old pass.new }
     ensures level { (note : Note) → IsBaseShown (sizes space.now) (tree_of pass.old) base note → result ≡ note.place.level }
 {
-    (load_word(space, pass, base, 0) / 65_536 % 65_536) as u16
+    (load_word(space, pass, base, 0) / COUNT_LIMIT % COUNT_LIMIT) as u16
 }
 
 // Whether a range has a base that the pass was shown: one marked it, and isn't over.
@@ -113,21 +113,10 @@ fn is_in_range(space: &TreeSpace, pass: &mut TreePass, base: u32) -> bool
     ensures frame { KeepsList pass.old pass.new }
     ensures found { (note : Note) → IsBaseShown (sizes space.now) (tree_of pass.old) base note → IsFoundInUse result note (known pass.old) (known pass.new) }
 {
-    if load_word(space, pass, base, 2) != 1 {
+    if load_word(space, pass, base, 2) != MARKED_BY_RANGE {
         return false;
     }
     let owner = load_word(space, pass, base, 3) as u32;
     let number = load_word(space, pass, base, 4);
     is_active(load_status(space, pass, owner), number)
-}
-
-// Whether the range with this number is the one that is active.
-fn is_active(state: RangeState, number: u64) -> bool
-    ensures { (word : ℕ) → state ≡ status_of word → (IsTrue result ↔ ((word % sequence_unit ≡ row_limit) × (word / sequence_unit ≡ number))) }
-{
-    match state {
-        RangeState::Idle(_) => false,
-        RangeState::Active(active) => active == number,
-        RangeState::Decided(_, _) => false,
-    }
 }

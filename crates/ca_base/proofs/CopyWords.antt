@@ -4,7 +4,7 @@ use Rattle.std.proofs.lemmas.List.{get_or-take, get_or-drop, length-take-le}
 use Rattle.std.proofs.lemmas.Grind.{same_number_lists}
 use Rattle.ca_rows.specs.declared.sizes.Sizes.{Sizes}
 use Rattle.ca_rows.specs.Layout.{row_words}
-use Rattle.ca_node.specs.Layout.{prefix_word, items_word, form_unit}
+use Rattle.ca_node.specs.Layout.{prefix_word, items_word, form_unit, count_limit}
 use Rattle.ca_node.specs.Notes.{IsBaseNote}
 use Rattle.ca_node.specs.Row.{bytes_in, count, head_in, head_of, row_in, item_words, key, prefix_length, prefix_words, IsHeaded}
 use Rattle.ca_node.specs.TreeView.{Note}
@@ -41,11 +41,11 @@ front_words form words = form ∷ get_or words 0 0 ∷ get_or words 1 0 ∷ get_
 pub spells_copy : (z : Sizes) (note : Note) (words : List ℕ) (form : ℕ) (its one new : List ℕ) → z.leaf ≤ 120 → IsBaseNote z note
     → form ≡ get_or note.its 0 0 → length its ≡ row_words
     → IsFilled 0 7 (λ k word. word ≡ get_or (front_words form words) k 0) its one
-    → IsFilled 7 (4 + form % 65536) (λ k word. word ≡ get_or note.its (7 + k) 0) one new → SpellsCopy note words new
+    → IsFilled 7 (4 + form % count_limit) (λ k word. word ≡ get_or note.its (7 + k) 0) one new → SpellsCopy note words new
 spells_copy z note words form its one new leaf is form_is long f g = record {
   long = whole;
   is_base = ap (λ (n : ℕ). n / form_unit) zeroth ∙ is.is_base;
-  level_is = ap (λ (n : ℕ). n / 65536 % 65536) zeroth;
+  level_is = ap (λ (n : ℕ). n / count_limit % count_limit) zeroth;
   count_is = many;
   items_are = ap (λ (ws : List ℕ). map row_in ws) same_items;
   headed = headed_as note.its new note.objects (ap (λ (n : ℕ). n / 4294967296 % 16777216) zeroth) same_prefix same_items is.headed;
@@ -71,13 +71,13 @@ spells_copy z note words form its one new leaf is form_is long f g = record {
     zeroth = first 0 (omega arith) ∙ form_is
 
     many : count new ≡ count note.its
-    many = ap (λ (n : ℕ). n % 65536) zeroth
+    many = ap (λ (n : ℕ). n % count_limit) zeroth
 
     few : count note.its ≤ 120
     few = let l = is.few in omega arith
 
     behind : (k : ℕ) → 7 ≤ k → k < 11 + count note.its → get_or new k 0 ≡ get_or note.its k 0
-    behind k lo hi = let n : form % 65536 ≡ count note.its = ap (λ (x : ℕ). x % 65536) form_is in let place : 7 + (k - 7) ≡ k = omega arith in
+    behind k lo hi = let n : form % count_limit ≡ count note.its = ap (λ (x : ℕ). x % count_limit) form_is in let place : 7 + (k - 7) ≡ k = omega arith in
         subst (λ (i : ℕ). get_or new i 0 ≡ get_or note.its i 0) place (g.inside (k - 7) (omega arith))
 
     same_items : item_words new ≡ item_words note.its

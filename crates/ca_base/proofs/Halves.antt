@@ -5,7 +5,7 @@ use Rattle.ca_node.specs.Told.{MyTree}
 use Rattle.ca_base.specs.Writing.{IsHeld, HasFilled, HasWritten, SpellsBase, IsHeadWord}
 use Rattle.ca_base.proofs.Filling.{filled_as}
 use Rattle.ca_base.proofs.LastItems.{base_written}
-use Rattle.ca_node.specs.Layout.{items_word}
+use Rattle.ca_node.specs.Layout.{items_word, count_limit}
 
 -- So many are there.
 pub half_long : (xs : List ℕ) (from count : ℕ) → from + count ≤ length xs
@@ -14,7 +14,7 @@ half_long xs from count l = length-take-le count (drop from xs) (omega (arith, l
 
 -- A row that got them is such a base.
 pub half_written : (row at_level statistic from count : ℕ) (front xs : List ℕ) (k m n : MyTree)
-    → IsHeld k row → at_level < 65536 → length front ≤ 32 → from + count ≤ length xs
+    → IsHeld k row → at_level < count_limit → length front ≤ 32 → from + count ≤ length xs
     → count ≤ 120 → HasFilled row 0 11 (IsHeadWord front at_level count statistic) k m
     → HasFilled row items_word count (λ i word. word ≡ get_or xs (from + i) 0) m n
     → HasWritten row (SpellsBase front (take count (drop from xs)) at_level statistic) k n

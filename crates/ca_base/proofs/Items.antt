@@ -9,7 +9,7 @@ use Rattle.ca_node.specs.Told.{IsShownWord}
 use Rattle.ca_node.specs.TreeView.{Note, TreeView}
 use Rattle.ca_base.specs.Finding.{IsRowShown, IsReadable, IsObjectShown}
 use Rattle.ca_rows.specs.declared.sizes.Sizes.{Sizes}
-use Rattle.ca_node.specs.Layout.{items_word}
+use Rattle.ca_node.specs.Layout.{items_word, count_limit}
 
 -- What stands at a place of a list.
 pub at_place : {A : Type 0} (xs : List A) (k : ℕ) (d : A) → k < length xs
@@ -48,9 +48,9 @@ module _ (z : Sizes) (u : TreeView) (base : ℕ) (note : Note) (r : IsReadable z
 
   -- Its first word says how many objects it has.
   pub count_is : (word : ℕ) → ((its : List ℕ) → IsRowShown u base its → word ≡ get_or its 0 0)
-      → (word % 65536 ≡ length note.objects) × (word % 65536 ≤ 120)
-  count_is word is = let first : count note.its ≡ word % 65536 = ap
-      (λ (n : ℕ). n % 65536) (sym (is note.its shows)) in
+      → (word % count_limit ≡ length note.objects) × (word % count_limit ≤ 120)
+  count_is word is = let first : count note.its ≡ word % count_limit = ap
+      (λ (n : ℕ). n % count_limit) (sym (is note.its shows)) in
       let few = r.few in (sym first ∙ (sym many ∙ sym r.is_base.as_many), omega arith)
 
   -- The word of an item is this one.

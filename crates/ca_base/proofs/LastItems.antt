@@ -11,7 +11,7 @@ use Rattle.ca_base.specs.Writing.{IsHeld, HasFilled, HasWritten, SpellsBase, Has
 use Rattle.ca_base.proofs.Filling.{filled_as, filled_on, rewritten_again}
 use Rattle.ca_base.proofs.Spelling.{spells_base}
 use Rattle.ca_rows.specs.declared.sizes.Sizes.{Sizes}
-use Rattle.ca_node.specs.Layout.{items_word}
+use Rattle.ca_node.specs.Layout.{items_word, count_limit}
 use Rattle.ca_base.specs.Finding.{IsRowShown}
 
 module _ (z : Sizes) (u : TreeView) (base : ℕ) (shown : IsShownLast z u base) where
@@ -65,7 +65,7 @@ head_written row front at_level many statistic k m n f g =
 
 -- A row that was filled with a base's words is a base.
 pub base_written : (row at_level many statistic : ℕ) (front these : List ℕ) (k m n : MyTree)
-    → IsHeld k row → at_level < 65536 → many ≡ length these → length front ≤ 32
+    → IsHeld k row → at_level < count_limit → many ≡ length these → length front ≤ 32
     → length these ≤ 120
     → HasFilled row 0 11 (IsHeadWord front at_level many statistic) k m
     → HasFilled row items_word (length these) (λ i word. word ≡ get_or these i 0) m n
@@ -120,7 +120,7 @@ module _ (xs these : List ℕ) (before behind : ℕ) (low : before ≤ length xs
 
   -- Where they were written in turn, they are the items of the new base.
   pub around_written : (row at_level many statistic : ℕ) (front : List ℕ) (a b d e f : MyTree)
-      → IsHeld a row → at_level < 65536 → length front ≤ 32
+      → IsHeld a row → at_level < count_limit → length front ≤ 32
       → many ≡ before + length these + (length xs - behind) → many ≤ 120
       → HasFilled row 0 11 (IsHeadWord front at_level many statistic) a b
       → HasFilled row (items_word + 0) before (λ k word. word ≡ get_or xs (0 + k) 0) b d

@@ -1,7 +1,7 @@
 -- A base row that gets the items of one base and then those of another one.
 use Rattle.std.proofs.Common.{◌≡◌, ℕ, ◌+◌, ◌-◌, ◌<◌, ◌≤◌, List, ◌++◌, length, get_or, sym, refl, ap, ◌∙◌, subst, inl, arith, length-append}
 use Rattle.std.proofs.lemmas.List.{get_or_append_left, get_or-append_right, length-map}
-use Rattle.ca_node.specs.Layout.{items_word}
+use Rattle.ca_node.specs.Layout.{items_word, count_limit}
 use Rattle.ca_node.specs.Row.{item_words}
 use Rattle.ca_node.specs.Told.{MyTree}
 use Rattle.ca_node.specs.TreeView.{Note, TreeView}
@@ -35,7 +35,7 @@ part_run z u v part note same has = subst (λ (w : TreeView). HasRun z w (run_of
 pub part_long : (z : Sizes) (u : TreeView) (part : Part) (note : Note) → HasPart z u part note → part.many ≡ length (words_in part note)
 part_long z u part note has = has.1 ∙ sym (length-map (item_words note.its) (reheaded part.shift.lead part.shift.bytes))
 
-pub parts_written : (xs ys front : List ℕ) (row at_level statistic : ℕ) (a b d e : MyTree) → IsHeld a row → at_level < 65536 → length front ≤ 32
+pub parts_written : (xs ys front : List ℕ) (row at_level statistic : ℕ) (a b d e : MyTree) → IsHeld a row → at_level < count_limit → length front ≤ 32
     → length xs + length ys ≤ 120 → HasFilled row 0 11 (IsHeadWord front at_level (length xs + length ys) statistic) a b
     → HasFilled row (items_word + 0) (length xs) (λ k word. word ≡ get_or xs (0 + k) 0) b d
     → HasFilled row (items_word + length xs) (length ys) (λ k word. word ≡ get_or ys (0 + k) 0) d e

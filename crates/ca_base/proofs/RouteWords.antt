@@ -8,7 +8,7 @@ use Rattle.ca_base.specs.Writing.{IsHeld, HasEight, IsFilled, HasFilled, HasWrit
 use Rattle.ca_base.proofs.Filling.{rewritten_again}
 use Rattle.ca_base.proofs.Words.{packed}
 use Rattle.ca_rows.specs.Layout.{row_words}
-use Rattle.ca_node.specs.Layout.{key_word}
+use Rattle.ca_node.specs.Layout.{key_word, count_limit}
 
 -- The bytes of a key that were filled in from word 4 on are the key that a row has, by so many as its first word says.
 pub key_spelled : (bytes one new : List ℕ) → length one ≡ row_words → length bytes ≤ 1000
@@ -21,8 +21,8 @@ key_spelled bytes one new long short g many = ap (λ n. take n (bytes_in (drop k
 
 -- The first word, the links and the join word, and the key's bytes from word 11 on.
 pub spells_route : (bytes : List ℕ) (at_level left right attempt form join : ℕ)
-    (its one new : List ℕ) → length its ≡ row_words → at_level < 65536
-    → form ≡ 216172782113783808 + at_level * 65536 + length bytes → join ≡ attempt * 4
+    (its one new : List ℕ) → length its ≡ row_words → at_level < count_limit
+    → form ≡ 216172782113783808 + at_level * count_limit + length bytes → join ≡ attempt * 4
     → length bytes ≤ 1000
     → IsFilled 0 4 (λ k word. word ≡ get_or (form ∷ left ∷ right ∷ join ∷ []) k 0) its one
     → IsFilled key_word ((length bytes + 7) / 8) (HasEight bytes) one new
@@ -50,8 +50,8 @@ spells_route bytes at_level left right attempt form join its one new long low is
 
 -- A row that was filled with a route's words is a route.
 pub route_written : (row at_level left right attempt form join : ℕ) (bytes : List ℕ)
-    (k m n : MyTree) → IsHeld k row → at_level < 65536
-    → form ≡ 216172782113783808 + at_level * 65536 + length bytes → join ≡ attempt * 4
+    (k m n : MyTree) → IsHeld k row → at_level < count_limit
+    → form ≡ 216172782113783808 + at_level * count_limit + length bytes → join ≡ attempt * 4
     → length bytes ≤ 1000
     → HasFilled row 0 4 (λ i word. word ≡ get_or (form ∷ left ∷ right ∷ join ∷ []) i 0) k m
     → HasFilled row key_word ((length bytes + 7) / 8) (HasEight bytes) m n

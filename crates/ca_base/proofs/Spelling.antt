@@ -7,14 +7,14 @@ use Rattle.ca_base.specs.Writing.{HasEight, IsFilled, IsHeadWord, SpellsObject, 
 use Rattle.ca_base.proofs.Fronted.{words_long, word_is}
 use Rattle.ca_base.proofs.Words.{packed, padded}
 use Rattle.ca_rows.specs.Layout.{row_words}
-use Rattle.ca_node.specs.Layout.{code_word, items_word, form_unit}
+use Rattle.ca_node.specs.Layout.{code_word, items_word, form_unit, count_limit}
 use Rattle.ca_base.proofs.ObjectBytes.{code_long, code_at}
 
 -- An object row: its first word, and its bytes from the second word on.
 pub spells_object : (bytes : List ℕ) (key_at key_end form : ℕ) (its one new : List ℕ)
     → length its ≡ row_words → get_or one 0 0 ≡ form → length one ≡ length its
     → form / form_unit ≡ 1 → form / 4294967296 % 16777216 ≡ key_end - key_at
-    → form / 65536 % 65536 ≡ key_at → form % 65536 ≡ length bytes
+    → form / count_limit % count_limit ≡ key_at → form % count_limit ≡ length bytes
     → length bytes ≤ 1000 → IsFilled code_word ((length bytes + 7) / 8) (HasEight bytes) one new
     → SpellsObject bytes key_at key_end new
 spells_object bytes key_at key_end form its one new long first wide_one is_object is_length is_place is_count
@@ -28,7 +28,7 @@ spells_object bytes key_at key_end form its one new long first wide_one is_objec
       object_is = object_is;
       key_is = ap (λ n. take n (drop (key_place new) (object new))) (ap
           (λ x. x / 4294967296 % 16777216) first' ∙ is_length)
-          ∙ (ap (λ n. take (key_end - key_at) (drop n (object new))) (ap (λ x. x / 65536 % 65536) first'
+          ∙ (ap (λ n. take (key_end - key_at) (drop n (object new))) (ap (λ x. x / count_limit % count_limit) first'
           ∙ is_place)
           ∙ ap (λ (o : List ℕ). take (key_end - key_at) (drop key_at o)) object_is);
     }
@@ -40,7 +40,7 @@ spells_object bytes key_at key_end form its one new long first wide_one is_objec
     wide = f.long ∙ (wide_one ∙ long)
 
     count_is : count new ≡ length bytes
-    count_is = ap (λ x. x % 65536) first' ∙ is_count
+    count_is = ap (λ x. x % count_limit) first' ∙ is_count
 
     has_eight : (k : ℕ) → k < (length bytes + 7) / 8 → HasEight bytes k (get_or (code_words new) k 0)
     has_eight k l = subst (HasEight bytes k) (sym (code_at new k (omega arith))) (f.inside k l)
@@ -55,7 +55,7 @@ spells_object bytes key_at key_end form its one new long first wide_one is_objec
 
 -- A base row: the words before its items, and its items from word 11 on.
 pub spells_base : (front these : List ℕ) (at_level statistic : ℕ) (its one new : List ℕ)
-    → length its ≡ row_words → at_level < 65536 → length front ≤ 32 → length these ≤ 120
+    → length its ≡ row_words → at_level < count_limit → length front ≤ 32 → length these ≤ 120
     → IsFilled 0 11 (IsHeadWord front at_level (length these) statistic) its one
     → IsFilled items_word (length these) (λ k word. word ≡ get_or these k 0) one new
     → SpellsBase front these at_level statistic new
@@ -82,7 +82,7 @@ spells_base front these at_level statistic its one new long low short few f g = 
     wide = g.long ∙ (f.long ∙ long)
 
     first : get_or new 0 0
-        ≡ 144115188075855872 + length front * 4294967296 + at_level * 65536 + length these
+        ≡ 144115188075855872 + length front * 4294967296 + at_level * count_limit + length these
     first = g.before 0 (omega arith) ∙ (f.inside 0 (omega arith)).head (omega arith)
 
     length_is : prefix_length new ≡ length front

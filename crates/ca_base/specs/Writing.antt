@@ -7,6 +7,7 @@ use Rattle.ca_rows.specs.declared.view.Claim.TheVariants.{Holds}
 use Rattle.ca_rows.specs.Claims.{claim_of, held_count}
 use Rattle.ca_node.specs.Told.{MyTree}
 use Rattle.ca_node.specs.Row.{IsObjectRow, IsBaseRow, count, level, IsUnmarked, object, key, item_words, bytes_in, prefix, prefix_length, prefix_words}
+use Rattle.ca_node.specs.Layout.{count_limit}
 use Rattle.ca_rows.specs.Layout.{row_words}
 
 -- The seat holds the row.
@@ -73,7 +74,7 @@ pub record SpellsBase (front these : List ℕ) (at_level statistic : ℕ) (its :
 -- no mark
 abbrev pub base_head : ℕ → ℕ → ℕ → ℕ → List ℕ
 base_head bytes at_level many statistic =
-    (144115188075855872 + bytes * 4294967296 + at_level * 65536 + many) ∷ statistic ∷ 0 ∷ 0 ∷ 0 ∷ 0 ∷ 0 ∷ []
+    (144115188075855872 + bytes * 4294967296 + at_level * count_limit + many) ∷ statistic ∷ 0 ∷ 0 ∷ 0 ∷ 0 ∷ 0 ∷ []
 
 -- A word of a base row before its items is one of these, or behind them one with eight bytes of the prefix.
 pub record IsHeadWord (front : List ℕ) (at_level many statistic k word : ℕ) : Type 0 where

@@ -11,7 +11,7 @@ ghost use Rattle.ca_rows.specs.Passes.{OnlyReads};
 ghost use Rattle.ca_node.specs.TreePasses.{tree_of};
 
 use crate::writing::word_of;
-use ca_node::{CODE, TreePass, TreeSpace, compare_tops, load_word};
+use ca_node::{CODE, COUNT_LIMIT, TreePass, TreeSpace, compare_tops, load_word};
 use ca_term::MOST_CODE_BYTES;
 use std::cmp::Ordering;
 
@@ -56,8 +56,8 @@ pub(crate) fn key_bytes(space: &TreeSpace, pass: &mut TreePass, row: u32) -> (us
     ensures key { (its : List ℕ) → IsObjectShown (tree_of pass.old) row its → (pair its).0 ≡ slice_range (all_bytes its) result.0 result.1 }
 {
     let word = load_word(space, pass, row, 0);
-    let end = MOST_CODE_BYTES.min((word % 65_536) as usize);
-    let start = end.min((word / 65_536 % 65_536) as usize);
+    let end = MOST_CODE_BYTES.min((word % COUNT_LIMIT) as usize);
+    let start = end.min((word / COUNT_LIMIT % COUNT_LIMIT) as usize);
     let len = (end - start).min((word / 4_294_967_296 % 16_777_216) as usize);
     (start, start + len)
 }

@@ -9,7 +9,7 @@ ghost use Rattle.ca_node.specs.TreeView.{Note};
 ghost use Rattle.ca_rows.specs.Passes.{StillKeepsList, sizes, known};
 
 use crate::writing::{set_word, write_words};
-use ca_node::{ITEMS, PREFIX, TreePass, TreeSpace, load_word};
+use ca_node::{COUNT_LIMIT, ITEMS, PREFIX, TreePass, TreeSpace, load_word};
 
 // How many words have room for a base's prefix.
 const PREFIX_WORDS: u32 = ITEMS - PREFIX;
@@ -28,7 +28,7 @@ pub fn write_copy(space: &TreeSpace, pass: &mut TreePass, row: u32, base: u32, w
     let [statistic, kind, owner, number, back, bound] = words;
     let front = [form, statistic, kind, owner, number, back, bound];
     write_words(space, pass, row, &front);
-    copy_words(space, pass, row, base, (form % 65_536) as u32);
+    copy_words(space, pass, row, base, (form % COUNT_LIMIT) as u32);
 }
 
 // Copies the words of a base behind its mark: its prefix, and so many items.

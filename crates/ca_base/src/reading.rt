@@ -12,11 +12,11 @@ ghost use Rattle.ca_node.specs.TreePasses.{tree_of};
 
 use arrayvec::ArrayVec;
 use ca_model::Code;
-use ca_node::{CODE, ITEMS, TreePass, TreeSpace, load_word};
+use ca_node::{CODE, COUNT_LIMIT, ITEMS, TreePass, TreeSpace, load_word};
 use ca_rows::ROW_LIMIT;
 use ca_term::MOST_CODE_BYTES;
 
-// How many objects a base names that the pass was shown.
+/// How many objects a base names that the pass was shown: 120 at most.
 pub fn count(space: &TreeSpace, pass: &mut TreePass, base: u32) -> u32
     requires reading { IsReading space.now pass.old }
     requires readable { (note : Note) × IsReadable (sizes space.now) (tree_of pass.old) base note }
@@ -24,7 +24,7 @@ pub fn count(space: &TreeSpace, pass: &mut TreePass, base: u32) -> u32
     ensures few { result ≤ 120 }
     ensures count { (note : Note) → IsReadable (sizes space.now) (tree_of pass.old) base note → result ≡ length note.objects }
 {
-    (load_word(space, pass, base, 0) % 65_536) as u32
+    (load_word(space, pass, base, 0) % COUNT_LIMIT) as u32
 }
 
 /// The word for the statistic of a base that the pass was shown.
@@ -37,7 +37,7 @@ pub fn statistic_word(space: &TreeSpace, pass: &mut TreePass, base: u32) -> u64
     load_word(space, pass, base, 1)
 }
 
-// The object row that a base names at a place.
+/// The object row that a base names at a place, which is counted from 0 in the order of keys.
 pub fn item(space: &TreeSpace, pass: &mut TreePass, base: u32, place: u32) -> u32
     requires reading { IsReading space.now pass.old }
     requires readable { HasPlace (sizes space.now) (tree_of pass.old) base place }
@@ -68,7 +68,7 @@ pub fn copy_object(space: &TreeSpace, pass: &mut TreePass, row: u32, into: &mut 
     ensures frame { OnlyReads pass.old pass.new }
     ensures object { (its : List ℕ) → IsObjectShown (tree_of pass.old) row its → into.new.items ≡ (pair its).1 }
 {
-    let len = MOST_CODE_BYTES.min((load_word(space, pass, row, 0) % 65_536) as usize);
+    let len = MOST_CODE_BYTES.min((load_word(space, pass, row, 0) % COUNT_LIMIT) as usize);
     into.clear();
     let whole = len / 32;
     for four in 0..whole {

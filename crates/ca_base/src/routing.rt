@@ -21,7 +21,7 @@ use crate::swapping::STATISTIC;
 use crate::writing::{Front, set_word, word_of_item, write_bytes, write_head, write_words};
 use arrayvec::ArrayVec;
 use ca_model::Code;
-use ca_node::{CODE, ITEMS, KEY, ROUTE, TreePass, TreeSpace, load_word};
+use ca_node::{CODE, COUNT_LIMIT, ITEMS, KEY, ROUTE, TreePass, TreeSpace, load_word};
 
 /// The rows of a split: a route, and the two bases under it.
 #[derive(Clone, Copy)]
@@ -47,7 +47,7 @@ pub(crate) fn write_route(
     ensures frame { StillKeepsList pass.old pass.new }
     ensures written { HasWritten fork.route (SpellsRoute level key.now fork.left fork.right attempt) (known pass.old) (known pass.new) }
 {
-    let form = ROUTE + level as u64 * 65_536 + key.len() as u64;
+    let form = ROUTE + level as u64 * COUNT_LIMIT + key.len() as u64;
     let (left, right) = (fork.left as u64, fork.right as u64);
     write_words(space, pass, fork.route, &[form, left, right, attempt * 4]);
     write_bytes(space, pass, fork.route, KEY, key);

@@ -14,7 +14,7 @@ use crate::copying::{Run, copy_items};
 use crate::prefixes::{Prefix, Shift, Trimmed, copy_prefix, trim};
 use crate::swapping::STATISTIC;
 use crate::writing::{Front, write_head};
-use ca_node::{TreePass, TreeSpace, load_word};
+use ca_node::{COUNT_LIMIT, TreePass, TreeSpace, load_word};
 
 /// All items of a base that was shown, of which there are so many, and what becomes of their heads.
 #[derive(Clone, Copy)]
@@ -74,7 +74,7 @@ pub fn items_of(space: &TreeSpace, pass: &mut TreePass, base: u32) -> u32
     ensures count { (note : Note) → IsBaseShown (sizes space.now) (tree_of pass.old) base note → result ≡ count note.its }
     ensures few { result ≤ 65535 }
 {
-    (load_word(space, pass, base, 0) % 65_536) as u32
+    (load_word(space, pass, base, 0) % COUNT_LIMIT) as u32
 }
 
 // The prefixes of two bases that are joined, which have so many items, are trimmed to what they begin with in common: so both are one prefix. Where one has

@@ -1,5 +1,5 @@
 //! Rows that a pass holds are written: objects and bases.
-ghost use Rattle.ca_node.specs.Layout.{code_word, items_word, prefix_word, form_unit};
+ghost use Rattle.ca_node.specs.Layout.{code_word, items_word, prefix_word, form_unit, count_limit};
 ghost use Rattle.ca_node.specs.Row.{front_of, row_in, head_in};
 ghost use Rattle.ca_rows.specs.Layout.{row_words, row_limit};
 ghost use Rattle.std.specs.Prelude.{◌≡◌, ◌+◌, ◌-◌, ◌*◌, ◌/◌, ◌%◌, ◌<◌, ◌≤◌, length, slice_index};
@@ -7,7 +7,7 @@ ghost use Rattle.ca_base.specs.Writing.{HasSet, HasFilled, HasBytes, HasEight, S
 ghost use Rattle.ca_base.specs.Holding.{HoldsRow};
 ghost use Rattle.ca_rows.specs.Passes.{StillKeepsList, known};
 
-use ca_node::{BASE, CODE, ITEMS, OBJECT, PREFIX, PREFIX_LENGTH, TreePass, TreeSpace, top_of};
+use ca_node::{BASE, CODE, COUNT_LIMIT, ITEMS, OBJECT, PREFIX, PREFIX_LENGTH, TreePass, TreeSpace, top_of};
 use ca_rows::ROW_LIMIT;
 
 /// Writes an object row: the first word, and the object's bytes, eight a word, with zeros behind their end to the end of their last word. What stands
@@ -52,7 +52,7 @@ pub(crate) fn write_head(
     ensures filled { HasFilled row 0 11 (IsHeadWord front.now.prefix.now front.now.level many front.now.statistic) (known pass.old) (known pass.new) }
 {
     let bytes = front.prefix.len() as u64 * PREFIX_LENGTH;
-    let form = BASE + bytes + front.level as u64 * 65_536 + many as u64;
+    let form = BASE + bytes + front.level as u64 * COUNT_LIMIT + many as u64;
     write_words(space, pass, row, &[form, front.statistic, 0, 0, 0, 0, 0]);
     write_prefix(space, pass, row, front.prefix);
 }
@@ -80,11 +80,11 @@ fn object_form(length: usize, key_at: usize, key_end: usize) -> u64
     requires { (key_at ≤ key_end) × (key_end ≤ length) × (length ≤ 1000) }
     ensures form { result / form_unit ≡ 1 }
     ensures key_length { result / 4294967296 % 16777216 ≡ key_end - key_at }
-    ensures key_place { result / 65536 % 65536 ≡ key_at }
-    ensures count { result % 65536 ≡ length }
+    ensures key_place { result / count_limit % count_limit ≡ key_at }
+    ensures count { result % count_limit ≡ length }
 {
     let key_length = (key_end - key_at) as u64;
-    OBJECT + key_length * 4_294_967_296 + key_at as u64 * 65_536 + length as u64
+    OBJECT + key_length * 4_294_967_296 + key_at as u64 * COUNT_LIMIT + length as u64
 }
 
 /// Sets a word. It isn't stored where it is that number already, since a load takes an eighth of the time.

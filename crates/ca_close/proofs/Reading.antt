@@ -4,7 +4,7 @@ use Rattle.std.proofs.lemmas.List.{get_or-take, get_or-drop, length-take-le, get
 use mathlib.Core.Option.{some, some-injective, some-ne-none}
 use lib.ListN.{get_elem?}
 use Rattle.ca_rows.specs.Layout.{row_words, row_limit}
-use Rattle.ca_node.specs.Layout.{items_word}
+use Rattle.ca_node.specs.Layout.{items_word, count_limit}
 use Rattle.ca_node.specs.Row.{row_at, count, item_words, items, row_in}
 use Rattle.ca_node.specs.Stays.{word_at}
 use Rattle.ca_close.specs.Listing.{IsInside}
@@ -43,6 +43,6 @@ module _ (words : List ℕ) (row : ℕ) (inside : IsInside words row) where
       ∙ sym (got_of words row (items_word + place) at word (omega arith) there g)))
 
 -- The number of a base's items, as its first word is read.
-pub many_are : (words : List ℕ) (base word : ℕ) → get_elem? words (row_words * base) ≡ some word → word % 65536 ≡ count (row_at words base)
+pub many_are : (words : List ℕ) (base word : ℕ) → get_elem? words (row_words * base) ≡ some word → word % count_limit ≡ count (row_at words base)
 many_are words base word g = let here : row_words * base ≡ row_words * base + 0 = omega arith in
-    ap (λ (n : ℕ). n % 65536) (got_of words base 0 (row_words * base) word (omega arith) here g)
+    ap (λ (n : ℕ). n % count_limit) (got_of words base 0 (row_words * base) word (omega arith) here g)

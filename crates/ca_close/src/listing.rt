@@ -6,7 +6,7 @@ ghost use Rattle.ca_node.specs.LastTree.{rows_under};
 ghost use Rattle.ca_node.specs.Row.{row_at, count, items, IsRouteRow};
 ghost use Rattle.ca_rows.specs.declared.sizes.Sizes.{Sizes as TheSizes};
 
-use ca_node::{FORM, ITEMS, ROUTE};
+use ca_node::{COUNT_LIMIT, FORM, ITEMS, ROUTE};
 use ca_rows::{ROW_LIMIT, ROW_WORDS, Words};
 
 /// Appends the object rows under a link, for which there is room. No base is more than `deep` links from there.
@@ -46,7 +46,7 @@ fn push_items(words: &Words, base: u32, rows: &mut Vec<u32>)
     ensures room_is { vec_capacity rows.new ≡ vec_capacity rows.old }
 {
     let first = ROW_WORDS as u32 * base;
-    let many = (words.at(first) % 65_536) as u32;
+    let many = (words.at(first) % COUNT_LIMIT) as u32;
     for place in 0..many {
         let word = words.at(first + ITEMS + place);
         rows.push_reserved((word % ROW_LIMIT) as u32);

@@ -11,7 +11,7 @@ use crate::listing::gather;
 use arrayvec::ArrayVec;
 use ca_base::append;
 use ca_model::Code;
-use ca_node::{CODE, ROOT};
+use ca_node::{CODE, COUNT_LIMIT, ROOT};
 use ca_rows::{ROW_WORDS, Words};
 use ca_term::MOST_CODE_BYTES;
 use std::marker::Model;
@@ -72,7 +72,7 @@ fn copy_row(words: &Words, row: u32, into: &mut Code)
     ensures { into.new.items ≡ object (row_at (slots_items words.now.closed.words) row) }
 {
     let first = ROW_WORDS as u32 * row;
-    let len = MOST_CODE_BYTES.min((words.at(first) % 65_536) as usize);
+    let len = MOST_CODE_BYTES.min((words.at(first) % COUNT_LIMIT) as usize);
     into.clear();
     for i in 0..(len + 7) / 8 {
         let bytes = words.at(first + CODE + i as u32).to_be_bytes();

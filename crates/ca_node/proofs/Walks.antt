@@ -28,7 +28,7 @@ use Rattle.ca_node.specs.Walking.{IsSought, IsSide, IsAbove, IsHungOn, IsLinkAmo
 use Rattle.ca_node.proofs.Parts.{goes_left, goes_right, of_all}
 use Rattle.ca_node.proofs.RouteWords.{fixed_word, first_fixed}
 use Rattle.ca_rows.specs.Layout.{row_words}
-use Rattle.ca_node.specs.Layout.{form_unit, root_word}
+use Rattle.ca_node.specs.Layout.{form_unit, root_word, count_limit}
 
 -- What is looked for is one of all keys.
 pub sought_first : (s : Spot) → IsSought s all_keys
@@ -533,9 +533,9 @@ module _ (z : Sizes) (s : Spot) (m : MyTree) (cursor : Cursor) (m' : MyTree) whe
 
   -- The word tells the level of a base.
   pub level_told : (at : IsAtBase z s m cursor m') (word : ℕ) → ((w : ℕ) → IsFirstWord w → word ≡ w)
-      → at.note.place.level ≡ word / 65536 % 65536
+      → at.note.place.level ≡ word / count_limit % count_limit
   level_told at word is = sym at.is_base.level_is
-      ∙ ap (λ (k : ℕ). k / 65536 % 65536) (sym (is (get_or at.note.its 0 0) (base_word at)))
+      ∙ ap (λ (k : ℕ). k / count_limit % count_limit) (sym (is (get_or at.note.its 0 0) (base_word at)))
 
   -- The walk ends at a base.
   pub ends : (level : ℕ) (at : IsAtBase z s m cursor m') → at.note.place.level ≡ level

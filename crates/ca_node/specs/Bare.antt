@@ -5,7 +5,7 @@ use Rattle.std.proofs.Math.ListN.{get_or-eq_default}
 use Rattle.std.specs.Int.{to_be_bytes, w64}
 use mathlib.Core.Option.{some-ne-none}
 use Rattle.ca_node.specs.Row.{bytes_in, head_in, item_words, prefix_words, IsHeaded}
-use Rattle.ca_node.specs.Layout.{prefix_word, items_word}
+use Rattle.ca_node.specs.Layout.{prefix_word, items_word, count_limit}
 
 eight_zeros : (xs : List ℕ) → ((i : ℕ) → get_or xs i 0 ≡ 0) → (i : ℕ) → get_or (to_be_bytes w64 0 ++ xs) i 0 ≡ 0
 eight_zeros xs are zero = refl
@@ -39,7 +39,7 @@ module _ (its : List ℕ) (first : get_or its 0 0 ≡ 144115188075855872) (seven
       get_or-eq_default (prefix_words its) 0 (omega (arith, length-take 4 (drop prefix_word its)))
 
   no_words : item_words its ≡ []
-  no_words = ap (λ n. take (n % 65536) (drop items_word its)) first
+  no_words = ap (λ n. take (n % count_limit) (drop items_word its)) first
 
   pub bare_headed : IsHeaded its []
   bare_headed = record {

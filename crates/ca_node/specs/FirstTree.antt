@@ -23,7 +23,7 @@ use Rattle.ca_node.specs.Stays.{word_at}
 use Rattle.ca_node.specs.Tree.{Knows, IsTree}
 use Rattle.ca_node.specs.TreeView.{TreeView, first_inventory, blank}
 use Rattle.ca_rows.specs.Layout.{row_words}
-use Rattle.ca_node.specs.Layout.{items_word, form_unit, root_word, sequence_unit}
+use Rattle.ca_node.specs.Layout.{items_word, form_unit, root_word, sequence_unit, count_limit, marked_by_range}
 use Rattle.ca_node.specs.Laws.{in_nothing, in_one, no_blank_notes, no_ranging, knows_nothing}
 
 -- The words at the start.
@@ -37,7 +37,7 @@ module _ (z : Sizes) (words : List ℕ) (bounds : AreInBounds z) (usable : AreUs
   first_word = word_at words 1 0 (omega arith) ∙ above row_words (omega arith) (omega arith)
 
   no_words : item_words (row_at words 1) ≡ []
-  no_words = ap (λ n. take (n % 65536) (drop items_word (row_at words 1))) first_word
+  no_words = ap (λ n. take (n % count_limit) (drop items_word (row_at words 1))) first_word
 
   no_items : items (row_at words 1) ≡ []
   no_items = ap (map row_in) no_words
@@ -65,8 +65,8 @@ module _ (z : Sizes) (words : List ℕ) (bounds : AreInBounds z) (usable : AreUs
     is_link = inl refl;
     deep = omega arith;
     is_base = ap (λ n. n / form_unit) first_word;
-    level_is = ap (λ n. n / 65536 % 65536) first_word;
-    few = let e = ap (λ n. n % 65536) first_word in omega arith;
+    level_is = ap (λ n. n / count_limit % count_limit) first_word;
+    few = let e = ap (λ n. n % count_limit) first_word in omega arith;
     marked = inl unmarked;
     bounded = λ border x. let one = x.0 in let none = unmarked in absurd (omega arith);
     are_objects = λ r i. absurd (in_nothing r (items (row_at words 1)) no_items i);
@@ -103,7 +103,7 @@ module _ (z : Sizes) (words : List ℕ) (bounds : AreInBounds z) (usable : AreUs
 
   base_unmarked : (row pass number : ℕ) → IsBase role_of row → ¬ IsMarkedBy (row_at words row) pass number
   base_unmarked row pass number base marked = let same = base_one row base.0 base.1 in
-      let one : mark (row_at words 1) ≡ 1 = ap (λ r. mark (row_at words r)) (sym same) ∙ marked.0 in let none = unmarked in omega arith
+      let one : mark (row_at words 1) ≡ marked_by_range = ap (λ r. mark (row_at words r)) (sym same) ∙ marked.0 in let none = unmarked in omega arith
 
   ranged_there : AreRanged z 0 words role_of (blank 0 ∷ []) []
   ranged_there = record {

@@ -13,6 +13,27 @@ sequence_unit = 67108864
 abbrev pub form_unit : ℕ
 form_unit = 72057594037927936
 
+-- A count stands in the first word of a row below this; a level, the place of an object's key, or which end a range has, stands there in units of this.
+abbrev pub count_limit : ℕ
+count_limit = 65536
+
+-- the ends of ranges: to no end, up to the key, and up to right below it
+abbrev pub to_no_end : ℕ
+to_no_end = 0
+
+abbrev pub to_key : ℕ
+to_key = 1
+
+abbrev pub below_key : ℕ
+below_key = 2
+
+-- the mark of a base by a range, and that by a join
+abbrev pub marked_by_range : ℕ
+marked_by_range = 1
+
+abbrev pub marked_by_join : ℕ
+marked_by_join = 2
+
 -- the form of an object row, that of a base row, and that of a row which says up to where a range goes
 abbrev pub object_form : ℕ
 object_form = 1

@@ -5,7 +5,7 @@ use lib.ListN.{get_elem?}
 use Rattle.ca_node.specs.Row.{row_at, IsBaseRow, IsRouteRow, items, mark, mark_owner, mark_number, mark_back, mark_bound}
 use Rattle.ca_node.specs.TreeView.{Note, Way, Border, Begun, Ranging, Marking, TreeView}
 use Rattle.ca_rows.specs.Layout.{row_words, row_limit}
-use Rattle.ca_node.specs.Layout.{root_word, sequence_unit}
+use Rattle.ca_node.specs.Layout.{root_word, sequence_unit, marked_by_range}
 use Rattle.ca_rows.specs.Words.{result_of}
 
 -- the row that the root link names
@@ -39,7 +39,7 @@ IsDecided words pass number last = (0 < pass) × (pass ≤ 64) × (0 < last) × 
 
 -- An active range marked the base, and ends where this row says.
 abbrev pub IsBoundOf : List ℕ → ℕ → ℕ → Type 0
-IsBoundOf words base row = (mark (row_at words base) ≡ 1) × IsActive words (mark_owner (row_at words base)) (mark_number (row_at words base))
+IsBoundOf words base row = (mark (row_at words base) ≡ marked_by_range) × IsActive words (mark_owner (row_at words base)) (mark_number (row_at words base))
     × (mark_bound (row_at words base) ≡ row)
 
 -- The root link reaches the row: a route leads to what its links name, a base to the object rows that it names, and while the range is

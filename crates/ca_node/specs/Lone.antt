@@ -10,6 +10,7 @@ use Rattle.ca_node.specs.Place.{HasKey, Place}
 use Rattle.ca_node.specs.Row.{IsMarkedBy, mark, mark_back, mark_bound, mark_number, mark_owner, route_key}
 use Rattle.ca_node.specs.Shape.{Role, Route}
 use Rattle.ca_node.specs.TreeView.{Note, Way, Border, Begun, Attempt, Ranging, Marking, Joining, Secured, TreeView}
+use Rattle.ca_node.specs.Layout.{marked_by_range}
 
 -- an attempt of a route by its number
 abbrev pub attempt_of : ℕ → ℕ → Attempt
@@ -46,7 +47,7 @@ AreLone made words role uppers = (j : ℕ) (u : TreeView) → get_elem? uppers j
 -- a base that was shown to it before has the range's mark, and ends at this key: if the new one has the key, and the mark, then it was marked behind that one,
 -- which it names, and it names the same row that says up to where the range goes.
 pub record IsBehindOwn (u : TreeView) (note : Note) : Type 0 where
-  pub latest : (begun : Begun) (border : Border) → u.ranges.own ≡ Marking begun border → mark note.its ≡ 1 → mark_owner note.its ≡ u.number
+  pub latest : (begun : Begun) (border : Border) → u.ranges.own ≡ Marking begun border → mark note.its ≡ marked_by_range → mark_owner note.its ≡ u.number
       → mark_number note.its ≤ begun.number
   pub next : (begun : Begun) (border : Border) (left : Note) (key : List ℕ) → u.ranges.own ≡ Marking begun border → IsIn left u.notes
       → IsMarkedBy left.its u.number begun.number → left.place.span.high ≡ Excluded key → HasKey note.place.span key

@@ -5,16 +5,16 @@ use Rattle.ca_rows.specs.declared.sizes.Sizes.{Sizes}
 use Rattle.ca_node.specs.Place.{Place, IsLinkOf}
 use Rattle.ca_node.specs.Row.{row_at, IsBaseRow, IsBorderRow, count, mark, mark_owner, mark_number, IsMarkedFor, IsUnmarked}
 use Rattle.ca_rows.specs.Layout.{row_words}
-use Rattle.ca_node.specs.Layout.{sequence_unit}
+use Rattle.ca_node.specs.Layout.{sequence_unit, marked_by_range, marked_by_join}
 use Rattle.ca_rows.specs.Words.{result_of}
 
 -- The mark is that of a range of a pass.
 abbrev pub IsOfRange : List ℕ → Type 0
-IsOfRange its = (mark its ≡ 1) × (0 < mark_owner its) × (mark_owner its ≤ 64)
+IsOfRange its = (mark its ≡ marked_by_range) × (0 < mark_owner its) × (mark_owner its ≤ 64)
 
 -- The mark is that of a join of the route on whose link the base hangs.
 abbrev pub IsOfJoin : Place → List ℕ → Type 0
-IsOfJoin place its = (mark its ≡ 2) × IsLinkOf (mark_owner its) place.link
+IsOfJoin place its = (mark its ≡ marked_by_join) × IsLinkOf (mark_owner its) place.link
 
 -- A base at this place has no mark, or that of a range, or that of a join.
 abbrev pub IsMark : Place → List ℕ → Type 0

@@ -8,7 +8,7 @@ use Rattle.ca_model.specs.StoreMap.{StoreMap}
 use Rattle.ca_rows.specs.Words.{result_of}
 use Rattle.ca_rows.specs.declared.sizes.Sizes.{Sizes}
 use Rattle.ca_runs.specs.Runs.{BeginsBefore, Ends, AreRuns}
-use Rattle.ca_node.specs.Layout.{sequence_unit}
+use Rattle.ca_node.specs.Layout.{sequence_unit, to_no_end, to_key}
 use Rattle.ca_node.specs.Links.{IsIn, IsActive, HasBegun, IsDecided}
 use Rattle.ca_node.specs.Notes.{IsBaseNote}
 use Rattle.ca_node.specs.Row.{row_at, IsBorderRow, IsMarkedBy, mark_back, edge_form, route_key, pair}
@@ -30,7 +30,7 @@ pub record IsTrueBorder (rows : ℕ) (words : List ℕ) (border : Border) : Type
 
 -- up to where the range goes, by the row that says so
 abbrev pub top_of : List ℕ → Bound
-top_of its = cond (edge_form its == 0) Unbounded (cond (edge_form its == 1) (Included (route_key its)) (Excluded (route_key its)))
+top_of its = cond (edge_form its == to_no_end) Unbounded (cond (edge_form its == to_key) (Included (route_key its)) (Excluded (route_key its)))
 
 -- What goes up to this bound has all keys up to there.
 abbrev pub Reaches : List ℕ → Bound → Type 0

@@ -6,7 +6,7 @@ use Prim.Native.Nat.{zero, suc}
 use Rattle.std.specs.Int.{to_be_bytes, w64}
 use Rattle.ca_model.specs.StoreMap.{Pair, StoreMap}
 use Rattle.ca_rows.specs.Layout.{row_words, row_limit}
-use Rattle.ca_node.specs.Layout.{code_word, key_word, prefix_word, items_word, form_unit}
+use Rattle.ca_node.specs.Layout.{code_word, key_word, prefix_word, items_word, form_unit, count_limit, marked_by_range, marked_by_join}
 
 -- the 136 words of a row
 abbrev pub row_at : List ℕ → ℕ → List ℕ
@@ -28,11 +28,11 @@ IsBorderRow its = form its ≡ 4
 
 -- the number in the last two bytes of the first word: of a base the number of its items, of the other forms a length
 abbrev pub count : List ℕ → ℕ
-count its = slice_index its 0 % 65536
+count its = slice_index its 0 % count_limit
 
 -- of a base or a route: the level that it stands at
 abbrev pub level : List ℕ → ℕ
-level its = slice_index its 0 / 65536 % 65536
+level its = slice_index its 0 / count_limit % count_limit
 
 -- of a base: a word for each object that it names, in the order of their keys
 abbrev pub item_words : List ℕ → List ℕ
@@ -71,11 +71,11 @@ mark_bound its = slice_index its 6
 
 -- This range of a pass marked the base.
 abbrev pub IsMarkedBy : List ℕ → ℕ → ℕ → Type 0
-IsMarkedBy its pass number = (mark its ≡ 1) × (mark_owner its ≡ pass) × (mark_number its ≡ number)
+IsMarkedBy its pass number = (mark its ≡ marked_by_range) × (mark_owner its ≡ pass) × (mark_number its ≡ number)
 
 -- This attempt to join the bases under a route marked the base.
 abbrev pub IsMarkedFor : List ℕ → ℕ → ℕ → Type 0
-IsMarkedFor its route attempt = (mark its ≡ 2) × (mark_owner its ≡ route) × (mark_number its ≡ attempt)
+IsMarkedFor its route attempt = (mark its ≡ marked_by_join) × (mark_owner its ≡ route) × (mark_number its ≡ attempt)
 
 -- No operation marked the base.
 abbrev pub IsUnmarked : List ℕ → Type 0
@@ -114,10 +114,10 @@ route_key its = take (count its) (bytes_in (drop key_word its))
 
 -- of a row that says up to where a range goes: how its key bounds it, 0 not at all, 1 it is the last one, 2 it is left out
 abbrev pub edge_form : List ℕ → ℕ
-edge_form its = slice_index its 0 / 65536 % 1099511627776
+edge_form its = slice_index its 0 / count_limit % 1099511627776
 
 abbrev pub key_place : List ℕ → ℕ
-key_place its = slice_index its 0 / 65536 % 65536
+key_place its = slice_index its 0 / count_limit % count_limit
 
 abbrev pub key_length : List ℕ → ℕ
 key_length its = slice_index its 0 / 4294967296 % 16777216

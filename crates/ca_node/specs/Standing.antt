@@ -16,7 +16,7 @@ use Rattle.ca_node.specs.Shape.{Role, Out, Base, Route, place_of, IsLink, LeadsT
 use Rattle.ca_node.specs.Stays.{IsSameRow, word_at, row_long, row_same, map_same}
 use Rattle.ca_node.specs.Reached.{linked_range, placed_linked, item_linked}
 use Rattle.ca_rows.specs.Layout.{row_words}
-use Rattle.ca_node.specs.Layout.{key_word, form_unit, root_word, sequence_unit}
+use Rattle.ca_node.specs.Layout.{key_word, form_unit, root_word, sequence_unit, count_limit, marked_by_range}
 
 -- The row has the same words in both tables, but for those of a route's links, and its join word.
 abbrev pub IsSameButLinks : List ℕ → List ℕ → ℕ → Type 0
@@ -44,7 +44,7 @@ module _ (words others : List ℕ) (rows row : ℕ) (wide : IsWide rows words) (
 
   -- So it has the same key, if it is a route.
   pub key_same : route_key (row_at others row) ≡ route_key (row_at words row)
-  key_same = ap (λ n. take (n % 65536) (bytes_in (drop key_word (row_at others row)))) first_same
+  key_same = ap (λ n. take (n % count_limit) (bytes_in (drop key_word (row_at others row)))) first_same
       ∙ ap (λ xs. take (count (row_at words row)) (bytes_in xs)) rest_same
 
   -- It has the same form.
@@ -53,11 +53,11 @@ module _ (words others : List ℕ) (rows row : ℕ) (wide : IsWide rows words) (
 
   -- It has the same count.
   pub count_same : count (row_at others row) ≡ count (row_at words row)
-  count_same = ap (λ n. n % 65536) first_same
+  count_same = ap (λ n. n % count_limit) first_same
 
   -- It stands at the same level.
   pub level_same : level (row_at others row) ≡ level (row_at words row)
-  level_same = ap (λ n. n / 65536 % 65536) first_same
+  level_same = ap (λ n. n / count_limit % count_limit) first_same
 
 -- What a base has, if it has its words, and each object row that it names has.
 pub objects_same : (words others : List ℕ) (base : ℕ) → row_at others base ≡ row_at words base
@@ -117,7 +117,7 @@ pub bounded_stays : (rows : ℕ) (words others : List ℕ) (base : ℕ) → row_
     → ((border : ℕ) → IsBoundOf words base border → IsBorder rows words (mark_owner (row_at words base)) border)
     → (border : ℕ) → IsBoundOf others base border → IsBorder rows others (mark_owner (row_at others base)) border
 bounded_stays rows words others base e active same was border b =
-    let c = subst (λ its. (mark its ≡ 1) × IsActive others (mark_owner its) (mark_number its) × (mark_bound its ≡ border)) e b in
+    let c = subst (λ its. (mark its ≡ marked_by_range) × IsActive others (mark_owner its) (mark_number its) × (mark_bound its ≡ border)) e b in
     let before : IsBoundOf words base border = (c.0, active (mark_owner (row_at words base)) (mark_number (row_at words base)) (c.0, refl, refl) c.1, c.2) in
     let w = was border before in record {
       some_row = w.some_row;

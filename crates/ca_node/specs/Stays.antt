@@ -5,6 +5,7 @@ use Rattle.std.proofs.lemmas.Grind.{same_number_lists}
 use Rattle.ca_rows.specs.Words.{IsWide}
 use Rattle.ca_node.specs.Links.{root, IsIn, IsUnder, IsActive, IsBoundOf, IsLinked, by_root, by_route, by_base, by_range, IsLent}
 use Rattle.ca_node.specs.Row.{row_at, IsBaseRow, IsRouteRow, items, mark, mark_owner, mark_number, mark_bound}
+use Rattle.ca_node.specs.Layout.{marked_by_range}
 use Rattle.ca_rows.specs.Layout.{row_words}
 
 -- The row has the same words in both tables.
@@ -43,7 +44,7 @@ module _ (rows : ℕ) (words others : List ℕ) (wide : IsWide rows words) (wide
   under_back route row s u = ⊎_elim (λ e. inl (sym (s 1 (omega arith)) ∙ e)) (λ e. inr (sym (s 2 (omega arith)) ∙ e)) u
 
   abbrev Bounds : List ℕ → (ℕ → ℕ → Type 0) → ℕ → Type 0
-  Bounds its on row = (mark its ≡ 1) × on (mark_owner its) (mark_number its) × (mark_bound its ≡ row)
+  Bounds its on row = (mark its ≡ marked_by_range) × on (mark_owner its) (mark_number its) × (mark_bound its ≡ row)
 
   bound_on : (base row : ℕ) → IsLinked words base → IsBoundOf words base row → IsBoundOf others base row
   bound_on base row l b = subst (λ its. Bounds its (IsActive others) row) (sym (its_same base l)) (b.0, (active _ _).1 b.1, b.2)

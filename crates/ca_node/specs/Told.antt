@@ -1,5 +1,5 @@
 -- What each step of the tree tells.
-use Rattle.std.specs.Prelude.{◌≡◌, ◌≢◌, ◌==◌, ◌⊎◌, None, Bool, true, false, ℕ, ◌+◌, ◌-◌, ◌*◌, ◌/◌, ◌%◌, ◌<◌, ◌≤◌, max, List, [], ◌∷◌, ◌++◌, length, map, take, drop, nat_lt, cond, slice_index, slice_index_or}
+use Rattle.std.specs.Prelude.{◌≡◌, ◌≢◌, ◌==◌, ◌⊎◌, None, Bool, true, false, ℕ, ◌+◌, ◌-◌, ◌*◌, ◌/◌, ◌%◌, ◌<◌, ◌≤◌, max, List, [], ◌∷◌, ◌++◌, length, map, take, drop, nat_lt, cond, slice_index, slice_index_or, Option, Some}
 use mathlib.Core.Option.{some, none}
 use lib.ListN.{get_elem?}
 use Rattle.atomic_table.specs.Table.{Step}
@@ -30,7 +30,7 @@ use Rattle.ca_node.specs.States.{HasState, IsAlone, IsReadAt}
 use Rattle.ca_node.specs.Tree.{ArePast, IsFixed}
 use Rattle.ca_node.specs.TreeView.{Note, Way, Over, Attempt, Finished, Quiet, Unfinished, Border, Turns, Renewal, Division, Inventory, TreeView, blank, no_note, one_passed}
 use Rattle.ca_rows.specs.Layout.{row_words, pass_words, row_limit}
-use Rattle.ca_node.specs.Layout.{root_word, sequence_unit}
+use Rattle.ca_node.specs.Layout.{root_word, sequence_unit, marked_by_range, marked_by_join}
 
 abbrev pub MyTree : Type 0
 MyTree = Mine TreeView
@@ -176,6 +176,10 @@ abbrev pub status_of : ℕ → RangeState
 status_of word = cond (word % sequence_unit == row_limit) (Active (word / sequence_unit))
     (cond (word / row_limit % 4 == 2) (Decided (word / sequence_unit) (word % row_limit)) (Idle (word / sequence_unit)))
 
+-- the number of the range of the pass that is active by that word, if one is
+abbrev pub active_of : ℕ → Option ℕ
+active_of word = cond (word % sequence_unit == row_limit) (Some (word / sequence_unit)) None
+
 -- The ranges of the pass that are over, by that word: all that were begun, but for the last one while it is active.
 abbrev pub over_by : ℕ → ℕ → Over
 over_by pass word = record { pass = pass; below = cond (word % sequence_unit == row_limit) (word / sequence_unit) (word / sequence_unit + 1) }
@@ -217,7 +221,8 @@ watched u pass word borders = record u {
 pub record HasWatched (pass : ℕ) (m : MyTree) (n : ℕ) (m' : MyTree) : Type 0 where
   pub borders : List Border
   pub now : m' ≡ with_upper m (watched m.0.upper pass n borders)
-  pub begun : (note : Note) → IsIn note m.0.upper.notes → mark note.its ≡ 1 → mark_owner note.its ≡ pass → mark_number note.its ≤ n / sequence_unit
+  pub begun : (note : Note) → IsIn note m.0.upper.notes → mark note.its ≡ marked_by_range → mark_owner note.its ≡ pass
+      → mark_number note.its ≤ n / sequence_unit
   pub ended : (x : Over) → IsIn x m.0.upper.ranges.over → x.pass ≡ pass → n % sequence_unit ≡ row_limit → x.below ≤ n / sequence_unit
   pub shown : (note : Note) → IsIn note m.0.upper.notes → n % sequence_unit ≡ row_limit → IsMarkedBy note.its pass (n / sequence_unit)
       → (border : Border) × IsIn border borders × (border.row ≡ mark_bound note.its) × (border.row ≤ m.0.sizes.rows) × IsBorderRow border.its
@@ -299,11 +304,11 @@ IsNotFrom x i row = IsIn row (items x.its) → IsIn row x.comes ⊎ ((j : ℕ) �
 
 -- No range has the base, or the seat knows that the one is over that marked it.
 abbrev pub IsUnranged : TreeView → List ℕ → Type 0
-IsUnranged u its = (mark its ≢ 1) ⊎ ((x : Over) × IsIn x u.ranges.over × (mark_owner its ≡ x.pass) × (mark_number its < x.below))
+IsUnranged u its = (mark its ≢ marked_by_range) ⊎ ((x : Over) × IsIn x u.ranges.over × (mark_owner its ≡ x.pass) × (mark_number its < x.below))
 
 -- No join has the base, or the seat knows that the attempt is finished that marked it.
 abbrev pub IsUnjoined : TreeView → List ℕ → Type 0
-IsUnjoined u its = (mark its ≢ 2) ⊎ ((x : Finished) × IsIn x u.ranges.joins.finished × (mark_owner its ≡ x.route) × (mark_number its < x.below))
+IsUnjoined u its = (mark its ≢ marked_by_join) ⊎ ((x : Finished) × IsIn x u.ranges.joins.finished × (mark_owner its ≡ x.route) × (mark_number its < x.below))
 
 -- Neither a range has the base nor a join, as the seat knows.
 abbrev pub IsSettled : TreeView → List ℕ → Type 0

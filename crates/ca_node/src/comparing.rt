@@ -7,7 +7,7 @@ ghost use Rattle.ca_node.specs.Walking.{AreAlikeUpTo, BeginsWith, IsRouteShown};
 ghost use Rattle.ca_rows.specs.Passes.{OnlyReads, IsReading, sizes};
 ghost use Rattle.ca_node.specs.TreePasses.{tree_of};
 
-use crate::layout::KEY;
+use crate::layout::{COUNT_LIMIT, KEY};
 use crate::rule::{TreePass, TreeSpace};
 use crate::steps::load_word;
 use std::cmp::Ordering;
@@ -29,7 +29,7 @@ pub(crate) fn compare(
     ensures frame { OnlyReads pass.old pass.new }
     ensures order { (its : List ℕ) → IsRouteShown (tree_of pass.old) route its → result ≡ bytes_cmp (route_key its) key.now }
 {
-    let len = (load_word(space, pass, route, 0) % 65_536) as usize;
+    let len = (load_word(space, pass, route, 0) % COUNT_LIMIT) as usize;
     let stop = len.min(key.len());
     if stop == 0 {
         return len.cmp(&key.len());
@@ -92,7 +92,7 @@ pub fn top_of(bytes: &[u8]) -> u64
     u64::from_be_bytes(eight)
 }
 
-/// How the first bytes of two words stand, at least one of each.
+/// How the first bytes of two words stand, so many of each, from 1 to 8; a word's highest byte is its first one.
 pub fn compare_tops(word: u64, other: u64, count: usize) -> Ordering
     requires { (0 < count) × (count ≤ 8) }
     ensures { result ≡ bytes_cmp (take count (to_be_bytes w64 word)) (take count (to_be_bytes w64 other)) }

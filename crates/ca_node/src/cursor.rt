@@ -8,7 +8,7 @@ ghost use Rattle.ca_rows.specs.Passes.{OnlyReads, IsReading, KeepsList, sizes, k
 ghost use Rattle.ca_node.specs.TreePasses.{tree_of};
 
 use crate::comparing::{compare, top_of};
-use crate::layout::{FORM, ROUTE};
+use crate::layout::{COUNT_LIMIT, FORM, ROUTE};
 use crate::link::Link;
 use crate::rule::{TreePass, TreeSpace};
 use crate::steps::{descend, load_word};
@@ -29,13 +29,16 @@ pub enum Spot<'a> {
 /// A base, and where it hangs.
 #[derive(Clone, Copy)]
 pub struct Cursor {
+    /// The base's row.
     pub base: u32,
     /// The link that held the base.
     pub link: Link,
-    /// The link that held the base's parent.
+    /// The link that held the base's parent, if it has one.
     pub above: Option<Link>,
+    /// The level that the base stands at.
     pub level: u16,
-    /// The routes whose keys bound the base's interval.
+    /// The rows of the routes whose keys bound the base's interval: it goes from the key of `low` on, and up to right below that of `high`. There is none where
+    /// it begins with the first key, or goes to the last one.
     pub low: Option<u32>,
     pub high: Option<u32>,
 }
@@ -75,7 +78,7 @@ pub fn walk_from(space: &TreeSpace, pass: &mut TreePass, from: Cursor, spot: Spo
     loop {
         let word = load_word(space, pass, cursor.base, 0);
         if word / FORM != ROUTE / FORM {
-            let level = (word / 65_536 % 65_536) as u16;
+            let level = (word / COUNT_LIMIT % COUNT_LIMIT) as u16;
             return Cursor { level, ..cursor };
         }
         cursor = go_down(space, pass, cursor, spot, front);

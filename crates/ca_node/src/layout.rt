@@ -25,6 +25,26 @@ pub const ROUTE: u64 = 3 << 56;
 /// A row that says up to where a range goes.
 pub const BORDER: u64 = 4 << 56;
 
+/// A count stands in the first word of a row below this: that of a base's items, or that of the bytes of an object, of a route's key, or of the key of a row
+/// that says up to where a range goes. In units of this stands the level of a base or of a route, or where an object's key begins, also below this; or, of a
+/// row that says up to where a range goes, which end that is.
+pub const COUNT_LIMIT: u64 = 1 << 16;
+
+/// The end of a range: it goes to no end.
+pub const TO_NO_END: u64 = 0;
+
+/// It goes up to its key.
+pub const TO_KEY: u64 = 1;
+
+/// It goes up to right below its key.
+pub const BELOW_KEY: u64 = 2;
+
+/// The mark of a base by a range, which stands in its third word, where one without a mark has 0.
+pub const MARKED_BY_RANGE: u64 = 1;
+
+/// The mark of a base by a join.
+pub const MARKED_BY_JOIN: u64 = 2;
+
 /// The form of an object row, that of a base row, and that of a row which says up to where a range goes, as numbers: so it is noted of a row that is kept
 /// what it was.
 pub const OBJECT_FORM: u32 = (OBJECT / FORM) as u32;

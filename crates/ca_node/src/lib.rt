@@ -32,8 +32,9 @@ pub use handing::{front, learn};
 pub use join_state::JoinState;
 pub use joins::{abort_join, begin_join, leave_join, load_join, secure_join};
 pub use layout::{
-    BASE, BASE_FORM, BORDER, BORDER_FORM, CODE, FORM, ITEMS, JOIN, KEY, OBJECT, OBJECT_FORM,
-    PREFIX, PREFIX_LENGTH, ROOT, ROUTE,
+    BASE, BASE_FORM, BELOW_KEY, BORDER, BORDER_FORM, CODE, COUNT_LIMIT, FORM, ITEMS, JOIN, KEY,
+    MARKED_BY_JOIN, MARKED_BY_RANGE, OBJECT, OBJECT_FORM, PREFIX, PREFIX_LENGTH, ROOT, ROUTE,
+    TO_KEY, TO_NO_END,
 };
 pub use link::Link;
 pub use marking::{mark_first, mark_for_join, mark_next};
@@ -41,7 +42,7 @@ pub use own_ranges::{abort_own, decide_own, leave_range, load_own_status, open_r
 pub use passing::pass_on;
 pub use plays::{Finishing, Intent, Marking, Owning, Plan, Unlinks};
 pub use range_state::RangeState;
-pub use ranges::{decide_for, load_status};
+pub use ranges::{decide_for, is_active, load_status};
 pub use rule::{TreePass, TreeRule, TreeSpace};
 pub use steps::{load_link, load_word, replace_link};
 pub use tallying::adapted;

@@ -1,7 +1,8 @@
 //! Single steps on the words of ranges.
-ghost use Rattle.std.specs.Prelude.{◌≡◌, ℕ, ◌+◌, ◌<◌, ◌≤◌};
-ghost use Rattle.ca_node.specs.Told.{HasWatched, status_of, status_word};
+ghost use Rattle.std.specs.Prelude.{◌≡◌, ◌↔◌, ℕ, ◌+◌, ◌/◌, ◌%◌, ◌<◌, ◌≤◌, IsTrue, Some};
+ghost use Rattle.ca_node.specs.Told.{HasWatched, active_of, status_of, status_word};
 ghost use Rattle.ca_node.specs.Endings.{IsHelping, HasHelped};
+ghost use Rattle.ca_node.specs.Layout.{sequence_unit};
 ghost use Rattle.ca_node.specs.Row.{mark_bound};
 ghost use Rattle.ca_rows.specs.Layout.{last_sequence, row_limit};
 ghost use Rattle.ca_rows.specs.Passes.{IsOn, IsReading, KeepsList, sizes, known};
@@ -46,6 +47,18 @@ pub fn decide_for<K: Finishing>(
     let active = SEQUENCE * number + ROW_LIMIT;
     let decided = active + ROW_LIMIT + last as u64;
     space.swap::<Help<K>>(pass, word, active, decided)
+}
+
+/// Whether the range of a pass with this number is active, where the pass's last range is so far.
+pub fn is_active(state: RangeState, number: u64) -> bool
+    ensures words { (word : ℕ) → state ≡ status_of word → (IsTrue result ↔ ((word % sequence_unit ≡ row_limit) × (word / sequence_unit ≡ number))) }
+    ensures active { (word : ℕ) → state ≡ status_of word → (IsTrue result ↔ (active_of word ≡ Some number)) }
+{
+    match state {
+        RangeState::Idle(_) => false,
+        RangeState::Active(active) => active == number,
+        RangeState::Decided(_, _) => false,
+    }
 }
 
 // The word that says how far the last range of this pass is.

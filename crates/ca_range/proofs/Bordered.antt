@@ -1,7 +1,7 @@
 -- What the words of a row say up to where a range goes, once it was filled.
 use Rattle.std.proofs.Common.{◌≡◌, ℕ, ◌+◌, ◌*◌, ◌/◌, ◌≤◌, List, [], ◌∷◌, cond, eqb, length, get_or, ap, ◌∙◌, arith}
 use Rattle.ca_model.specs.Edges.{Bound, Unbounded, Included, Excluded}
-use Rattle.ca_node.specs.Layout.{key_word}
+use Rattle.ca_node.specs.Layout.{key_word, count_limit}
 use Rattle.ca_node.specs.Row.{count}
 use Rattle.ca_node.specs.Told.{MyTree}
 use Rattle.ca_base.specs.Writing.{IsHeld, HasEight, IsFilled, HasFilled, HasWritten}
@@ -12,7 +12,7 @@ use Rattle.ca_range.specs.Edged.{SpellsBorder, SpellsKeyed}
 
 -- The first word, the pass's number, and the key's bytes.
 spells_keyed : (bytes : List ℕ) (owner form word : ℕ) (its one new : List ℕ) → length its ≡ row_words → form ≤ 2
-    → word ≡ 288230376151711744 + form * 65536 + length bytes → length bytes ≤ 1000
+    → word ≡ 288230376151711744 + form * count_limit + length bytes → length bytes ≤ 1000
     → IsFilled 0 2 (λ k w. w ≡ get_or (word ∷ owner ∷ []) k 0) its one
     → IsFilled key_word ((length bytes + 7) / 8) (HasEight bytes) one new
     → SpellsKeyed owner form bytes new
@@ -33,7 +33,7 @@ spells_keyed bytes owner form word its one new long low is short f g = record {
 
 -- A row that was filled with such words is one.
 pub keyed_written : (row owner form word : ℕ) (bytes : List ℕ) (k m n : MyTree) → IsHeld k row → form ≤ 2
-    → word ≡ 288230376151711744 + form * 65536 + length bytes → length bytes ≤ 1000
+    → word ≡ 288230376151711744 + form * count_limit + length bytes → length bytes ≤ 1000
     → HasFilled row 0 2 (λ i w. w ≡ get_or (word ∷ owner ∷ []) i 0) k m
     → HasFilled row key_word ((length bytes + 7) / 8) (HasEight bytes) m n
     → HasWritten row (SpellsKeyed owner form bytes) k n

@@ -10,7 +10,7 @@ use Rattle.ca_node.specs.Layout.{sequence_unit}
 use Rattle.ca_node.specs.Links.{IsIn}
 use Rattle.ca_node.specs.Row.{mark as mark_kind, IsMarkedBy}
 use Rattle.ca_node.specs.States.{IsAlone}
-use Rattle.ca_node.specs.Told.{MyTree, with_upper, IsKnown, IsSettled, IsUnjoined, HasWatched, finished_by, turned_by, unfinished_by, watched}
+use Rattle.ca_node.specs.Told.{MyTree, with_upper, IsKnown, IsSettled, IsUnjoined, HasWatched, finished_by, turned_by, unfinished_by, watched, active_of}
 use Rattle.ca_node.specs.TreeView.{Note, KnownRanges, Quiet, Turns, TreeView, Unfinished}
 use Rattle.ca_rows.specs.Layout.{row_limit}
 use Rattle.ca_rows.specs.Passes.{KeepsList, OnlyReads}
@@ -18,7 +18,6 @@ use Rattle.ca_rows.specs.declared.sizes.Sizes.{Sizes}
 use Rattle.ca_rows.specs.declared.space.Pass.{Pass}
 use Rattle.ca_range.specs.Clearing.{CountsHelp, HasGone, LearnsOfRanges, none_spent}
 use Rattle.ca_range.specs.Filling.{IsHelpedTo, IsOneOver}
-use Rattle.ca_range.specs.Meeting.{active_of}
 use Rattle.ca_base.specs.Spending.{IsSpentOn}
 use Rattle.ca_range.specs.Staying.{HasJoined, OnlySteps}
 use Rattle.ca_range.specs.declared.account.Range.{Range}

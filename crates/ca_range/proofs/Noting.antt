@@ -5,9 +5,9 @@ use native.Mathlib.Decide.{ℕ_discrete}
 use Rattle.ca_rows.specs.Layout.{row_limit}
 use Rattle.ca_node.specs.Endings.{HasHelped}
 use Rattle.ca_node.specs.Layout.{sequence_unit}
-use Rattle.ca_node.specs.Told.{MyTree, HasWatched, but_of, finished_by, unfinished_by}
+use Rattle.ca_node.specs.Told.{MyTree, HasWatched, but_of, finished_by, unfinished_by, active_of}
 use Rattle.ca_node.specs.TreeView.{Unfinished}
-use Rattle.ca_range.specs.Meeting.{active_of, finished_of, AreMet}
+use Rattle.ca_range.specs.Meeting.{finished_of, AreMet}
 
 -- Nothing more is as many.
 no_more : (k : ℕ) → 0 + k ≡ k

@@ -13,7 +13,7 @@ use Rattle.ca_node.specs.Endings.{HasHelped, helped, too_late}
 use Rattle.ca_node.specs.Laws.{in_nothing}
 use Rattle.ca_node.specs.Layout.{sequence_unit}
 use Rattle.ca_node.specs.Links.{IsIn}
-use Rattle.ca_node.specs.Told.{MyTree, HasWatched, IsKnown, but_of, finished_by, met_by, one_more_lost, turned_by, unfinished_by, watched}
+use Rattle.ca_node.specs.Told.{MyTree, HasWatched, IsKnown, but_of, finished_by, met_by, one_more_lost, turned_by, unfinished_by, watched, active_of}
 use Rattle.ca_node.specs.Tree.{ArePast}
 use Rattle.ca_node.specs.TreeView.{Border, Over, Turns, Unfinished, TreeView}
 use Rattle.ca_node.specs.Walking.{IsWalked}
@@ -24,7 +24,6 @@ use Rattle.ca_rows.specs.Layout.{row_limit}
 use Rattle.ca_rows.specs.declared.sizes.Sizes.{Sizes}
 use Rattle.ca_range.specs.Ahead.{IsKnownOver}
 use Rattle.ca_range.specs.Filling.{links_of}
-use Rattle.ca_range.specs.Meeting.{active_of}
 use Rattle.ca_range.specs.Staying.{IsCounted, OnlySteps, with_steps_of}
 use Rattle.ca_range.specs.declared.account.Range.{Range}
 

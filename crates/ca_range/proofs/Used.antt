@@ -3,7 +3,7 @@ use Rattle.std.proofs.Common.{◌≡◌, ◌≢◌, ◌<◌, ◌≤◌, ℕ, Boo
 use Rattle.ca_base.specs.Finding.{IsBaseShown}
 use Rattle.ca_node.specs.Links.{IsIn}
 use Rattle.ca_node.specs.Row.{mark, IsMarkedBy}
-use Rattle.ca_node.specs.Told.{MyTree, IsSettled, HasWatched}
+use Rattle.ca_node.specs.Told.{MyTree, IsSettled, HasWatched, active_of}
 use Rattle.ca_node.specs.TreeView.{Note, TreeView}
 use Rattle.ca_rows.specs.Passes.{KeepsList, OnlyReads}
 use Rattle.ca_rows.specs.declared.space.Pass.{Pass}
@@ -11,7 +11,6 @@ use Rattle.ca_rows.specs.declared.space.Space.{Space}
 use Rattle.ca_range.specs.Attempts.{HasFreed, LearnsOfJoins}
 use Rattle.ca_range.specs.Filling.{IsInUse}
 use Rattle.ca_range.specs.Marked.{IsOwnLast}
-use Rattle.ca_range.specs.Meeting.{active_of}
 use Rattle.ca_range.specs.Using.{HasFoundOf, OnlyLearns}
 use Rattle.ca_range.specs.declared.account.Range.{Range}
 use Rattle.ca_range.proofs.JoinsEnded.{joined_all, joined_borders, joined_none, joined_raised, joined_steps}

@@ -8,7 +8,7 @@ use Rattle.ca_node.specs.Layout.{sequence_unit}
 use Rattle.ca_node.specs.Links.{IsIn}
 use Rattle.ca_node.specs.Place.{HasKey}
 use Rattle.ca_node.specs.Row.{mark_bound, route_key, IsMarkedBy}
-use Rattle.ca_node.specs.Told.{MyTree, HasWatched, IsShownWord, but_of, over_by, unfinished_by, watched}
+use Rattle.ca_node.specs.Told.{MyTree, HasWatched, IsShownWord, but_of, over_by, unfinished_by, watched, active_of}
 use Rattle.ca_node.specs.TreeView.{Note, Border, Unfinished, TreeView}
 use Rattle.ca_node.specs.Walking.{IsAbove, IsHighRoute, IsWalked}
 use Rattle.ca_node.specs.declared.cursor.Cursor.{Cursor}
@@ -17,7 +17,6 @@ use Rattle.ca_node.proofs.Listing.{in_front}
 use Rattle.ca_rows.specs.Layout.{row_limit}
 use Rattle.ca_rows.specs.declared.sizes.Sizes.{Sizes}
 use Rattle.ca_range.specs.Ahead.{GoesBeyond, IsAtMarked, IsBefore, IsKnownOver}
-use Rattle.ca_range.specs.Meeting.{active_of}
 use Rattle.ca_range.specs.Reaching.{IsBorderShown, IsKeyShown}
 use Rattle.ca_range.specs.declared.account.Range.{Range}
 use Rattle.ca_range.proofs.Basing.{base_word}

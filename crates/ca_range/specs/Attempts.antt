@@ -17,6 +17,7 @@ use Rattle.ca_node.specs.Place.{IsLinkOf}
 use Rattle.ca_node.specs.Row.{mark, IsMarkedFor}
 use Rattle.ca_node.specs.Told.{MyTree, with_upper, IsUnjoined}
 use Rattle.ca_node.specs.TreeView.{Attempt as KnownAttempt, Border, Note, Finished, KnownJoins, TreeView, one_helped}
+use Rattle.ca_node.specs.Layout.{marked_by_join}
 use Rattle.ca_rows.specs.Passes.{KeepsList}
 use Rattle.ca_rows.specs.declared.sizes.Sizes.{Sizes}
 use Rattle.ca_rows.specs.declared.space.Pass.{Pass}
@@ -37,7 +38,7 @@ IsOfRoute z u x = IsRemembered u.ways x.route × (x.route ≤ z.rows)
 
 -- The base was marked by this attempt, and hung on a link of its route; or none marked it.
 abbrev pub IsAttemptOn : Sizes → TreeView → Note → Option Attempt → Type 0
-IsAttemptOn z u note None = mark note.its ≢ 2
+IsAttemptOn z u note None = mark note.its ≢ marked_by_join
 IsAttemptOn z u note (Some x) = IsMarkedFor note.its x.route x.number × IsOfRoute z u x × IsLinkOf x.route note.place.link
 
 -- The attempt marked a base that was shown.
@@ -117,10 +118,10 @@ CountsJoin (helped.Worn which) m m' = (which ≡ counter.PoolTag) × (m'.0.upper
 
 -- Whether an attempt marked the base with these words, by what became of it.
 abbrev pub IsMarkTold : JoinEnd → List ℕ → Type 0
-IsMarkTold end.Unmarked its = mark its ≢ 2
-IsMarkTold end.Before its = mark its ≡ 2
-IsMarkTold end.Now its = mark its ≡ 2
-IsMarkTold (end.Gone helped) its = mark its ≡ 2
+IsMarkTold end.Unmarked its = mark its ≢ marked_by_join
+IsMarkTold end.Before its = mark its ≡ marked_by_join
+IsMarkTold end.Now its = mark its ≡ marked_by_join
+IsMarkTold (end.Gone helped) its = mark its ≡ marked_by_join
 
 module _ {R : Type 0} where
   -- The pass learnt of joins alone, and counted one as helped, or not. As it knows then, no join has the base.

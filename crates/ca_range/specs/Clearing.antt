@@ -8,6 +8,7 @@ use Rattle.ca_model.specs.declared.outcome.Spent.{Spent}
 use Rattle.ca_node.specs.Row.{mark, IsMarkedBy}
 use Rattle.ca_node.specs.Told.{MyTree, with_upper, IsKnown, IsSettled, IsUnjoined}
 use Rattle.ca_node.specs.TreeView.{KnownRanges, TreeView}
+use Rattle.ca_node.specs.Layout.{marked_by_range, marked_by_join}
 use Rattle.ca_range.specs.Filling.{IsHelpedTo, links_lost}
 use Rattle.ca_base.specs.Spending.{IsSpentOn}
 use Rattle.ca_range.specs.Staying.{HasJoined, OnlySteps}
@@ -71,11 +72,11 @@ HasEndedAttempt its (helped.Worn which) u v = Unit {0}
 -- The base with these words was in use: another pass's range marked it, and was helped to this; or an attempt to join did, and came to this.
 abbrev pub WasInWay : Sizes → ℕ → Spent → Helped → List ℕ → MyTree → MyTree → Type 0
 WasInWay z budget spent helped its m m' = ((range : Range) × IsMarkedBy its range.owner range.number × (range.owner ≢ m.0.upper.number)
-    × IsHelpedTo z range budget spent helped m m') ⊎ ((mark its ≡ 2) × HasEndedAttempt its helped m.0.upper m'.0.upper)
+    × IsHelpedTo z range budget spent helped m m') ⊎ ((mark its ≡ marked_by_join) × HasEndedAttempt its helped m.0.upper m'.0.upper)
 
 -- A range marked the base with these words, or an attempt to join did.
 abbrev pub IsMarked : List ℕ → Type 0
-IsMarked its = (mark its ≡ 1) ⊎ (mark its ≡ 2)
+IsMarked its = (mark its ≡ marked_by_range) ⊎ (mark its ≡ marked_by_join)
 
 -- Whether the base that was shown last before was marked; or what was helped, with this budget, had that base.
 abbrev pub IsOfBase : Sizes → ℕ → Way → MyTree → MyTree → Type 0

@@ -10,6 +10,7 @@ use Rattle.ca_node.specs.Notes.{IsBaseNote}
 use Rattle.ca_node.specs.Place.{HasKey}
 use Rattle.ca_node.specs.Row.{mark, mark_back, mark_bound, mark_number, mark_owner, IsMarkedBy}
 use Rattle.ca_node.specs.TreeView.{Note, TreeView, no_note}
+use Rattle.ca_node.specs.Layout.{marked_by_range}
 use Rattle.ca_rows.specs.declared.sizes.Sizes.{Sizes}
 use Rattle.ca_range.specs.declared.copying.Mark.{Mark}
 
@@ -30,8 +31,8 @@ pub record IsNextTo (u : TreeView) (mark : Mark) (left note : Note) : Type 0 whe
 
 -- A range of the pass marked the base, and no later one marked a base that was shown.
 abbrev pub IsOwnLast : TreeView → Note → Type 0
-IsOwnLast u note = (mark note.its ≡ 1) × (mark_owner note.its ≡ u.number)
-    × ((other : Note) → IsIn other u.notes → mark other.its ≡ 1 → mark_owner other.its ≡ u.number → mark_number other.its ≤ mark_number note.its)
+IsOwnLast u note = (mark note.its ≡ marked_by_range) × (mark_owner note.its ≡ u.number)
+    × ((other : Note) → IsIn other u.notes → mark other.its ≡ marked_by_range → mark_owner other.its ≡ u.number → mark_number other.its ≤ mark_number note.its)
 
 -- The range marked the base as the next one behind this row, and this row says up to where it goes.
 abbrev pub IsBehindRow : Note → ℕ → ℕ → ℕ → ℕ → Type 0
@@ -49,7 +50,7 @@ pub record IsAstray (u : TreeView) : Type 0 where
   pub key : List ℕ
   pub ends : left.place.span.high ≡ Excluded key
   pub has : HasKey next.place.span key
-  pub own : (mark next.its ≡ 1) × (mark_owner next.its ≡ u.number) × (number ≤ mark_number next.its)
+  pub own : (mark next.its ≡ marked_by_range) × (mark_owner next.its ≡ u.number) × (number ≤ mark_number next.its)
   pub apart : ¬ IsBehindRow next u.number number left.row (mark_bound left.its)
 
 -- A copy of the base with this mark took its place.

@@ -9,6 +9,7 @@ use Rattle.ca_node.specs.Row.{count, edge_form, route_key}
 use Rattle.ca_node.specs.Told.{IsShownWord}
 use Rattle.ca_node.specs.Tree.{IsFixed}
 use Rattle.ca_node.specs.TreeView.{Border, TreeView, no_border}
+use Rattle.ca_node.specs.Layout.{to_no_end, to_key}
 
 -- The pass was shown the row, which has a key that fits.
 pub record IsKeyShown (u : TreeView) (row : ℕ) (its : List ℕ) : Type 0 where
@@ -26,8 +27,8 @@ pub record IsBorderShown (u : TreeView) (row : ℕ) (border : Border) : Type 0 w
 abbrev pub reaches_by : List ℕ → Bound → Bool
 reaches_by its Unbounded = true
 reaches_by its (Included high) = false
-reaches_by its (Excluded high) = cond (edge_form its == 0) false
-    (cond (edge_form its == 1) (is_lt (bytes_cmp (route_key its) high)) (is_le (bytes_cmp (route_key its) high)))
+reaches_by its (Excluded high) = cond (edge_form its == to_no_end) false
+    (cond (edge_form its == to_key) (is_lt (bytes_cmp (route_key its) high)) (is_le (bytes_cmp (route_key its) high)))
 
 -- the first of these with this row by which that is so
 abbrev pub border_for : ℕ → Bound → List Border → Border

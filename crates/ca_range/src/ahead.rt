@@ -1,10 +1,10 @@
 //! What is ahead of a base that a range marked.
 ghost use Rattle.std.specs.Prelude.{◌≡◌, ◌≢◌, ◌<◌, ◌≤◌, ◌↔◌, ℕ, IsTrue, Some};
-ghost use Rattle.ca_node.specs.Told.{status_of, with_upper};
+ghost use Rattle.ca_node.specs.Told.{with_upper};
 ghost use Rattle.ca_node.specs.TreePasses.{tree_of};
 ghost use Rattle.ca_range.specs.Ahead.{IsAhead, IsAtMarked};
 ghost use Rattle.ca_range.specs.Loading.{GoesBy};
-ghost use Rattle.ca_range.specs.Meeting.{AreMet, active_of};
+ghost use Rattle.ca_range.specs.Meeting.{AreMet};
 ghost use Rattle.ca_base.specs.Spending.{IsSpentOn};
 ghost use Rattle.ca_range.specs.Staying.{OnlySteps};
 ghost use Rattle.ca_rows.specs.Passes.{IsReading, KeepsList, sizes, known};
@@ -13,7 +13,7 @@ use crate::account::{Account, Range};
 use crate::reaching::{copy_key, reaches};
 use crate::watching::watch;
 use ca_model::Code;
-use ca_node::{Cursor, RangeState, Spot, TreePass, TreeSpace, load_word, walk};
+use ca_node::{Cursor, Spot, TreePass, TreeSpace, is_active, load_word, walk};
 
 /// What is ahead of a base that a range marked.
 #[derive(Clone, Copy)]
@@ -61,15 +61,4 @@ pub(crate) fn look_ahead(
         return Ahead::Whole;
     }
     Ahead::Next(walk(space, pass, Spot::At(&key)))
-}
-
-/// Whether the range with this number is the one that is active.
-pub(crate) fn is_active(state: RangeState, number: u64) -> bool
-    ensures { (word : ℕ) → state ≡ status_of word → (IsTrue result ↔ (active_of word ≡ Some number)) }
-{
-    match state {
-        RangeState::Idle(_) => false,
-        RangeState::Active(active) => active == number,
-        RangeState::Decided(_, _) => false,
-    }
 }

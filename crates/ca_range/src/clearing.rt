@@ -14,7 +14,6 @@ ghost use Rattle.ca_range.specs.Clearing.{IsCleared, IsOfBase, IsUnmet};
 ghost use Rattle.ca_rows.specs.Passes.{sizes, known};
 
 use crate::account::Account;
-use crate::ahead::is_active;
 use crate::helped::Helped;
 use crate::helping::help_ranges;
 use crate::joins::{JoinEnd, end_join};
@@ -22,7 +21,7 @@ use crate::marks::{MarkedBase, range_of};
 use crate::watching::watch;
 use ca_adapt::Tuning;
 use ca_model::Spent;
-use ca_node::{Cursor, TreePass, TreeSpace};
+use ca_node::{Cursor, TreePass, TreeSpace, is_active};
 
 /// What was found of a base that is to be exchanged.
 #[derive(Clone, Copy)]

@@ -9,7 +9,7 @@ ghost use Rattle.ca_range.specs.Copying.{SpellsCopy};
 ghost use Rattle.ca_rows.specs.Passes.{StillKeepsList, sizes, known};
 
 use crate::account::Range;
-use ca_node::{TreePass, TreeSpace};
+use ca_node::{MARKED_BY_RANGE, TreePass, TreeSpace};
 
 /// What a copy of a base says beside what the base had: the word for its statistic, which range marked it, the base to its left in that range, and the row
 /// that says up to where the range goes.
@@ -33,6 +33,6 @@ pub(crate) fn write_copy(space: &TreeSpace, pass: &mut TreePass, row: u32, base:
     let range = mark.range;
     let owner = u64::from(range.owner);
     let (back, bound) = (u64::from(mark.back), u64::from(mark.bound));
-    let words = [mark.statistic, 1, owner, range.number, back, bound];
+    let words = [mark.statistic, MARKED_BY_RANGE, owner, range.number, back, bound];
     ca_base::write_copy(space, pass, row, base, words);
 }

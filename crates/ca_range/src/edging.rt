@@ -1,5 +1,5 @@
 //! The edges of a range: where they are among the objects of a base, whether a base has all keys up to the upper one, and the row that says up to where.
-ghost use Rattle.std.specs.Prelude.{◌≡◌, ◌≤◌, ◌*◌, ℕ, false, drop, length, map, take};
+ghost use Rattle.std.specs.Prelude.{◌≡◌, ◌≤◌, false, drop, length, map, take};
 ghost use Rattle.ca_base.specs.Finding.{IsReadable};
 ghost use Rattle.ca_base.specs.Holding.{HoldsRow};
 ghost use Rattle.ca_base.specs.Readiness.{shown_last};
@@ -9,6 +9,7 @@ ghost use Rattle.ca_model.specs.RunView.{ArePlaces};
 ghost use Rattle.ca_node.specs.Row.{pair};
 ghost use Rattle.ca_node.specs.TreePasses.{tree_of};
 ghost use Rattle.ca_node.specs.TreeView.{Note};
+ghost use Rattle.ca_node.specs.Layout.{below_key};
 ghost use Rattle.ca_range.specs.Ahead.{IsAtLast};
 ghost use Rattle.ca_range.specs.Edged.{SpellsBorder, SpellsKeyed, reaches_to};
 ghost use Rattle.ca_rows.specs.Passes.{IsReading, OnlyReads, StillKeepsList, known, sizes};
@@ -16,17 +17,9 @@ ghost use Rattle.ca_rows.specs.Passes.{IsReading, OnlyReads, StillKeepsList, kno
 use crate::reaching::copy_key;
 use ca_base::{count, search, write_bytes, write_words};
 use ca_model::{Code, Edge};
-use ca_node::{Cursor, KEY, TreePass, TreeSpace};
-
-// A row that says up to where a range goes.
-const BORDER: u64 = 4 << 56;
-
-// Up to where, in such a row's first word: to no end, up to its key, and to right below it.
-const UNBOUNDED: u64 = 0;
-
-const INCLUDED: u64 = 65_536;
-
-const EXCLUDED: u64 = 2 * 65_536;
+use ca_node::{
+    BELOW_KEY, BORDER, COUNT_LIMIT, Cursor, KEY, TO_KEY, TO_NO_END, TreePass, TreeSpace,
+};
 
 /// How many objects of a base that the pass was shown stand before a lower edge.
 pub fn place_from(space: &TreeSpace, pass: &mut TreePass, base: u32, lo: Edge<'_>) -> u32
@@ -114,22 +107,21 @@ pub(crate) fn write_border(space: &TreeSpace, pass: &mut TreePass, row: u32, hi:
     ensures written { HasWritten row (SpellsBorder pass.old.number (bound_of hi.entry)) (known pass.old) (known pass.new) }
 {
     match hi {
-        Edge::Open => write_keyed(space, pass, row, UNBOUNDED, &[]),
-        Edge::At(key) => write_keyed(space, pass, row, INCLUDED, key),
-        Edge::Past(key) => write_keyed(space, pass, row, EXCLUDED, key),
+        Edge::Open => write_keyed(space, pass, row, TO_NO_END, &[]),
+        Edge::At(key) => write_keyed(space, pass, row, TO_KEY, key),
+        Edge::Past(key) => write_keyed(space, pass, row, BELOW_KEY, key),
     }
 }
 
-// Writes such a row, with this edge as it stands in the first word, and this key, eight bytes a word, with zeros behind their end to the end of the word.
-fn write_keyed(space: &TreeSpace, pass: &mut TreePass, row: u32, edge: u64, key: &[u8])
+// Writes such a row, with this end and this key, eight bytes a word, with zeros behind their end to the end of the word.
+fn write_keyed(space: &TreeSpace, pass: &mut TreePass, row: u32, end: u64, key: &[u8])
     requires row { HoldsRow space.now pass.old row }
-    requires edge { (form : ℕ) × (edge ≡ form * 65536) × (form ≤ 2) }
+    requires end { end ≤ below_key }
     requires short { length key.now ≤ 1000 }
     ensures frame { StillKeepsList pass.old pass.new }
-    ensures written { (form : ℕ) → edge ≡ form * 65536
-        → HasWritten row (SpellsKeyed pass.old.number form key.now) (known pass.old) (known pass.new) }
+    ensures written { HasWritten row (SpellsKeyed pass.old.number end key.now) (known pass.old) (known pass.new) }
 {
-    let form = BORDER + edge + key.len() as u64;
+    let form = BORDER + end * COUNT_LIMIT + key.len() as u64;
     let number = u64::from(pass.number());
     write_words(space, pass, row, &[form, number]);
     write_bytes(space, pass, row, KEY, key);

@@ -19,7 +19,6 @@ ghost use Rattle.ca_range.specs.Using.{HasFoundUse};
 ghost use Rattle.ca_rows.specs.Passes.{sizes, known};
 
 use crate::account::{Account, Range};
-use crate::ahead::is_active;
 use crate::copying::Mark;
 use crate::helped::Helped;
 use crate::joins::{JoinEnd, end_join};
@@ -28,7 +27,7 @@ use crate::marks::{MarkedBase, range_of};
 use crate::watching::watch;
 use ca_base::Stop;
 use ca_model::Counter;
-use ca_node::{Cursor, TreePass, TreeSpace};
+use ca_node::{Cursor, TreePass, TreeSpace, is_active};
 
 /// What a step comes to that helps a range.
 #[derive(Clone, Copy)]

@@ -18,7 +18,9 @@ use crate::helped::Helped;
 use ca_adapt::{Attempt, Finish, finish_join};
 use ca_base::Exchange;
 use ca_model::{Counter, Spent};
-use ca_node::{Cursor, JoinState, Link, TreePass, TreeSpace, abort_join, load_join, load_word};
+use ca_node::{
+    Cursor, JoinState, Link, MARKED_BY_JOIN, TreePass, TreeSpace, abort_join, load_join, load_word,
+};
 
 /// What became of the attempt to join that marked a base.
 #[derive(Clone, Copy)]
@@ -82,7 +84,7 @@ fn attempt_on(space: &TreeSpace, pass: &mut TreePass, base: u32) -> Option<Attem
     ensures attempt { (note : Note) → IsBaseShown (sizes space.now) (tree_of pass.old) base note
         → IsAttemptOn (sizes space.now) (tree_of pass.old) note result }
 {
-    if load_word(space, pass, base, 2) != 2 {
+    if load_word(space, pass, base, 2) != MARKED_BY_JOIN {
         return None;
     }
     let route = load_word(space, pass, base, 3) as u32;

@@ -8,7 +8,7 @@ ghost use Rattle.ca_range.specs.Meeting.{IsRangeOf};
 ghost use Rattle.ca_rows.specs.Passes.{OnlyReads, IsReading, sizes};
 
 use crate::account::Range;
-use ca_node::{Cursor, TreePass, TreeSpace, load_word};
+use ca_node::{Cursor, MARKED_BY_RANGE, TreePass, TreeSpace, load_word};
 
 /// A base that a range marked, where it hangs, and which range did.
 #[derive(Clone, Copy)]
@@ -24,7 +24,7 @@ pub fn range_of(space: &TreeSpace, pass: &mut TreePass, base: u32) -> Option<Ran
     ensures frame { OnlyReads pass.old pass.new }
     ensures range { (note : Note) → IsBaseShown (sizes space.now) (tree_of pass.old) base note → IsRangeOf note.its result }
 {
-    if load_word(space, pass, base, 2) != 1 {
+    if load_word(space, pass, base, 2) != MARKED_BY_RANGE {
         return None;
     }
     let owner = load_word(space, pass, base, 3) as u32;

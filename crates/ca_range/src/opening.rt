@@ -39,10 +39,8 @@ use ca_node::{
     BASE_FORM, BORDER_FORM, Cursor, Owning, RangeState, TreePass, TreeSpace, leave_range,
     load_own_status, load_word, mark_first, open_range,
 };
+use ca_rows::LAST_SEQUENCE;
 use std::marker::Brand;
-
-// The number that no range has one behind.
-const LAST_SEQUENCE: u64 = 274_877_906_943;
 
 /// The rows that a range begins with: the one that says up to where it goes, and a copy of its first base.
 #[derive(Clone, Copy)]

@@ -9,13 +9,8 @@ ghost use Rattle.ca_rows.specs.Passes.{OnlyReads, IsReading, sizes};
 
 use ca_base::append;
 use ca_model::Code;
-use ca_node::{KEY, TreePass, TreeSpace, load_word};
+use ca_node::{COUNT_LIMIT, KEY, TO_KEY, TO_NO_END, TreePass, TreeSpace, load_word};
 use ca_term::MOST_CODE_BYTES;
-
-// Up to where a range goes, by the form of the row that says so: to no end, up to its key, or else to right below it.
-const UNBOUNDED: u64 = 0;
-
-const INCLUDED: u64 = 1;
 
 /// Whether a base that has all keys up to this one, but for the key itself, has all up to where a range goes, as this row says. Of a row whose
 /// key is longer than any that a range goes up to it says no.
@@ -28,17 +23,17 @@ pub(crate) fn reaches(space: &TreeSpace, pass: &mut TreePass, border: u32, key: 
     ensures exact { (x : Border) → IsBorderShown (tree_of pass.old) border x → count x.its ≤ 1000 → result ≡ reaches_by x.its (Excluded key.now) }
 {
     let word = load_word(space, pass, border, 0);
-    let edge = word / 65_536 % (1 << 40);
-    if edge == UNBOUNDED {
+    let edge = word / COUNT_LIMIT % (1 << 40);
+    if edge == TO_NO_END {
         return false;
     }
-    if word % 65_536 > 1_000 {
+    if word % COUNT_LIMIT > 1_000 {
         return false;
     }
     let mut end = Code::new();
     copy_key(space, pass, border, &mut end);
     let order = end[..].cmp(key);
-    if edge == INCLUDED {
+    if edge == TO_KEY {
         order.is_lt()
     } else {
         order.is_le()
@@ -53,7 +48,7 @@ pub fn copy_key(space: &TreeSpace, pass: &mut TreePass, row: u32, into: &mut Cod
     ensures frame { OnlyReads pass.old pass.new }
     ensures key { (its : List ℕ) → IsKeyShown (tree_of pass.old) row its → into.new.items ≡ route_key its }
 {
-    let len = MOST_CODE_BYTES.min((load_word(space, pass, row, 0) % 65_536) as usize);
+    let len = MOST_CODE_BYTES.min((load_word(space, pass, row, 0) % COUNT_LIMIT) as usize);
     into.clear();
     for i in 0..(len + 7) / 8 {
         let bytes = load_word(space, pass, row, KEY + i as u32).to_be_bytes();

@@ -13,12 +13,11 @@ ghost use Rattle.ca_range.specs.Using.{IsUsedBy};
 ghost use Rattle.ca_rows.specs.Passes.{sizes, known};
 
 use crate::account::{Account, Range};
-use crate::ahead::is_active;
 use crate::helped::Helped;
 use crate::joins::{JoinEnd, end_join};
 use crate::marks::range_of;
 use crate::watching::watch;
-use ca_node::{Cursor, TreePass, TreeSpace};
+use ca_node::{Cursor, TreePass, TreeSpace, is_active};
 
 /// Which range has a base.
 #[derive(Clone, Copy)]

@@ -2,9 +2,9 @@
 ghost use Rattle.std.specs.Prelude.{◌≡◌, ◌+◌, ◌<◌, ◌≤◌, ℕ, Bool, Option, min, slice_index_or, slice_set, None};
 ghost use Rattle.ca_node.specs.Endings.{IsHelping, HasHelped};
 ghost use Rattle.ca_node.specs.Row.{mark_bound};
-ghost use Rattle.ca_node.specs.Told.{HasWatched, IsKnown, status_of};
+ghost use Rattle.ca_node.specs.Told.{HasWatched, IsKnown, status_of, active_of};
 ghost use Rattle.ca_node.specs.TreePasses.{tree_of};
-ghost use Rattle.ca_range.specs.Meeting.{AreMet, active_of, finished_of};
+ghost use Rattle.ca_range.specs.Meeting.{AreMet, finished_of};
 ghost use Rattle.ca_base.specs.Spending.{IsSpentOn};
 ghost use Rattle.ca_rows.specs.Layout.{last_sequence, row_limit};
 ghost use Rattle.ca_rows.specs.Passes.{IsOn, IsReading, KeepsList, sizes, known};

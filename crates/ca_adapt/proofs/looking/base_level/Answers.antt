@@ -1,5 +1,6 @@
 use Rattle.std.proofs.Common.{ℕ, ◌/◌, ◌%◌, ◌∙◌, get_or, ap}
 use Rattle.ca_base.proofs.ShownWords.{base_word, some_word}
+use Rattle.ca_node.specs.Layout.{count_limit}
 use Rattle.ca_adapt.proofs.looking.base_level.Goals as goal
 
 pub load_word-requires-clause-shown : goal.load_word-requires-clause-shown
@@ -7,7 +8,7 @@ load_word-requires-clause-shown c = some_word c.args.space.now.table.shared.key
     c.args.pass.now.seat.me.0.upper c.args.base 0 c.requires.shown
 
 pub returns-clause-level : goal.returns-clause-level
-returns-clause-level c note s = ap (λ (n : ℕ). n / 65536 % 65536)
+returns-clause-level c note s = ap (λ (n : ℕ). n / count_limit % count_limit)
     (c.load_word.ensures.word (get_or note.its 0 0)
     (base_word c.args.space.now.table.shared.key c.args.pass.now.seat.me.0.upper c.args.base 0 note
     s)) ∙ s.is_base.level_is

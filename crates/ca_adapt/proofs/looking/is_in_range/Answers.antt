@@ -9,9 +9,9 @@ pub load_word-requires-clause-shown : goal.load_word-requires-clause-shown
 load_word-requires-clause-shown c = some_word c.args.space.now.table.shared.key
     c.args.pass.now.seat.me.0.upper c.args.base 2 c.requires.shown
 
-pub returns-then-load_word-ne1-clause-found : goal.returns-then-load_word-ne1-clause-found
-returns-then-load_word-ne1-clause-found c note s = inl (
-  (λ one. c.if-load_word-ne1.true (c.load_word.ensures.word (get_or note.its 2 0)
+pub returns-then-load_word-ne-MARKED_BY_RANGE-clause-found : goal.returns-then-load_word-ne-MARKED_BY_RANGE-clause-found
+returns-then-load_word-ne-MARKED_BY_RANGE-clause-found c note s = inl (
+  (λ one. c.if-load_word-ne-MARKED_BY_RANGE.true (c.load_word.ensures.word (get_or note.its 2 0)
       (base_word c.args.space.now.table.shared.key c.args.pass.now.seat.me.0.upper c.args.base 2
       note s) ∙ one)),
   c.load_word.ensures.frame.still,
@@ -35,7 +35,7 @@ pub overflow_cast-owner : goal.overflow_cast-owner
 overflow_cast-owner c = let s = c.requires.shown in let z = c.args.space.now.table.shared.key in
     let u = c.args.pass.now.seat.me.0.upper in
     let one = sym (c.load_word.ensures.word (get_or s.0.its 2 0)
-    (base_word z u c.args.base 2 s.0 s.1)) ∙ c.if-load_word-ne1.false in
+    (base_word z u c.args.base 2 s.0 s.1)) ∙ c.if-load_word-ne-MARKED_BY_RANGE.false in
     let owner = c.load_word-owner.ensures.word (get_or s.0.its 3 0)
     (subst (λ (m : MyTree). IsShownWord m.0.upper c.args.base 3 (get_or s.0.its 3 0))
     (sym c.load_word.ensures.frame.still) (base_word z u c.args.base 3 s.0 s.1)) in
@@ -46,7 +46,7 @@ pub load_status-requires-clause-owner : goal.load_status-requires-clause-owner
 load_status-requires-clause-owner c = let s = c.requires.shown in let z =
     c.args.space.now.table.shared.key in let u = c.args.pass.now.seat.me.0.upper in
     let one = sym (c.load_word.ensures.word (get_or s.0.its 2 0)
-    (base_word z u c.args.base 2 s.0 s.1)) ∙ c.if-load_word-ne1.false in
+    (base_word z u c.args.base 2 s.0 s.1)) ∙ c.if-load_word-ne-MARKED_BY_RANGE.false in
     let owner = c.load_word-owner.ensures.word (get_or s.0.its 3 0)
     (subst (λ (m : MyTree). IsShownWord m.0.upper c.args.base 3 (get_or s.0.its 3 0))
     (sym c.load_word.ensures.frame.still) (base_word z u c.args.base 3 s.0 s.1)) in
@@ -58,7 +58,7 @@ pub returns-clause-found : goal.returns-clause-found
 returns-clause-found c note s = let z = c.args.space.now.table.shared.key in let u =
     c.args.pass.now.seat.me.0.upper in
     let one = sym (c.load_word.ensures.word (get_or note.its 2 0)
-    (base_word z u c.args.base 2 note s)) ∙ c.if-load_word-ne1.false in
+    (base_word z u c.args.base 2 note s)) ∙ c.if-load_word-ne-MARKED_BY_RANGE.false in
     let owner = c.load_word-owner.ensures.word (get_or note.its 3 0)
     (subst (λ (m : MyTree). IsShownWord m.0.upper c.args.base 3 (get_or note.its 3 0))
     (sym c.load_word.ensures.frame.still) (base_word z u c.args.base 3 note s)) in
@@ -71,4 +71,4 @@ returns-clause-found c note s = let z = c.args.space.now.table.shared.key in let
     (c.load_word-number.ensures.frame.still ∙ still)
     (found_by c.is_active.result note c.load_word-number.new.pass.seat.me
     c.load_status.new.pass.seat.me c.load_word-owner.result c.load_word-number.result w.0
-    w.2 one owner number (c.is_active.ensures w.0 w.1))
+    w.2 one owner number (c.is_active.ensures.words w.0 w.1))

@@ -1,6 +1,7 @@
 use Rattle.std.proofs.Common.{ℕ, List, ◌≡◌, ◌+◌, ◌-◌, ◌/◌, ◌%◌, min, length, take, drop, ap, sym, ◌∙◌, arith}
 use Rattle.ca_node.specs.Row.{bytes_in, count, key_place, key_length, code_words}
 use Rattle.ca_node.proofs.WordOrder.{bytes_long}
+use Rattle.ca_node.specs.Layout.{count_limit}
 use Rattle.ca_base.proofs.Items.{word_shown, as_shown}
 use Rattle.ca_base.proofs.ObjectBytes.{clipped, code_long}
 use Rattle.ca_base.proofs.comparing.key_bytes.Goals as goal
@@ -19,10 +20,10 @@ returns-clause-key c its shown = let long = shown.long in
     let end : ℕ = c.min-end.result in let start : ℕ = c.min-start.result in
     let len : ℕ = c.min-len.result in
     let e : end ≡ min (length bytes) (count its) = c.min-end.ensures
-    ∙ (ap (λ (n : ℕ). min n (c.load_word-word.result % 65536)) (sym all)
-    ∙ ap (λ (n : ℕ). min (length bytes) (n % 65536)) word) in
+    ∙ (ap (λ (n : ℕ). min n (c.load_word-word.result % count_limit)) (sym all)
+    ∙ ap (λ (n : ℕ). min (length bytes) (n % count_limit)) word) in
     let s : start ≡ min end (key_place its) = c.min-start.ensures
-    ∙ ap (λ (n : ℕ). min end (n / 65536 % 65536)) word in
+    ∙ ap (λ (n : ℕ). min end (n / count_limit % count_limit)) word in
     let l : len ≡ min (end - start) (key_length its) = c.min-len.ensures
     ∙ ap (λ (n : ℕ). min (end - start) (n / 4294967296 % 16777216)) word in
     let n : start + len - start ≡ len = omega arith in

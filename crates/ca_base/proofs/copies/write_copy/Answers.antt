@@ -4,6 +4,7 @@ use Rattle.ca_base.specs.Writing.{IsHeld, IsRewritten}
 use Rattle.ca_base.proofs.Filling.{rewritten_again}
 use Rattle.ca_node.specs.Told.{MyTree}
 use Rattle.ca_node.specs.TreeView.{TreeView}
+use Rattle.ca_node.specs.Layout.{count_limit}
 use Rattle.ca_base.proofs.ShownWords.{base_word, some_word}
 use Rattle.ca_base.proofs.CopyWords.{spells_copy}
 use Rattle.ca_base.proofs.copies.write_copy.Goals as goal
@@ -25,7 +26,7 @@ pub copy_words-requires-clause-few : goal.copy_words-requires-clause-few
 copy_words-requires-clause-few c = let s = c.requires.shown in let few = s.1.is_base.few in let leaf = c.requires.leaf in
     let word = c.load_word-form.ensures.word (get_or s.0.its 0 0)
     (base_word c.args.space.now.table.shared.key c.args.pass.now.seat.me.0.upper c.args.base 0 s.0 s.1) in
-    let many = ap (λ (n : ℕ). n % 65536) word in omega arith
+    let many = ap (λ (n : ℕ). n % count_limit) word in omega arith
 
 pub returns-clause-written : goal.returns-clause-written
 returns-clause-written c note s = let z = c.args.space.now.table.shared.key in let m = c.args.pass.now.seat.me in

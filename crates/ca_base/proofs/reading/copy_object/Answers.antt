@@ -10,6 +10,7 @@ use Rattle.ca_base.proofs.FourWords.{four_more}
 use Rattle.ca_base.proofs.Items.{word_shown, as_shown}
 use Rattle.ca_base.proofs.ObjectBytes.{one_more, code_long}
 use Rattle.ca_node.proofs.WordOrder.{bytes_long}
+use Rattle.ca_node.specs.Layout.{count_limit}
 use Rattle.ca_base.proofs.reading.copy_object.Goals as goal
 
 pub load_word-requires-clause-shown : goal.load_word-requires-clause-shown
@@ -73,6 +74,6 @@ returns-clause-object c its shown = let over = c.loop-i-test.false in
     let word =
     as_shown c.args.pass.now.seat.me.0.upper _ _ _ c.load_word.ensures.word its shown.shown in
     let len : c.min-len.result ≡ min (count its) (length bytes) =
-    omega (arith, c.min-len.ensures, ap (λ (n : ℕ). n % 65536) word) in
+    omega (arith, c.min-len.ensures, ap (λ (n : ℕ). n % count_limit) word) in
     c.loop-i.invariant.copied its shown
     ∙ (ap (λ (k : ℕ). take k bytes) (whole ∙ len) ∙ take_min (count its) bytes)

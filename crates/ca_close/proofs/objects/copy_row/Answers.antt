@@ -4,7 +4,7 @@ use Rattle.std.specs.Int.{to_be_bytes, w64}
 use Rattle.std.specs.Mem.Slots.{slots_items}
 use Rattle.ca_base.proofs.ObjectBytes.{one_more, code_long, code_at}
 use Rattle.ca_node.proofs.WordOrder.{bytes_long}
-use Rattle.ca_node.specs.Layout.{code_word}
+use Rattle.ca_node.specs.Layout.{code_word, count_limit}
 use Rattle.ca_node.specs.Row.{row_at, bytes_in, count, code_words}
 use Rattle.ca_rows.specs.Layout.{row_words}
 use Rattle.ca_close.proofs.Reading.{got_of, row_long}
@@ -33,5 +33,5 @@ returns c = let over = c.loop-i-test.false in let words = slots_items c.args.wor
     let whole : min c.min-len.result (8 * c.loop-i.i) ≡ c.min-len.result = omega arith in
     let here : row_words * c.args.row ≡ row_words * c.args.row + 0 = omega arith in
     let word = got_of words c.args.row 0 (row_words * c.args.row) c.at.result (omega arith) here c.at.ensures in
-    let len : c.min-len.result ≡ min (count its) (length bytes) = omega (arith, c.min-len.ensures, ap (λ (n : ℕ). n % 65536) word) in
+    let len : c.min-len.result ≡ min (count its) (length bytes) = omega (arith, c.min-len.ensures, ap (λ (n : ℕ). n % count_limit) word) in
     c.loop-i.invariant ∙ (ap (λ (k : ℕ). take k bytes) (whole ∙ len) ∙ take_min (count its) bytes)

@@ -1,7 +1,7 @@
 use Rattle.std.proofs.Common.{ℕ, List, ◌≡◌, ◌+◌, ◌%◌, length, get_or, take, drop, ap, sym, refl, subst, ◌∙◌, arith, length-drop}
 use Rattle.std.specs.Ordering.{nat_cmp}
 use Rattle.ca_model.specs.StoreMap.{bytes_cmp}
-use Rattle.ca_node.specs.Layout.{key_word}
+use Rattle.ca_node.specs.Layout.{key_word, count_limit}
 use Rattle.ca_node.specs.Row.{bytes_in, count}
 use Rattle.ca_node.specs.Told.{MyTree}
 use Rattle.ca_node.specs.Walking.{IsRouteShown}
@@ -22,7 +22,7 @@ returns-then-stop-eq0-clause-order c its s = let key : List ℕ = c.args.key.now
     let first =
     c.load_word.ensures.word _
     (fixed_word c.args.pass.now.seat.me.0.upper c.args.route its 0 s first_fixed) in
-    let len : c.load_word.result % 65536 ≡ count its = ap (λ (n : ℕ). n % 65536) first in
+    let len : c.load_word.result % count_limit ≡ count its = ap (λ (n : ℕ). n % count_limit) first in
     c.cmp.ensures
     ∙ (ap (λ (k : ℕ). nat_cmp k (length key)) (omega (arith, len))
     ∙ (left_none bytes key 0 (count its) 0 (omega arith)
@@ -45,7 +45,7 @@ returns-then-is_ne-clause-order c its s = let n : ℕ = c.min.result in
     let first =
     c.load_word.ensures.word _
     (fixed_word c.args.pass.now.seat.me.0.upper c.args.route its 0 s first_fixed) in
-    let len : c.load_word.result % 65536 ≡ count its = ap (λ (n : ℕ). n % 65536) first in
+    let len : c.load_word.result % count_limit ≡ count its = ap (λ (n : ℕ). n % count_limit) first in
     let word = c.load_word-word.ensures.word _
     (fixed_word c.load_word.new.pass.seat.me.0.upper c.args.route its key_word
     (subst (λ (m : MyTree). IsRouteShown m.0.upper c.args.route its) (sym c.load_word.ensures.frame.still) s)
@@ -66,7 +66,7 @@ returns-then-stop-le8-clause-order c its s = let n : ℕ = c.min.result in
     let first =
     c.load_word.ensures.word _
     (fixed_word c.args.pass.now.seat.me.0.upper c.args.route its 0 s first_fixed) in
-    let len : c.load_word.result % 65536 ≡ count its = ap (λ (n : ℕ). n % 65536) first in
+    let len : c.load_word.result % count_limit ≡ count its = ap (λ (n : ℕ). n % count_limit) first in
     let word = c.load_word-word.ensures.word _
     (fixed_word c.load_word.new.pass.seat.me.0.upper c.args.route its key_word
     (subst (λ (m : MyTree). IsRouteShown m.0.upper c.args.route its) (sym c.load_word.ensures.frame.still) s)
@@ -87,7 +87,7 @@ pub compare_rest-requires-clause-len : goal.compare_rest-requires-clause-len
 compare_rest-requires-clause-len c its there =
     let s = subst (λ (m : MyTree). IsRouteShown m.0.upper c.args.route its)
     (c.load_word-word.ensures.frame.still ∙ c.load_word.ensures.frame.still) there in
-    ap (λ (n : ℕ). n % 65536)
+    ap (λ (n : ℕ). n % count_limit)
     (c.load_word.ensures.word _
     (fixed_word c.args.pass.now.seat.me.0.upper c.args.route its 0 s first_fixed))
 
@@ -101,7 +101,7 @@ compare_rest-requires-clause-alike c its there = let n : ℕ = c.min.result in
     let first =
     c.load_word.ensures.word _
     (fixed_word c.args.pass.now.seat.me.0.upper c.args.route its 0 s first_fixed) in
-    let len : c.load_word.result % 65536 ≡ count its = ap (λ (n : ℕ). n % 65536) first in
+    let len : c.load_word.result % count_limit ≡ count its = ap (λ (n : ℕ). n % count_limit) first in
     let word = c.load_word-word.ensures.word _
     (fixed_word c.load_word.new.pass.seat.me.0.upper c.args.route its key_word
     (subst (λ (m : MyTree). IsRouteShown m.0.upper c.args.route its) (sym c.load_word.ensures.frame.still) s)

@@ -3,6 +3,7 @@ use Rattle.ca_rows.specs.declared.sizes.Sizes.{Sizes}
 use Rattle.ca_node.specs.Told.{MyTree}
 use Rattle.ca_node.specs.Walking.{IsAtRoute, IsWalked}
 use Rattle.ca_node.proofs.Walks.{begins, first_word, is_at_route, is_at_base, level_told, few_left, one_load_less, ends}
+use Rattle.ca_node.specs.Layout.{count_limit}
 use Rattle.ca_node.proofs.cursor.walk_from.Goals as goal
 
 pub descend-base-requires-clause-known : goal.descend-base-requires-clause-known
@@ -60,11 +61,11 @@ returns-then-word-clause-walked c =
     c.load_word-word.result c.load_word-word.ensures.word in
     subst (λ (m : MyTree).
     IsWalked c.args.space.now.table.shared.key c.args.spot c.args.pass.now.seat.me
-    (record c.loop-level.cursor { level = c.load_word-word.result / 65536 % 65536 }) m)
+    (record c.loop-level.cursor { level = c.load_word-word.result / count_limit % count_limit }) m)
     (sym c.load_word-word.ensures.frame.still)
     (ends c.args.space.now.table.shared.key c.args.spot c.args.pass.now.seat.me c.loop-level.cursor
     c.loop-level.pass.seat.me
-    (c.load_word-word.result / 65536 % 65536) at level)
+    (c.load_word-word.result / count_limit % count_limit) at level)
 
 pub go_down-cursor-requires-clause-at : goal.go_down-cursor-requires-clause-at
 go_down-cursor-requires-clause-at c = (

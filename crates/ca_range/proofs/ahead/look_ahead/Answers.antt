@@ -3,12 +3,11 @@ use Rattle.ca_model.specs.Edges.{Unbounded, Excluded}
 use Rattle.ca_base.specs.Counting.{losses}
 use Rattle.ca_base.specs.Putting.{first_note}
 use Rattle.ca_node.specs.Row.{mark_bound, route_key, IsMarkedBy}
-use Rattle.ca_node.specs.Told.{MyTree, IsShownWord}
+use Rattle.ca_node.specs.Told.{MyTree, IsShownWord, active_of}
 use Rattle.ca_node.specs.TreeView.{Note}
 use Rattle.ca_node.specs.Walking.{IsHighRoute}
 use Rattle.ca_range.specs.Ahead.{GoesBeyond, IsAtMarked, IsWhole}
 use Rattle.ca_range.specs.Farther.{reach, reach_to}
-use Rattle.ca_range.specs.Meeting.{active_of}
 use Rattle.ca_range.specs.Reaching.{IsBorderShown, reaches_by}
 use Rattle.ca_range.specs.Staying.{OnlySteps}
 use Rattle.ca_base.proofs.Spends.{on_both, on_still}
@@ -26,7 +25,8 @@ returns-then-not-is_active-clause-steps c = let w = c.watch.ensures.watched in
 pub returns-then-not-is_active-clause-ahead : goal.returns-then-not-is_active-clause-ahead
 returns-then-not-is_active-clause-ahead c = let w = c.watch.ensures.watched in let at = c.requires.at in
     let m = c.args.pass.now.seat.me in let m' = c.watch.new.pass.seat.me in let range = c.args.range in
-    let off : ¬ (active_of w.0 ≡ Some range.number) = λ on. let no : false ≡ true = sym c.if-not-is_active.true ∙ (c.is_active.ensures w.0 w.1).1 on in cc in
+    let off : ¬ (active_of w.0 ≡ Some range.number) =
+        λ on. let no : false ≡ true = sym c.if-not-is_active.true ∙ (c.is_active.ensures.active w.0 w.1).1 on in cc in
     let notes = ap (λ (x : MyTree). first_note x.0.upper.notes) w.2.now in record {
       over = over_now range m m' w.0 (first_note m.0.upper.notes) w.2 at.at.shown.noted at.marked off;
       counted = over_counted range m m' w.0 w.2 c.requires.other.2 off;
@@ -41,7 +41,7 @@ returns-in_default-clause-steps c = let w = c.watch.ensures.watched in
 pub returns-in_default-clause-ahead : goal.returns-in_default-clause-ahead
 returns-in_default-clause-ahead c = let w = c.watch.ensures.watched in let z = c.args.space.now.table.shared.key in
     let m = c.args.pass.now.seat.me in let m' = c.watch.new.pass.seat.me in let at = c.requires.at in
-    let on = (c.is_active.ensures w.0 w.1).0 c.if-not-is_active.false in
+    let on = (c.is_active.ensures.active w.0 w.1).0 c.if-not-is_active.false in
     let b = border_now z c.args.range c.args.left.now m m' w.0 w.2 c.requires.reading.own.1 at on in
     let open_end : (first_note m.0.upper.notes).place.span.high ≡ Unbounded =
     subst (λ (r : Option ℕ). IsHighRoute z m.0.upper.ways r (first_note m.0.upper.notes).place.span.high) c.in_default.is at.at.high in
@@ -61,20 +61,20 @@ returns-in_default-clause-ahead c = let w = c.watch.ensures.watched in let z = c
 pub copy_key-requires-clause-shown : goal.copy_key-requires-clause-shown
 copy_key-requires-clause-shown c = let w = c.watch.ensures.watched in let z = c.args.space.now.table.shared.key in let at = c.requires.at in
     let m = c.args.pass.now.seat.me in let m1 = c.watch.new.pass.seat.me in let range = c.args.range in let left = c.args.left.now in
-    let on = (c.is_active.ensures w.0 w.1).0 c.if-not-is_active.false in let sizes = c.requires.reading.own.1 in
+    let on = (c.is_active.ensures.active w.0 w.1).0 c.if-not-is_active.false in let sizes = c.requires.reading.own.1 in
     let high = high_now z range left m m1 w.0 w.2 sizes at on c.in-Some.route c.in-Some.is in (high.0, high.1)
 
 pub load_word-border-requires-clause-shown : goal.load_word-border-requires-clause-shown
 load_word-border-requires-clause-shown c = let w = c.watch.ensures.watched in let z = c.args.space.now.table.shared.key in let at = c.requires.at in
     let m = c.args.pass.now.seat.me in let m1 = c.watch.new.pass.seat.me in let range = c.args.range in let left = c.args.left.now in
-    let on = (c.is_active.ensures w.0 w.1).0 c.if-not-is_active.false in let sizes = c.requires.reading.own.1 in
+    let on = (c.is_active.ensures.active w.0 w.1).0 c.if-not-is_active.false in let sizes = c.requires.reading.own.1 in
     let row : ℕ = mark_bound (first_note m.0.upper.notes).its in
     (row, subst (λ (x : MyTree). IsShownWord x.0.upper left.base 6 row) (sym c.copy_key.ensures.frame.still) (bound_word z range left m m1 w.0 w.2 sizes at on))
 
 pub reaches-requires-clause-inside : goal.reaches-requires-clause-inside
 reaches-requires-clause-inside c = let w = c.watch.ensures.watched in let z = c.args.space.now.table.shared.key in let at = c.requires.at in
     let m = c.args.pass.now.seat.me in let m1 = c.watch.new.pass.seat.me in let range = c.args.range in let left = c.args.left.now in
-    let on = (c.is_active.ensures w.0 w.1).0 c.if-not-is_active.false in let sizes = c.requires.reading.own.1 in
+    let on = (c.is_active.ensures.active w.0 w.1).0 c.if-not-is_active.false in let sizes = c.requires.reading.own.1 in
     let row : ℕ = mark_bound (first_note m.0.upper.notes).its in
     let is : c.load_word-border.result ≡ row = c.load_word-border.ensures.word row
     (subst (λ (x : MyTree). IsShownWord x.0.upper left.base 6 row) (sym c.copy_key.ensures.frame.still) (bound_word z range left m m1 w.0 w.2 sizes at on)) in
@@ -84,7 +84,7 @@ reaches-requires-clause-inside c = let w = c.watch.ensures.watched in let z = c.
 pub overflow_cast-border : goal.overflow_cast-border
 overflow_cast-border c = let w = c.watch.ensures.watched in let z = c.args.space.now.table.shared.key in let at = c.requires.at in
     let m = c.args.pass.now.seat.me in let m1 = c.watch.new.pass.seat.me in let range = c.args.range in let left = c.args.left.now in
-    let on = (c.is_active.ensures w.0 w.1).0 c.if-not-is_active.false in let sizes = c.requires.reading.own.1 in
+    let on = (c.is_active.ensures.active w.0 w.1).0 c.if-not-is_active.false in let sizes = c.requires.reading.own.1 in
     let row : ℕ = mark_bound (first_note m.0.upper.notes).its in
     let is : c.load_word-border.result ≡ row = c.load_word-border.ensures.word row
     (subst (λ (x : MyTree). IsShownWord x.0.upper left.base 6 row) (sym c.copy_key.ensures.frame.still) (bound_word z range left m m1 w.0 w.2 sizes at on)) in
@@ -94,7 +94,7 @@ overflow_cast-border c = let w = c.watch.ensures.watched in let z = c.args.space
 pub reaches-requires-clause-shown : goal.reaches-requires-clause-shown
 reaches-requires-clause-shown c = let w = c.watch.ensures.watched in let z = c.args.space.now.table.shared.key in let at = c.requires.at in
     let m = c.args.pass.now.seat.me in let m1 = c.watch.new.pass.seat.me in let range = c.args.range in let left = c.args.left.now in
-    let on = (c.is_active.ensures w.0 w.1).0 c.if-not-is_active.false in let sizes = c.requires.reading.own.1 in
+    let on = (c.is_active.ensures.active w.0 w.1).0 c.if-not-is_active.false in let sizes = c.requires.reading.own.1 in
     let row : ℕ = mark_bound (first_note m.0.upper.notes).its in
     let is : c.load_word-border.result ≡ row = c.load_word-border.ensures.word row
     (subst (λ (x : MyTree). IsShownWord x.0.upper left.base 6 row) (sym c.copy_key.ensures.frame.still) (bound_word z range left m m1 w.0 w.2 sizes at on)) in
@@ -111,7 +111,7 @@ returns-then-reaches-clause-steps c = let w = c.watch.ensures.watched in
 pub returns-then-reaches-clause-ahead : goal.returns-then-reaches-clause-ahead
 returns-then-reaches-clause-ahead c = let w = c.watch.ensures.watched in let z = c.args.space.now.table.shared.key in let at = c.requires.at in
     let m = c.args.pass.now.seat.me in let m1 = c.watch.new.pass.seat.me in let range = c.args.range in let left = c.args.left.now in
-    let on = (c.is_active.ensures w.0 w.1).0 c.if-not-is_active.false in let sizes = c.requires.reading.own.1 in
+    let on = (c.is_active.ensures.active w.0 w.1).0 c.if-not-is_active.false in let sizes = c.requires.reading.own.1 in
     let row : ℕ = mark_bound (first_note m.0.upper.notes).its in
     let is : c.load_word-border.result ≡ row = c.load_word-border.ensures.word row
     (subst (λ (x : MyTree). IsShownWord x.0.upper left.base 6 row) (sym c.copy_key.ensures.frame.still) (bound_word z range left m m1 w.0 w.2 sizes at on)) in
@@ -147,7 +147,7 @@ returns-clause-steps c = let w = c.watch.ensures.watched in let walk = c.walk.en
 pub returns-clause-ahead : goal.returns-clause-ahead
 returns-clause-ahead c = let w = c.watch.ensures.watched in let z = c.args.space.now.table.shared.key in let at = c.requires.at in
     let m = c.args.pass.now.seat.me in let m1 = c.watch.new.pass.seat.me in let range = c.args.range in let left = c.args.left.now in
-    let on = (c.is_active.ensures w.0 w.1).0 c.if-not-is_active.false in let sizes = c.requires.reading.own.1 in
+    let on = (c.is_active.ensures.active w.0 w.1).0 c.if-not-is_active.false in let sizes = c.requires.reading.own.1 in
     let row : ℕ = mark_bound (first_note m.0.upper.notes).its in
     let is : c.load_word-border.result ≡ row = c.load_word-border.ensures.word row
     (subst (λ (x : MyTree). IsShownWord x.0.upper left.base 6 row) (sym c.copy_key.ensures.frame.still) (bound_word z range left m m1 w.0 w.2 sizes at on)) in

@@ -41,7 +41,7 @@ returns-then-not-is_active-clause-cleared c = let w = c.watch-state.ensures.watc
           c.watch-state.new.pass c.in-Some.range.owner c.watch-state.ensures.watched.0
           c.range_of.ensures.frame c.watch-state.ensures.frame c.watch-state.ensures.watched.2
           note c.requires.at.shown.noted) mark.0
-          (λ on. let no : false ≡ true = sym c.if-not-is_active.true ∙ (c.is_active.ensures w.0 w.1).1 on in cc)),
+          (λ on. let no : false ≡ true = sym c.if-not-is_active.true ∙ (c.is_active.ensures.active w.0 w.1).1 on in cc)),
       subst (λ (x : MyTree). LearnsOfRanges true x n) c.range_of.ensures.frame.still
           (learns c.in-Some.range.owner w.0 m n w.2 (ap (λ (x : MyTree). x.0.upper.ranges.unfinished) c.range_of.ensures.frame.still ∙ c.requires.none_met)),
     )
@@ -78,7 +78,7 @@ help_ranges-helped-requires-clause-quiet c = ap (λ (u : TreeView). u.ranges.own
 pub help_ranges-helped-requires-clause-other : goal.help_ranges-helped-requires-clause-other
 help_ranges-helped-requires-clause-other c = let w = c.watch-state.ensures.watched in
     let mark = c.in-Some.ensures.range (first_note c.args.pass.now.seat.me.0.upper.notes) c.requires.at.shown in
-    let on = (c.is_active.ensures w.0 w.1).0 c.if-not-is_active.false in (
+    let on = (c.is_active.ensures.active w.0 w.1).0 c.if-not-is_active.false in (
       mark.1,
       mark.2,
       λ own. other_then c.args.space.now.table.shared.key c.args.pass.now c.range_of.new.pass c.watch-state.new.pass c.in-Some.range.owner
@@ -95,14 +95,14 @@ help_ranges-helped-requires-clause-at c = let w = c.watch-state.ensures.watched 
     (ap (λ (x : MyTree). x.0.sizes) still ∙ c.requires.ready.own.1) record {
       at = subst (λ (x : MyTree). IsAtLast z x.0.upper c.args.cursor) (sym still) c.requires.at;
       marked = subst (λ (x : MyTree). IsMarkedBy (first_note x.0.upper.notes).its c.in-Some.range.owner c.in-Some.range.number) (sym still) mark.0;
-    } ((c.is_active.ensures w.0 w.1).0 c.if-not-is_active.false)
+    } ((c.is_active.ensures.active w.0 w.1).0 c.if-not-is_active.false)
 
 pub returns-clause-cleared : goal.returns-clause-cleared
 returns-clause-cleared c = let w = c.watch-state.ensures.watched in let z = c.args.space.now.table.shared.key in let h = c.help_ranges-helped.ensures in
     let m = c.args.pass.now.seat.me in let mid = c.range_of.new.pass.seat.me in let l = c.watch-state.new.pass.seat.me in
     let n = c.help_ranges-helped.new.pass.seat.me in let still = c.range_of.ensures.frame.still in
     let mark = c.in-Some.ensures.range (first_note m.0.upper.notes) c.requires.at.shown in
-    let on = (c.is_active.ensures w.0 w.1).0 c.if-not-is_active.false in
+    let on = (c.is_active.ensures.active w.0 w.1).0 c.if-not-is_active.false in
     let other = other_then c.args.space.now.table.shared.key c.args.pass.now c.range_of.new.pass c.watch-state.new.pass c.in-Some.range.owner
     c.watch-state.ensures.watched.0
     c.range_of.ensures.frame c.watch-state.ensures.frame c.watch-state.ensures.watched.2
@@ -144,7 +144,7 @@ returns-clause-way c = let w = c.watch-state.ensures.watched in let z = c.args.s
     let m = c.args.pass.now.seat.me in let mid = c.range_of.new.pass.seat.me in let l = c.watch-state.new.pass.seat.me in
     let n = c.help_ranges-helped.new.pass.seat.me in let still = c.range_of.ensures.frame.still in
     let mark = c.in-Some.ensures.range (first_note m.0.upper.notes) c.requires.at.shown in
-    let on = (c.is_active.ensures w.0 w.1).0 c.if-not-is_active.false in
+    let on = (c.is_active.ensures.active w.0 w.1).0 c.if-not-is_active.false in
     let other = other_then z c.args.pass.now c.range_of.new.pass c.watch-state.new.pass c.in-Some.range.owner w.0
     c.range_of.ensures.frame c.watch-state.ensures.frame w.2 c.in-Some.range.number on c.requires.quiet in
     let first : IsSpentOn none_spent c.watch-state.new.account.spent m l = subst (λ (x : Spent × MyTree).

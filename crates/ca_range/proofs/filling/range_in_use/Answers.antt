@@ -26,10 +26,10 @@ pub returns-then-not-is_active-clause-in_use : goal.returns-then-not-is_active-c
 returns-then-not-is_active-clause-in_use c = let w = c.watch-state.ensures.watched in
     found_over c.args.space.now c.args.pass.now c.range_of.new.pass c.watch-state.new.pass c.range_of.ensures.frame c.in-Some.range w.0
     c.watch-state.ensures.frame w.2 c.args.cursor.base (λ note s. (c.in-Some.ensures.range note s).0)
-    (λ on. let no : false ≡ true = sym c.if-not-is_active.true ∙ (c.is_active.ensures w.0 w.1).1 on in cc)
+    (λ on. let no : false ≡ true = sym c.if-not-is_active.true ∙ (c.is_active.ensures.active w.0 w.1).1 on in cc)
 
 pub returns-clause-in_use : goal.returns-clause-in_use
-returns-clause-in_use c = let w = c.watch-state.ensures.watched in let on = (c.is_active.ensures w.0 w.1).0 c.if-not-is_active.false in
+returns-clause-in_use c = let w = c.watch-state.ensures.watched in let on = (c.is_active.ensures.active w.0 w.1).0 c.if-not-is_active.false in
     let quiet = ap (λ (x : MyTree). x.0.upper.ranges.own) c.range_of.ensures.frame.still ∙ c.requires.quiet in
     found_used c.args.space.now c.args.pass.now c.range_of.new.pass c.watch-state.new.pass c.range_of.ensures.frame c.in-Some.range w.0
     c.watch-state.ensures.frame w.2 c.args.cursor.base c.in-Some.ensures.range on

@@ -19,8 +19,8 @@ load_word-number-requires-clause-shown c = subst (λ (m : MyTree). (word : ℕ) 
     (sym (c.load_word-route.ensures.frame.still ∙ c.load_word.ensures.frame.still))
     (some_word c.args.space.now.table.shared.key c.args.pass.now.seat.me.0.upper c.args.base 4 c.requires.shown)
 
-pub returns-then-load_word-ne2-clause-attempt : goal.returns-then-load_word-ne2-clause-attempt
-returns-then-load_word-ne2-clause-attempt c note s two = c.if-load_word-ne2.true (c.load_word.ensures.word (get_or note.its 2 0)
+pub returns-then-load_word-ne-MARKED_BY_JOIN-clause-attempt : goal.returns-then-load_word-ne-MARKED_BY_JOIN-clause-attempt
+returns-then-load_word-ne-MARKED_BY_JOIN-clause-attempt c note s two = c.if-load_word-ne-MARKED_BY_JOIN.true (c.load_word.ensures.word (get_or note.its 2 0)
     (base_word c.args.space.now.table.shared.key c.args.pass.now.seat.me.0.upper c.args.base 2 note s) ∙ two)
 
 pub overflow_cast-route : goal.overflow_cast-route
@@ -28,7 +28,7 @@ overflow_cast-route c = let s = c.requires.shown in let z = c.args.space.now.tab
     let two = c.load_word.ensures.word (get_or s.0.its 2 0) (base_word z c.args.pass.now.seat.me.0.upper c.args.base 2 s.0 s.1) in
     let owner = c.load_word-route.ensures.word (get_or s.0.its 3 0) (subst (λ (m : MyTree). IsShownWord m.0.upper c.args.base 3 (get_or s.0.its 3 0))
     (sym c.load_word.ensures.frame.still) (base_word z c.args.pass.now.seat.me.0.upper c.args.base 3 s.0 s.1)) in
-    let h = c.load_word.ensures.hung s.0 s.1.noted (mark_owner s.0.its) (mark_number s.0.its) (sym two ∙ c.if-load_word-ne2.false, refl, refl) in
+    let h = c.load_word.ensures.hung s.0 s.1.noted (mark_owner s.0.its) (mark_number s.0.its) (sym two ∙ c.if-load_word-ne-MARKED_BY_JOIN.false, refl, refl) in
     let inside = subst (λ (y : Sizes). mark_owner s.0.its ≤ y.rows) c.requires.reading.own.1 h.1 in
     omega arith
 
@@ -39,7 +39,7 @@ returns-clause-attempt c note s = let z = c.args.space.now.table.shared.key in l
     (sym c.load_word.ensures.frame.still) (base_word z u c.args.base 3 note s)) in
     let number = c.load_word-number.ensures.word (get_or note.its 4 0) (subst (λ (m : MyTree). IsShownWord m.0.upper c.args.base 4 (get_or note.its 4 0))
     (sym (c.load_word-route.ensures.frame.still ∙ c.load_word.ensures.frame.still)) (base_word z u c.args.base 4 note s)) in
-    let marked = sym two ∙ c.if-load_word-ne2.false in
+    let marked = sym two ∙ c.if-load_word-ne-MARKED_BY_JOIN.false in
     let h = c.load_word.ensures.hung note s.noted (mark_owner note.its) (mark_number note.its) (marked, refl, refl) in (
       (marked, sym owner, sym number),
       (

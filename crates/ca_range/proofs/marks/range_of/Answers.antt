@@ -15,8 +15,8 @@ load_word-number-requires-clause-shown c = subst (λ (m : MyTree). (word : ℕ) 
     (sym (c.load_word-owner.ensures.frame.still ∙ c.load_word.ensures.frame.still))
     (some_word c.args.space.now.table.shared.key c.args.pass.now.seat.me.0.upper c.args.base 4 c.requires.shown)
 
-pub returns-then-load_word-ne1-clause-range : goal.returns-then-load_word-ne1-clause-range
-returns-then-load_word-ne1-clause-range c note s one = c.if-load_word-ne1.true (c.load_word.ensures.word (get_or note.its 2 0)
+pub returns-then-load_word-ne-MARKED_BY_RANGE-clause-range : goal.returns-then-load_word-ne-MARKED_BY_RANGE-clause-range
+returns-then-load_word-ne-MARKED_BY_RANGE-clause-range c note s one = c.if-load_word-ne-MARKED_BY_RANGE.true (c.load_word.ensures.word (get_or note.its 2 0)
     (base_word c.args.space.now.table.shared.key c.args.pass.now.seat.me.0.upper c.args.base 2 note s) ∙ one)
 
 pub overflow_cast-owner : goal.overflow_cast-owner
@@ -24,7 +24,7 @@ overflow_cast-owner c = let s = c.requires.shown in let z = c.args.space.now.tab
     let one = c.load_word.ensures.word (get_or s.0.its 2 0) (base_word z c.args.pass.now.seat.me.0.upper c.args.base 2 s.0 s.1) in
     let owner = c.load_word-owner.ensures.word (get_or s.0.its 3 0) (subst (λ (m : MyTree). IsShownWord m.0.upper c.args.base 3 (get_or s.0.its 3 0))
     (sym c.load_word.ensures.frame.still) (base_word z c.args.pass.now.seat.me.0.upper c.args.base 3 s.0 s.1)) in
-    let few = of_range s.0.place s.0.its s.1.is_base.marked (sym one ∙ c.if-load_word-ne1.false) in let hi = few.1 in omega arith
+    let few = of_range s.0.place s.0.its s.1.is_base.marked (sym one ∙ c.if-load_word-ne-MARKED_BY_RANGE.false) in let hi = few.1 in omega arith
 
 pub returns-clause-range : goal.returns-clause-range
 returns-clause-range c note s = let z = c.args.space.now.table.shared.key in let u = c.args.pass.now.seat.me.0.upper in
@@ -33,5 +33,5 @@ returns-clause-range c note s = let z = c.args.space.now.table.shared.key in let
     (sym c.load_word.ensures.frame.still) (base_word z u c.args.base 3 note s)) in
     let number = c.load_word-number.ensures.word (get_or note.its 4 0) (subst (λ (m : MyTree). IsShownWord m.0.upper c.args.base 4 (get_or note.its 4 0))
     (sym (c.load_word-owner.ensures.frame.still ∙ c.load_word.ensures.frame.still)) (base_word z u c.args.base 4 note s)) in
-    let marked = sym one ∙ c.if-load_word-ne1.false in let few = of_range note.place note.its s.is_base.marked marked in
+    let marked = sym one ∙ c.if-load_word-ne-MARKED_BY_RANGE.false in let few = of_range note.place note.its s.is_base.marked marked in
     ((marked, sym owner, sym number), subst (λ (k : ℕ). 0 < k) (sym owner) few.0, subst (λ (k : ℕ). k ≤ 64) (sym owner) few.1)

@@ -1,7 +1,7 @@
 use Rattle.std.proofs.Common.{rules, ℕ, List, ◌≡◌, ◌+◌, ◌*◌, ◌%◌, ◌++◌, min, length, get_or, take, drop, ap, sym, subst, ◌∙◌, arith, length-take, length-drop}
 use Rattle.std.proofs.lemmas.List.{get_or-drop}
 use Rattle.std.specs.Int.{to_be_bytes, w64}
-use Rattle.ca_node.specs.Layout.{key_word}
+use Rattle.ca_node.specs.Layout.{key_word, count_limit}
 use Rattle.ca_node.specs.Row.{bytes_in, count}
 use Rattle.ca_node.specs.Told.{MyTree}
 use Rattle.ca_node.proofs.RouteWords.{first_fixed, key_fixed}
@@ -53,6 +53,6 @@ pub returns-clause-key : goal.returns-clause-key
 returns-clause-key c its shown = let over = c.loop-i-test.false in let bytes : List ℕ = bytes_in (drop key_word its) in
     let short = shown.short in let m = c.min-len.ensures in
     let word = c.load_word.ensures.word (get_or its 0 0) (shown.shown 0 first_fixed) in
-    let first : count its ≡ c.load_word.result % 65536 = ap (λ (n : ℕ). n % 65536) (sym word) in
+    let first : count its ≡ c.load_word.result % count_limit = ap (λ (n : ℕ). n % count_limit) (sym word) in
     let whole : min c.min-len.result (8 * c.loop-i.i) ≡ count its = omega arith in
     c.loop-i.invariant.copied its shown ∙ ap (λ (k : ℕ). take k bytes) whole

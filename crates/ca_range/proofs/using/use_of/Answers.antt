@@ -25,18 +25,18 @@ pub returns-then-not-is_active-clause-used : goal.returns-then-not-is_active-cla
 returns-then-not-is_active-clause-used c = let w = c.watch-state.ensures.watched in
     found_over c.args.space.now c.args.pass.now c.range_of.new.pass c.watch-state.new.pass c.range_of.ensures.frame c.in-Some.range w.0
     c.watch-state.ensures.frame w.2 c.args.cursor.base (λ note s. (c.in-Some.ensures.range note s).0)
-    (λ on. let no : false ≡ true = sym c.if-not-is_active.true ∙ (c.is_active.ensures w.0 w.1).1 on in cc)
+    (λ on. let no : false ≡ true = sym c.if-not-is_active.true ∙ (c.is_active.ensures.active w.0 w.1).1 on in cc)
 
 pub returns-then-range-number-clause-used : goal.returns-then-range-number-clause-used
 returns-then-range-number-clause-used c = let w = c.watch-state.ensures.watched in
-    let on = (c.is_active.ensures w.0 w.1).0 c.if-not-is_active.false in
+    let on = (c.is_active.ensures.active w.0 w.1).0 c.if-not-is_active.false in
     let is = sym c.requires.number ∙ sym (c.number.ensures ∙ (c.watch-state.ensures.frame.number ∙ c.range_of.ensures.frame.number)) in
     found_own c.args.space.now c.args.pass.now c.range_of.new.pass c.watch-state.new.pass c.range_of.ensures.frame c.in-Some.range w.0
     c.watch-state.ensures.frame w.2 c.args.cursor.base (λ note s. (c.in-Some.ensures.range note s).0) on
     (c.if-range-number.true ∙ sym (ap (λ (x : MyTree). x.0.upper.number) c.range_of.ensures.frame.still ∙ is))
 
 pub returns-else-range-number-clause-used : goal.returns-else-range-number-clause-used
-returns-else-range-number-clause-used c = let w = c.watch-state.ensures.watched in let on = (c.is_active.ensures w.0 w.1).0 c.if-not-is_active.false in
+returns-else-range-number-clause-used c = let w = c.watch-state.ensures.watched in let on = (c.is_active.ensures.active w.0 w.1).0 c.if-not-is_active.false in
     let is = sym c.requires.number ∙ sym (c.number.ensures ∙ (c.watch-state.ensures.frame.number ∙ c.range_of.ensures.frame.number)) in
     found_used c.args.space.now c.args.pass.now c.range_of.new.pass c.watch-state.new.pass c.range_of.ensures.frame c.in-Some.range w.0
     c.watch-state.ensures.frame w.2 c.args.cursor.base c.in-Some.ensures.range on
