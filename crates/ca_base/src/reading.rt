@@ -60,7 +60,7 @@ pub(crate) fn item_word(space: &TreeSpace, pass: &mut TreePass, base: u32, place
     load_word(space, pass, base, ITEMS + place)
 }
 
-// Copies an object that the pass was shown, 32 bytes at a time, and the rest eight.
+/// Copies the bytes of an object that the pass was shown in place of those that `into` has, 32 at a time, and the rest eight.
 pub fn copy_object(space: &TreeSpace, pass: &mut TreePass, row: u32, into: &mut Code)
     requires reading { IsReading space.now pass.old }
     requires inside { row ≤ (sizes space.now).rows }

@@ -8,11 +8,13 @@ use ca_model::Spent;
 /// A range: whose it is, and its number.
 #[derive(Clone, Copy)]
 pub struct Range {
+    /// The number of its pass, from 1 to 64.
     pub owner: u32,
+    /// Counted for each pass, one more for each range, up to `LAST_SEQUENCE`.
     pub number: u64,
 }
 
-/// The ranges of other passes that a pass found unfinished since it was pinned: at the place of each pass's number that of one, or none.
+/// The ranges of other passes that a pass found unfinished since it was pinned: at the place of each pass's number, from 1 to 64, that of its range, or none.
 #[derive(Clone, Copy)]
 pub struct Met {
     pub numbers: [Option<u64>; 65],

@@ -40,8 +40,8 @@ pub(crate) enum Step {
     Ended(Helped),
 }
 
-/// Which range of another pass marked the base that the pass was shown last, where that range isn't over. An attempt to join that marked the base is ended:
-/// one that is prepared is given up, and where it is secured it answers what became of carrying it out.
+/// Which range of another pass marked the base that the pass was shown last, where that range isn't over; else none. An attempt to join that marked the base is
+/// ended: one that is prepared is given up, and where it is secured it answers what became of carrying it out (`Err`).
 pub fn range_in_use(
     space: &TreeSpace,
     pass: &mut TreePass,

@@ -17,7 +17,7 @@ pub struct MarkedBase {
     pub range: Range,
 }
 
-/// Which range marked a base that the pass was shown, if one did.
+/// Which range marked a base that the pass was shown; none where no operation marked it, or a join.
 pub fn range_of(space: &TreeSpace, pass: &mut TreePass, base: u32) -> Option<Range>
     requires reading { IsReading space.now pass.old }
     requires shown { (note : Note) × IsBaseShown (sizes space.now) (tree_of pass.old) base note }

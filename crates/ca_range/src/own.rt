@@ -5,6 +5,7 @@ use ca_node::Cursor;
 #[derive(Clone, Copy)]
 pub struct Own {
     pub number: u64,
+    /// The row.
     pub border: u32,
 }
 
@@ -12,6 +13,8 @@ pub struct Own {
 #[derive(Clone, Copy)]
 pub struct Gathered {
     pub own: Own,
+    /// The last base that is marked: the next one is to hang on its right.
     pub left: Cursor,
+    /// How many objects were counted in the bases before it.
     pub counted: u32,
 }

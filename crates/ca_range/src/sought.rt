@@ -8,6 +8,7 @@ use ca_model::{Counter, Edge};
 pub struct Sought<'a, F> {
     pub lo: Edge<'a>,
     pub hi: Edge<'a>,
+    /// How many objects that are counted suffice, or 0 where all are wanted.
     pub want: u32,
     pub counts: &'a F,
 }
@@ -17,13 +18,14 @@ pub struct Sought<'a, F> {
 pub struct Search<'a, F> {
     pub sought: &'a Sought<'a, F>,
     pub tuning: &'a Tuning,
+    /// In turns, as `Spent` counts them.
     pub budget: u32,
 }
 
 /// Bases that have together what one state of the history has, from left to right without a gap.
 #[derive(Clone, Copy)]
 pub struct Run {
-    /// The last of them.
+    /// The row of the last of them.
     pub last: u32,
     /// Whether each of them names the one on its left, and the first one none. Else the last one is the only one.
     pub chained: bool,
