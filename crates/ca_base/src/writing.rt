@@ -7,7 +7,9 @@ ghost use Rattle.ca_base.specs.Writing.{HasSet, HasFilled, HasBytes, HasEight, S
 ghost use Rattle.ca_base.specs.Holding.{HoldsRow};
 ghost use Rattle.ca_rows.specs.Passes.{StillKeepsList, known};
 
-use ca_node::{BASE, CODE, COUNT_LIMIT, ITEMS, OBJECT, PREFIX, PREFIX_LENGTH, TreePass, TreeSpace, top_of};
+use ca_node::{
+    BASE, CODE, COUNT_LIMIT, ITEMS, OBJECT, PREFIX, PREFIX_LENGTH, TreePass, TreeSpace, top_of,
+};
 use ca_rows::ROW_LIMIT;
 
 /// Writes an object row: the first word, and the object's bytes, eight a word, with zeros behind their end to the end of their last word. What stands

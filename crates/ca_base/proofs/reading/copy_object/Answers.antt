@@ -5,7 +5,6 @@ use Rattle.std.specs.List.{flat_map}
 use Rattle.ca_node.specs.Row.{bytes_in, count, code_words}
 use Rattle.ca_node.specs.Told.{MyTree}
 use Rattle.ca_base.specs.Finding.{IsObjectShown}
-use Rattle.ca_base.specs.Fours.{four_of}
 use Rattle.ca_base.proofs.FourWords.{four_more}
 use Rattle.ca_base.proofs.Items.{word_shown, as_shown}
 use Rattle.ca_base.proofs.ObjectBytes.{one_more, code_long}

@@ -1,9 +1,8 @@
-use Rattle.std.proofs.Common.{◌≡◌, ℕ, ◌+◌, List, [], ◌∷◌, get_or, ap, sym, subst, ◌∙◌}
+use Rattle.std.proofs.Common.{ℕ, ◌+◌, List, [], ◌∷◌, get_or, ap, sym, subst, ◌∙◌}
 use Rattle.std.specs.Int.{to_be_bytes, w64}
 use Rattle.ca_node.specs.Row.{code_words}
 use Rattle.ca_node.specs.Told.{MyTree}
 use Rattle.ca_base.specs.Finding.{IsObjectShown}
-use Rattle.ca_base.specs.Objects.{reads_on}
 use Rattle.ca_base.proofs.reading.four_words.Goals as goal
 
 pub word_bytes-second-requires-clause-shown : goal.word_bytes-second-requires-clause-shown
