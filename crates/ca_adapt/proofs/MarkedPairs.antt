@@ -1,5 +1,5 @@
 -- Marks of both bases under a route, one behind the other.
-use Rattle.std.proofs.Common.{◌≡◌, ℕ, suc, ◌+◌, ◌-◌, min, List, ◌∷◌, Result, Ok, Err, sym, refl, ap, ◌∙◌, subst, arith}
+use Rattle.std.proofs.Common.{◌≡◌, ℕ, suc, ◌+◌, min, List, ◌∷◌, Result, Ok, Err, sym, refl, ap, ◌∙◌, subst, arith}
 use Rattle.ca_base.proofs.Spends.{rises_both}
 use Rattle.ca_base.specs.Counting.{losses, IsSpent}
 use Rattle.ca_base.specs.Putting.{stopped}

@@ -21,7 +21,9 @@ ghost use Rattle.ca_rows.specs.Passes.{IsOn, IsReading, OnlyReads, sizes, known,
 use crate::joining::Attempt;
 use ca_base::{Stop, give_back, lose, retire_unlinked, take, write_joined};
 use ca_model::Spent;
-use ca_node::{BASE_FORM, COUNT_LIMIT, Link, TreePass, TreeSpace, Unlinks, load_link, load_word, unlink_route};
+use ca_node::{
+    BASE_FORM, COUNT_LIMIT, Link, TreePass, TreeSpace, Unlinks, load_link, load_word, unlink_route,
+};
 use std::marker::Brand;
 
 // The form of a route, as a number: so it is noted of a row that is kept what it was.

@@ -28,8 +28,8 @@ use crate::splitting::LAST_ATTEMPT;
 use ca_base::{Exchange, Stop, give_back, lose, retire_unlinked, take, write_copy};
 use ca_model::Spent;
 use ca_node::{
-    BASE_FORM, Cursor, JoinState, MARKED_BY_JOIN, Marking, TreePass, TreeSpace, begin_join, load_join, load_word,
-    mark_for_join,
+    BASE_FORM, Cursor, JoinState, MARKED_BY_JOIN, Marking, TreePass, TreeSpace, begin_join,
+    load_join, load_word, mark_for_join,
 };
 use std::marker::Brand;
 

@@ -15,7 +15,8 @@ ghost use Rattle.ca_rows.specs.Passes.{OnlyReads, IsReading, KeepsList, sizes, k
 use crate::adapted::Why;
 use ca_base::items_of;
 use ca_node::{
-    COUNT_LIMIT, Cursor, FORM, Link, MARKED_BY_RANGE, ROUTE, TreePass, TreeSpace, is_active, load_link, load_status, load_word,
+    COUNT_LIMIT, Cursor, FORM, Link, MARKED_BY_RANGE, ROUTE, TreePass, TreeSpace, is_active,
+    load_link, load_status, load_word,
 };
 
 /// A route on whose link a base hangs: its row, the link on which it hangs itself, and its other link.

@@ -1,5 +1,5 @@
 -- What comes of an attempt to join that was secured, and was to be carried out.
-use Rattle.std.proofs.Common.{◌≡◌, ◌⊎◌, ℕ, ◌+◌, ◌*◌, ◌<◌, ◌≤◌, ◌++◌, min, IsTrue, nat_lt, ◌↔◌, Bool, true, false, cond, List, Option, None, Some, sym, refl, ap, ◌∙◌, subst, inl, inr, ⊎_elim, arith}
+use Rattle.std.proofs.Common.{◌≡◌, ℕ, ◌+◌, ◌*◌, ◌<◌, ◌≤◌, ◌++◌, min, IsTrue, nat_lt, ◌↔◌, Bool, true, false, cond, List, Option, None, Some, sym, refl, ap, ◌∙◌, subst, inl, inr, ⊎_elim, arith}
 use Rattle.std.proofs.lemmas.Bool.Decides.{nat_tests}
 use Rattle.ca_adapt.specs.Finishing.{HasFinished, HasTriedNone, IsHungBy, IsSteps}
 use Rattle.ca_adapt.specs.declared.finishing.Finish.{Finish}

@@ -1,5 +1,5 @@
 -- Steps of a snapshot, one after another, and what they come to.
-use Rattle.std.proofs.Common.{◌≡◌, ℕ, ◌<◌, ◌≤◌, ◌++◌, inl, inr, sym, ap, ◌∙◌, subst, ◌⊎◌, ⊎_elim, arith, append_assoc}
+use Rattle.std.proofs.Common.{◌≡◌, ℕ, ◌<◌, ◌≤◌, ◌++◌, inl, inr, sym, ap, ◌∙◌, subst, ⊎_elim, arith, append_assoc}
 use denote.Ref.{Bor}
 use denote.Param.Members.{Shared}
 use Rattle.std.specs.Prelude.{Bool, List}

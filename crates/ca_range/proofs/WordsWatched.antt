@@ -1,5 +1,5 @@
 -- What a pass knows still once it loaded the word of a range.
-use Rattle.std.proofs.Common.{ℕ, [], sym, subst}
+use Rattle.std.proofs.Common.{ℕ, sym, subst}
 use Rattle.ca_node.specs.Links.{IsIn}
 use Rattle.ca_node.specs.Told.{MyTree, HasWatched}
 use Rattle.ca_node.specs.TreeView.{Border}

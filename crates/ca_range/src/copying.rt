@@ -33,6 +33,13 @@ pub(crate) fn write_copy(space: &TreeSpace, pass: &mut TreePass, row: u32, base:
     let range = mark.range;
     let owner = u64::from(range.owner);
     let (back, bound) = (u64::from(mark.back), u64::from(mark.bound));
-    let words = [mark.statistic, MARKED_BY_RANGE, owner, range.number, back, bound];
+    let words = [
+        mark.statistic,
+        MARKED_BY_RANGE,
+        owner,
+        range.number,
+        back,
+        bound,
+    ];
     ca_base::write_copy(space, pass, row, base, words);
 }

@@ -26,7 +26,7 @@ pub returns-then-not-is_active-clause-ahead : goal.returns-then-not-is_active-cl
 returns-then-not-is_active-clause-ahead c = let w = c.watch.ensures.watched in let at = c.requires.at in
     let m = c.args.pass.now.seat.me in let m' = c.watch.new.pass.seat.me in let range = c.args.range in
     let off : ¬ (active_of w.0 ≡ Some range.number) =
-        λ on. let no : false ≡ true = sym c.if-not-is_active.true ∙ (c.is_active.ensures.active w.0 w.1).1 on in cc in
+    λ on. let no : false ≡ true = sym c.if-not-is_active.true ∙ (c.is_active.ensures.active w.0 w.1).1 on in cc in
     let notes = ap (λ (x : MyTree). first_note x.0.upper.notes) w.2.now in record {
       over = over_now range m m' w.0 (first_note m.0.upper.notes) w.2 at.at.shown.noted at.marked off;
       counted = over_counted range m m' w.0 w.2 c.requires.other.2 off;
