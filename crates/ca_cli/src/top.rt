@@ -190,6 +190,9 @@ pub fn run<R: Threads + Wait + Sync, F: Shelf, S: Sink, G: Gate + Sync>(
     // The fetches are told, where they were, unless memory was wanted.
     ensures told { ¬ (result ≡ Status.NoMemory) → IsSome (F.fetches shelf.old) → IsSome (F.fetches shelf.new) }
 
+    // With any other status than that of a failed output the sink had no fault.
+    ensures sink_steady { ¬ (result ≡ Status.SinkFault) → S.faults sink.new ≡ S.faults sink.old }
+
     ensures shelf_later { F.faults shelf.old ≤ F.faults shelf.new }
     ensures sink_later { S.faults sink.old ≤ S.faults sink.new }
 {

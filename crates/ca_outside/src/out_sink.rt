@@ -49,6 +49,7 @@ impl<W: Write + Drop> Sink for OutSink<W> {
         requires { 0 < length bytes.now }
         ensures count { IfOk result (λ n. (0 < n) × (n ≤ length bytes.now)) }
         ensures failed { OnErr result (HasRisen self.old.faults self.new.faults) }
+        ensures steady { IfOk result (λ _. self.new.faults ≡ self.old.faults) }
         ensures later { self.old.faults ≤ self.new.faults }
 
         ensures written { IfOk result (λ n. Appends self.old.written self.new.written (take n bytes.now)) }

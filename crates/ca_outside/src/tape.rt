@@ -65,6 +65,7 @@ impl Sink for Tape {
         requires { 0 < length bytes.now }
         ensures count { IfOk result (λ n. (0 < n) × (n ≤ length bytes.now) × Grows (Some self.old.taken) (Some self.new.taken) (take n bytes.now)) }
         ensures failed { OnErr result (Grows (Some self.old.taken) (Some self.new.taken) [] × HasRisen self.old.faults self.new.faults) }
+        ensures steady { IfOk result (λ _. self.new.faults ≡ self.old.faults) }
         ensures later { self.old.faults ≤ self.new.faults }
 
         ensures fails { IsErr result ↔ IsTrue (write_fails self.old) }

@@ -1,4 +1,4 @@
-use Rattle.std.proofs.Common.{arith, length-drop, length, drop, ◌≤◌, ◌-◌, take_all}
+use Rattle.std.proofs.Common.{arith, length-drop, length, drop, ◌≤◌, ◌-◌, ◌∙◌, take_all}
 use Rattle.ca_outside.proofs.Growth.{grows_by}
 use Rattle.ca_outside.proofs.sink.write_out.Goals as goal
 
@@ -9,5 +9,5 @@ loop-at-preserved g c =
     record {
       in_range = omega (arith, length-drop c.loop-at.at c.args.bytes.now, c.in_ok-at.ensures.count.1);
       taken = grows_by _ _ _ _ _ _ c.loop-at.invariant.taken (rw (take_all (length c.args.bytes.now - c.loop-at.at) rest whole) at c.in_ok-at.ensures.count.2);
-      later = omega (arith, c.write.ensures.later);
+      steady = c.in_ok-at.ensures.steady ∙ c.loop-at.invariant.steady;
     }
