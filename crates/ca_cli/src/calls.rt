@@ -1,9 +1,11 @@
 //! Tests of whole calls, on files and an output in memory.
 use crate::status::Status;
 use crate::top::run;
-use ca_client::{OpenGate, Rendezvous};
+use ca_client::{Gate, OpenGate, Rendezvous};
+use ca_cmd::Answer;
 use ca_outside::{Drawer, SureDrawer, SureTape, Tape};
 use std::alloc::{AllocError, Global};
+use std::sync::atomic::{AtomicU64, Ordering};
 use std::test::Fail;
 
 fn words_of(alloc: Global, words: &[&str]) -> Result<Vec<String>, AllocError> {
@@ -81,6 +83,56 @@ fn two_clients_meet(rt: HostRuntime) -> Result<(), Fail> {
         assert_eq!(rt; gate.told(client, 3), 1);
         assert_eq!(rt; gate.told(client, 4), 3);
     }
+    Ok(())
+}
+
+// Counts the lines of which it is told: before anybody plays, before each line, and behind each.
+#[derive(Drop)]
+struct Counting {
+    in_all: AtomicU64,
+    before: AtomicU64,
+    behind: AtomicU64,
+}
+
+impl Gate for Counting {
+    fn begin(&self, lines: u64) {
+        self.in_all.fetch_add(lines, Ordering::SeqCst);
+    }
+
+    fn before(&self, _client: u32, _line: u32) {
+        self.before.fetch_add(1, Ordering::SeqCst);
+    }
+
+    fn after(&self, _client: u32, _line: u32, _answer: &Answer) {
+        self.behind.fetch_add(1, Ordering::SeqCst);
+    }
+}
+
+#[test]
+fn a_gate_is_told_of_each_line_once(rt: HostRuntime) -> Result<(), Fail> {
+    let alloc = rt.alloc();
+    let words = words_of(alloc, SMALL.as_slice())?;
+    let mut shelf = SureDrawer::new(files_of(alloc, ["a", "b"].as_slice(), MEETING)?);
+    let mut sink = SureTape::new(alloc, 1_000)?;
+    let gate = Counting {
+        in_all: AtomicU64::new(0),
+        before: AtomicU64::new(0),
+        behind: AtomicU64::new(0),
+    };
+    let mut ran = None;
+    let status = run(
+        &rt,
+        alloc,
+        words.as_slice(),
+        &mut shelf,
+        &mut sink,
+        &gate,
+        &mut ran,
+    );
+    assert_eq!(rt; status, Status::Done);
+    assert_eq!(rt; gate.in_all.load(Ordering::SeqCst), 8);
+    assert_eq!(rt; gate.before.load(Ordering::SeqCst), 8);
+    assert_eq!(rt; gate.behind.load(Ordering::SeqCst), 8);
     Ok(())
 }
 

@@ -1,8 +1,9 @@
 -- What the play of several clients comes to.
-use Rattle.std.specs.Prelude.{◌≡◌, ℕ, ◌<◌, List, length, None, Some, slice_index_or}
+use Rattle.std.specs.Prelude.{◌≡◌, ℕ, ◌<◌, min, List, length, sum_by, None, Some, slice_index_or}
 use Rattle.ca_cmd.specs.File.{commands_in}
 use Rattle.ca_cmd.specs.Lines.{numbered}
 use Rattle.ca_cmd.specs.declared.answers.Answers.{Answers}
+use Rattle.ca_cmd.specs.declared.line.Line.{Line}
 use Rattle.ca_model.specs.declared.outcome.Changed.{Changed}
 use Rattle.ca_model.specs.declared.outcome.Outcome.{Outcome}
 use Rattle.ca_model.specs.Known.{Known}
@@ -10,6 +11,10 @@ use Rattle.ca_model.specs.Promises.{Promises}
 use Rattle.ca_client.specs.Played.{HasStopped}
 use Rattle.ca_client.specs.Told.{HasToldBefore}
 use Rattle.ca_client.specs.declared.clients.Client.{Client}
+
+-- how many lines these files have together, up to the last number that 64 bits hold
+abbrev pub lines_in : List (List Line) → ℕ
+lines_in files = min 18446744073709551615 (sum_by (λ lines. length lines) files)
 
 -- It is the same client with the same lines and answers, and nothing changed that is known of its store.
 pub record IsTended {S W : Type 0} (knows : S → Known) (a b : Client S W) : Type 0 where

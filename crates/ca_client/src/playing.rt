@@ -1,5 +1,5 @@
 //! A client plays its lines. One that others kept from being done is tried again, with a greater budget or after a wait.
-ghost use Rattle.std.specs.Prelude.{◌≡◌, ◌≤◌, ◌<◌, ◌⊎◌, IfOk, OnErr, IsSome, None, MatchBool};
+ghost use Rattle.std.specs.Prelude.{◌≡◌, ◌*◌, ◌≤◌, ◌<◌, ◌⊎◌, min, IfOk, OnErr, IsSome, None, MatchBool};
 ghost use Rattle.ca_ets.specs.Command.{IsContinuation, continuation_of};
 ghost use Rattle.ca_cmd.specs.Answers.{answer_of};
 ghost use Rattle.ca_cmd.specs.File.{commands_in};
@@ -38,10 +38,17 @@ fn is_worth_a_wait(why: FullCause, waits: u32) -> bool
 // How often other threads are let run in one wait at most.
 const MOST_YIELDS: u32 = 2_000;
 
-/// Lets other threads run: in the k-th wait k * k times, up to the most. Where other programs have taken all processors, a yield often comes back before
-/// the thread whose pass lags ran again, and a thousand waits of a few yields each are over while it stands still. So waits grow fast.
-pub(crate) fn pause(waits: u32) {
-    for _ in 0..waits.saturating_mul(waits).min(MOST_YIELDS) {
+// How often other threads are let run in the wait of this number, counted from 1. Where other programs have taken all processors, a yield often comes back
+// before the thread whose pass lags ran again, and a thousand waits of a few yields each are over while it stands still. So waits grow fast.
+fn yields_in(wait: u32) -> u32
+    ensures { result ≡ min 2000 (wait * wait) }
+{
+    wait.saturating_mul(wait).min(MOST_YIELDS)
+}
+
+/// Lets other threads run, in the wait of this number, counted from 1.
+pub(crate) fn pause(wait: u32) {
+    for _ in 0..yields_in(wait) {
         yield_now();
     }
 }

@@ -43,7 +43,8 @@ impl Visitor {
 }
 
 /// A gate at which client 1 and client 2 meet: the first line of each is held until both have come to theirs, and the second line of each until the
-/// first one of the other was answered. It notes what the first four lines of each were answered. Other clients and other lines pass.
+/// first one of the other was answered. It notes what the first four lines of each were answered. Other clients and other lines pass. A client comes to a
+/// line once: where one comes to its first or its second line again, they have not met.
 #[derive(Drop)]
 pub struct Rendezvous {
     one: Visitor,
@@ -61,7 +62,7 @@ impl Rendezvous {
         }
     }
 
-    /// Whether both clients came to their first two lines, and none gave up waiting for the other.
+    /// Whether both clients came to their first two lines, each once, and none gave up waiting for the other.
     pub fn met(&self) -> bool {
         let mut met = !self.gave_up.load(Ordering::SeqCst);
         for visitor in [&self.one, &self.two] {
@@ -91,6 +92,13 @@ impl Rendezvous {
         }
     }
 
+    // Notes that a client has come. One that comes twice has not met the other one.
+    fn come(&self, came: &AtomicBool) {
+        if came.swap(true, Ordering::SeqCst) {
+            self.gave_up.store(true, Ordering::SeqCst);
+        }
+    }
+
     // Waits until this holds, or gives up.
     fn wait_for(&self, holds: &AtomicBool) {
         for look in 0..LOOKS {
@@ -114,11 +122,11 @@ impl Gate for Rendezvous {
         };
         match line {
             1 => {
-                own.came.store(true, Ordering::SeqCst);
+                self.come(&own.came);
                 self.wait_for(&other.came);
             }
             2 => {
-                own.came_again.store(true, Ordering::SeqCst);
+                self.come(&own.came_again);
                 self.wait_for(&other.answered);
             }
             _ => {}

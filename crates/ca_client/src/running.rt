@@ -1,6 +1,7 @@
 //! Clients that share a tree: from their lines to their answers and the final table.
 ghost use Rattle.std.specs.Prelude.{◌≡◌, ℕ, ◌≤◌, IfOk, IfSome, OnOk, length, map, vec_len};
 ghost use Rattle.ca_cmd.specs.Lines.{numbered};
+ghost use Rattle.ca_client.specs.Clients.{lines_in};
 ghost use Rattle.ca_client.specs.Ran.{HasRun, IsPastOf};
 ghost use Rattle.ca_node.specs.Tallied.{IsTallied};
 ghost use Rattle.ca_node.specs.TreePasses.{tree_of};
@@ -143,7 +144,9 @@ fn parts_of(
 }
 
 // How many lines all files have together, up to the last number that 64 bits hold.
-fn lines_of(files: &[Lines]) -> u64 {
+fn lines_of(files: &[Lines]) -> u64
+    ensures { result ≡ lines_in files.now }
+{
     let mut lines = 0_u64;
     for file in files {
         lines = lines.saturating_add(file.len() as u64);

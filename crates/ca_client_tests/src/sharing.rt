@@ -4,7 +4,7 @@ ghost use Rattle.std.specs.Prelude.{◌≡◌, IfOk};
 use crate::files::{lines_of, text_of};
 use ca_adapt::Tuning;
 use ca_client::{Gate, OpenGate, Ran, Rendezvous, run_clients};
-use ca_cmd::{show_end, show_object, show_start};
+use ca_cmd::{Answer, show_end, show_object, show_start};
 use ca_replace::Tree;
 use ca_rows::Starts;
 use ca_text::put;
@@ -112,6 +112,40 @@ fn two_clients_that_meet_share_one_table(rt: HostRuntime) -> Result<(), Fail> {
     assert_eq!(rt; first, 1);
     let table = table_of(alloc, &ran)?;
     assert_eq!(rt; table.as_slice(), b"table\n{1}.\n{2}.\nend 2\n".as_slice());
+    Ok(())
+}
+
+// A rendezvous to which each client comes twice with the line of this number.
+#[derive(Drop)]
+struct Twice {
+    gate: Rendezvous,
+    line: u32,
+}
+
+impl Gate for Twice {
+    fn before(&self, client: u32, line: u32) {
+        self.gate.before(client, line);
+        if line == self.line {
+            self.gate.before(client, line);
+        }
+    }
+
+    fn after(&self, client: u32, line: u32, answer: &Answer) {
+        self.gate.after(client, line, answer);
+    }
+}
+
+#[test]
+fn who_comes_to_a_gate_twice_does_not_meet(rt: HostRuntime) -> Result<(), Fail> {
+    for line in [1, 2, 3] {
+        let gate = Twice {
+            gate: Rendezvous::new(),
+            line,
+        };
+        let ran = ran_of(&rt, rt.alloc(), 0, &[MEETING, MEETING], &gate)?;
+        assert_eq!(rt; ran.answers.len(), 2);
+        assert_eq!(rt; gate.gate.met(), line == 3);
+    }
     Ok(())
 }
 
