@@ -1,7 +1,7 @@
 // A library that is loaded before the C library, and lets calls of it fail that the program makes, as its environment says:
 //   FAULT        which calls: memory, read, write or thread
 //   FAULT_AT     the first one that fails, counted from 1; 0: none
-//   FAULT_MODE   once: that one alone; always: it and each one behind it; short: it gives or takes one byte
+//   FAULT_MODE   once: that one alone; always: it and each one behind it; short: it gives or takes one byte; interrupted: it says that a signal came
 //   FAULT_COUNTS a file for how many calls of each kind there were, in that order; without it none is written
 #define _GNU_SOURCE
 #include <dlfcn.h>
@@ -16,9 +16,10 @@
 #include <unistd.h>
 
 enum kind { MEMORY, READ, WRITE, THREAD, KINDS, NONE = KINDS };
-enum mode { ONCE, ALWAYS, SHORT };
+enum mode { ONCE, ALWAYS, SHORT, INTERRUPTED };
 
 static const char *const names[] = {"memory", "read", "write", "thread"};
+static const char *const modes[] = {"once", "always", "short", "interrupted"};
 static atomic_long calls[KINDS];
 static enum kind chosen = NONE;
 static enum mode mode;
@@ -33,7 +34,8 @@ void *__libc_memalign(size_t, size_t);
 __attribute__((constructor)) static void begin(void) {
   const char *at = getenv("FAULT_AT"), *how = getenv("FAULT_MODE"), *what = getenv("FAULT");
   first = at ? atol(at) : 0;
-  mode = how && !strcmp(how, "always") ? ALWAYS : how && !strcmp(how, "short") ? SHORT : ONCE;
+  for (int each = ONCE; each <= INTERRUPTED; each++)
+    if (how && !strcmp(how, modes[each])) mode = each;
   for (int kind = 0; kind < KINDS; kind++) {
     calls[kind] = 0;
     if (what && !strcmp(what, names[kind])) chosen = kind;
@@ -72,7 +74,7 @@ void *aligned_alloc(size_t align, size_t size) { return is_faulty(MEMORY) ? refu
 
 ssize_t read(int from, void *into, size_t size) {
   if (is_faulty(READ)) {
-    if (mode != SHORT) return errno = EIO, -1;
+    if (mode != SHORT) return errno = mode == INTERRUPTED ? EINTR : EIO, -1;
     size = size ? 1 : 0;
   }
   return syscall(SYS_read, from, into, size);

@@ -2,14 +2,17 @@
 
 A read whose answer is right now is done at once: each merge that does it later could as well do it now. For each key there is a search of its own,
 over the commands that speak of the key or whose answers tell of it; where that can't go on, no merge of all commands can. What was found to lead
-nowhere isn't tried again."""
+nowhere isn't tried again. A search that has looked at many states is begun anew with the clients in another order, which may lead past what held it up."""
+import random
+
 from table import END, is_told
 from terms import Reader, items_of, text_of
 
 READS = {"lookup", "member", "first", "last", "next", "prev", "select", "select_range", "batch", "more"}
 OF_ONE_KEY = {"lookup", "member", "delete", "take", "update_counter", "update_element"}
 ALL = Reader("[{'_',[],['$_']}]").term()
-MOST_STATES = 400_000
+MOST_STATES = 400_000  # how many states are looked at in one order of the clients, or of one key
+ORDERS = 12  # in how many orders of the clients a merge is looked for
 ABSENT, PRESENT = "", None
 
 
@@ -142,6 +145,7 @@ class Search:
         """The clients' lines, and the texts of the objects of the last table."""
         self.clients = [[line for line in client if not line.said.startswith("refused ")] for client in clients]
         self.objects, self.dead, self.order = objects, set(), []
+        self.first, self.most = list(range(len(clients))), 0  # which client is tried first, and how many states may lead nowhere
         lines = [line for client in self.clients for line in client]
         keys = sorted({key_of(line.command) for line in lines} - {None})
         tells = {line: told(line, keys) if keys else {} for line in lines}
@@ -152,14 +156,22 @@ class Search:
     def merge(self):
         """The numbers of the clients, counted from 0, in an order that explains the run; None where there is none."""
         begin = [0] * len(self.clients)
-        found = all(part.goes_on(begin, ()) for part in self.parts.values()) and self.goes_on(begin, [None] * len(self.clients), ())
-        return self.order if found else None
+        if not all(part.goes_on(begin, ()) for part in self.parts.values()):
+            return None
+        chance = random.Random(0)
+        for _ in range(ORDERS):
+            self.order, self.most = [], len(self.dead) + MOST_STATES
+            try:
+                return self.order if self.goes_on(list(begin), [None] * len(self.clients), ()) else None
+            except TooLong:
+                chance.shuffle(self.first)
+        raise TooLong
 
     def goes_on(self, places, continuations, table):
         begun = len(self.order)
         for number in range(len(self.clients)):
             self.settle(number, places, continuations, table)
-        left = [number for number, client in enumerate(self.clients) if places[number] < len(client)]
+        left = [number for number in self.first if places[number] < len(self.clients[number])]
         if not left and [row.text for row in table] == self.objects:
             return True
         state = tuple(places), tuple(continuations), table
@@ -167,7 +179,7 @@ class Search:
             if any(self.tries(number, places, continuations, table) for number in left):
                 return True
             self.dead.add(state)
-        if len(self.dead) > MOST_STATES:
+        if len(self.dead) > self.most:
             raise TooLong
         del self.order[begun:]
         return False
