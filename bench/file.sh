@@ -5,8 +5,8 @@
 set -eu
 cd "$(dirname "${BASH_SOURCE[0]}")/.."
 bytes=${1:-16777216} runs=${2:-3}
-if ! [ "$(cat .built/sum 2>/dev/null)" = "$(tools/sources-sum)" ]; then
-  echo "bench/file.sh: run ./build first" >&2
+if ! [ -x .built/ca ] || [ "$(cat .built/ca.sum 2>/dev/null)" != "$(tools/sources-sum)" ]; then
+  echo "bench/file.sh: there is no proved program of the sources as they are (.built/ca): run ./build first" >&2
   exit 1
 fi
 out=$(mktemp -d)

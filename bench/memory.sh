@@ -1,13 +1,16 @@
 #!/usr/bin/env bash
 # Measures how much memory the proved program takes for one short file with long answers: an object of some 1,300 bytes as text,
-# looked up 50,000 times, 66 MB of output. It prints the most memory that was in use at once. Run ./build first.
+# looked up 50,000 times, 66 MB of output. It prints the most memory that was in use at once. Run ./build first, or name another program.
 #   bench/memory.sh [LINES [PROGRAM]]
 set -eu
 cd "$(dirname "${BASH_SOURCE[0]}")/.."
-lines=${1:-50000} program=${2:-.built/ca}
-if [ "$program" = .built/ca ] && ! [ "$(cat .built/sum 2>/dev/null)" = "$(tools/sources-sum)" ]; then
-  echo "bench/memory.sh: run ./build first" >&2
-  exit 1
+lines=${1:-50000} program=${2:-}
+if [ -z "$program" ]; then
+  program=.built/ca
+  if ! [ -x "$program" ] || [ "$(cat "$program.sum" 2>/dev/null)" != "$(tools/sources-sum)" ]; then
+    echo "bench/memory.sh: there is no proved program of the sources as they are ($program): run ./build first, or name a program" >&2
+    exit 1
+  fi
 fi
 out=$(mktemp -d)
 trap 'rm -rf "$out"' EXIT
