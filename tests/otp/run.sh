@@ -1,6 +1,6 @@
 #!/bin/sh
 # Compares with a real Erlang: the order of random terms, by the terms and by the bytes of their codes; what is read of term texts; what random
-# match specifications choose; the replies to random command files; and the summaries of lines that are made from a seed.
+# match specifications choose; the replies to random command files, and to examples/calls.ca; and the summaries of lines that are made from a seed.
 # KIT is the kit's folder, CA the program (./ca). Where there is no Erlang or no rustc it says so and passes.
 set -eu
 cd "$(dirname "$0")/../.."
@@ -34,6 +34,9 @@ for file in "$OUT"/calls/*; do
     "$CA" run "$file" | cmp - "$file.stdout"
 done
 echo "${CALLS:-300} command files: as a real ets"
+escript tests/otp/example.escript | cmp - tests/calls.stdout
+"$CA" run examples/calls.ca | cmp - tests/calls.stdout
+echo "examples/calls.ca: as a real ets"
 for numbers in "1 1 4" "7 4 2000" "2147483647 64 500"; do
     # shellcheck disable=SC2086
     set -- $numbers
