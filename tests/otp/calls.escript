@@ -2,8 +2,9 @@
 %% Command files of all calls, and what a real `ets` table of the type `ordered_set` answers.
 %%   calls.escript COUNT SEED FOLDER   writes so many command files, 1, 2 and so on, into FOLDER, and beside each, as N.stdout, what a program must print.
 %% The replies are those of `ets` itself. What is this project's own is told from what `ets` answers: the error `range`, where a value has more than 64
-%% bits; that the other arguments are checked before the key is looked for; `select_range`, which is a `select` of a table of the objects between the keys;
-%% and `batch` and `more`, which are `select` with a limit and of the continuation that it gave.
+%% bits; that the other arguments are checked before the key is looked for; that `insert` and `insert_new` take one object, where those of `ets` take a list
+%% of them, too; `select_range`, which is a `select` of a table of the objects between the keys; and `batch` and `more`, which are `select` with a limit and
+%% of the continuation that it gave.
 -mode(compile).
 
 main([Count, Seed, Folder]) ->
@@ -79,11 +80,11 @@ body(Variables) ->
 
 object() ->
     case rand:uniform(20) of
-        1 -> one_of([a, 7, {}, <<1>>]);
+        1 -> one_of([a, 7, {}, <<1>>, [], [a], [{1, a}], [{1, a}, {[1], b}], [{1, a}, 7], [{1, a} | b]]);
         _ -> list_to_tuple([key() | [value() || _ <- lists:seq(1, rand:uniform(5) - 1)]])
     end.
 
-key() -> one_of([0, 1, -1, 255, 256, a, b, 'B c', {}, {1}, {1, 2}, {a}, [], [1], [1, 2], [1 | 2], <<>>, <<0>>, <<"ab">>, 9223372036854775807]).
+key() -> one_of([0, 1, -1, 255, 256, a, b, 'B c', {}, {1}, {1, 2}, {a}, [], [1], [1, 2], [1 | 2], [a, {1}], [[]], <<>>, <<0>>, <<"ab">>, 9223372036854775807]).
 
 value() ->
     case rand:uniform(3) of
@@ -142,6 +143,7 @@ batch(Continuation, Limit, Select) ->
     catch error:badarg -> {{error, badarg}, Continuation}
     end.
 
+answer(_, {Insert, List}) when is_list(List), Insert =:= insert; is_list(List), Insert =:= insert_new -> {error, badarg};
 answer(Table, {update_counter, Key, Operations}) -> counted(Table, Key, Operations, are_operations(Operations));
 answer(Table, {update_element, Key, Element}) -> replaced(Table, Key, Element, is_element(Element));
 answer(Table, {take, Key}) -> ets:take(Table, Key);
