@@ -59,7 +59,7 @@ perf script -i "$out/perf" -F time,ip,sym 2>/dev/null | awk 'BEGIN { RS = ""; ph
     time = $1 + 0
     if (NR == 1) last = start = time
     if (phase == 1 && $3 ~ /^ca_text::read|^ca_cmd::command/) phase = 2
-    if (phase == 2 && $3 ~ /^ca_ets::table|^ca_term::(copy|length|order)|^ca_cmd::(output|answer)|^ca_text::print/) phase = 3
+    if (phase == 2 && $3 ~ /^ca_(client|table|replace|range|base|rows)::|^ca_cmd::(output|answer)|^ca_text::print/) phase = 3
     if (phase >= 3 && /ksys_write|vfs_write/) phase = 4
     else if (phase == 4) phase = 5
     spent[phase] += time - last
