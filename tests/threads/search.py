@@ -2,7 +2,8 @@
 
 A read whose answer is right now is done at once: each merge that does it later could as well do it now. For each key there is a search of its own,
 over the commands that speak of the key or whose answers tell of it; where that can't go on, no merge of all commands can. What was found to lead
-nowhere isn't tried again. A search that has looked at many states is begun anew with the clients in another order, which may lead past what held it up."""
+nowhere isn't tried again. A search that has looked at many states is begun anew with the clients in another order, which may lead past what held it up; one
+of a key is given up then, and the merge is looked for without it."""
 import random
 
 from table import END, is_told
@@ -11,8 +12,8 @@ from terms import Reader, items_of, text_of
 READS = {"lookup", "member", "first", "last", "next", "prev", "select", "select_range", "batch", "more"}
 OF_ONE_KEY = {"lookup", "member", "delete", "take", "update_counter", "update_element"}
 ALL = Reader("[{'_',[],['$_']}]").term()
-MOST_STATES = 400_000  # how many states are looked at in one order of the clients, or of one key
-ORDERS = 12  # in how many orders of the clients a merge is looked for
+MOST_STATES = 400_000  # how many states are looked at in one order of the clients
+ORDERS, ORDERS_OF_KEY = 12, 3  # in how many orders of the clients a merge is looked for, of all commands and of those of one key
 ABSENT, PRESENT = "", None
 
 
@@ -97,6 +98,7 @@ class Part:
     def __init__(self, key, clients, tells, text):
         self.key, self.text, self.known = key, text, {}
         self.steps, self.places = [], []
+        self.first, self.most, self.chance = list(range(len(clients))), MOST_STATES, random.Random(0)
         for lines in clients:
             steps, places = [], [0]
             for line in lines:
@@ -109,15 +111,21 @@ class Part:
             self.places.append(places)
 
     def goes_on(self, places, table):
-        """Whether what is left of the key's part has a merge, where the clients are at these places among all their commands."""
+        """Whether what is left of the key's part may have a merge, where the clients are at these places among all their commands."""
         row = next((row for row in table if row.key == self.key), None)
-        return self.ends(tuple(mine[place] for mine, place in zip(self.places, places)), row)
+        while self.most <= ORDERS_OF_KEY * MOST_STATES:
+            try:
+                return self.ends(tuple(mine[place] for mine, place in zip(self.places, places)), row)
+            except TooLong:
+                self.most += MOST_STATES
+                self.chance.shuffle(self.first)
+        return True
 
     def ends(self, places, row):
         """The same, where the clients are at these places in the part."""
         known = self.known.get((places, row))
         if known is None:
-            if len(self.known) > MOST_STATES:
+            if len(self.known) > self.most:
                 raise TooLong
             known = self.known[places, row] = self.tries(places, row)
         return known
@@ -127,7 +135,7 @@ class Part:
         for number, steps in enumerate(self.steps):
             while places[number] < len(steps) and steps[places[number]][0] and steps[places[number]][1](row)[0]:
                 places[number] += 1
-        left = [number for number, steps in enumerate(self.steps) if places[number] < len(steps)]
+        left = [number for number in self.first if places[number] < len(self.steps[number])]
         if not left:
             return (row.text if row else ABSENT) == self.text
         for number in left:
